@@ -1,0 +1,86 @@
+-- Bad values, refusal 5: 01, 'a code point outside 0..D7FF and E000..10FFFF; denominator 0; radix below 2; in base-64 Blobs,
+-- a `=` with a base-64 character other than `=` anywhere later in the literal'. Each is a property of a literal's bytes, from
+-- place i to place j. Assumes nothing.
+use mathlib.Core.Path.{_≡_}
+use mathlib.Core.Logic.{_⊎_}
+use mathlib.Core.List.{List, [], _∷_}
+use Prim.Native.Nat.{ℕ, _≤_, _<_}
+use Rattle.rules.specs.Rule.{Rule, _then_, _or_, many, opt, lit, Takes, Among}
+use Rattle.lexicon.specs.Bytes.{base64}
+use Rattle.lexicon.specs.Space.{sp}
+use Rattle.lexicon.specs.Literals.{integer, nonsigned, significand, spaced, power, unescaped, escape, segment}
+use Rattle.lexicon.specs.Values.{Digits, Number, CodeOf}
+
+-- a number that is a code point
+abbrev pub Scalar : ℕ → Type 0
+Scalar v = (v ≤ 0xD7FF) ⊎ ((0xE000 ≤ v) × (v ≤ 0x10FFFF))
+
+-- a byte other than `=`
+pub data Other : List ℕ → Type 0 where
+  now : {d : ℕ} {ds : List ℕ} → (d ≡ 0x3D → ⊥) → Other (d ∷ ds)
+  later : {d : ℕ} {ds : List ℕ} → Other ds → Other (d ∷ ds)
+
+-- a `=`, and anywhere later another byte
+pub data Misplaced : List ℕ → Type 0 where
+  now : {ds : List ℕ} → Other ds → Misplaced (0x3D ∷ ds)
+  later : {d : ℕ} {ds : List ℕ} → Misplaced ds → Misplaced (d ∷ ds)
+
+module _ (text : List ℕ) where
+  -- ---- Text
+
+  pub record BadCode (i j : ℕ) : Type 0 where
+    pub number : ℕ
+    pub code : CodeOf text i j number
+    pub bad : Scalar number → ⊥
+
+  -- a code point in angle brackets, the escape from i to j
+  pub record BadEscape (i j : ℕ) : Type 0 where
+    pub start : ℕ
+    pub end : ℕ
+    pub before : Takes text (lit "\\<") i start
+    pub code : BadCode start end
+    pub behind : Takes text (lit ">") end j
+
+  pub record BadSegment (i j : ℕ) : Type 0 where
+    pub start : ℕ
+    pub end : ℕ
+    pub before : Takes text (lit "\"\\") i start
+    pub content : Among text (unescaped or escape) BadEscape start end
+    pub behind : Takes text (lit "\"") end j
+
+  -- a further segment, with what stands before it
+  pub record BadFurther (i j : ℕ) : Type 0 where
+    pub start : ℕ
+    pub before : Takes text (opt sp) i start
+    pub bad : BadSegment start j
+
+  pub data BadQuoted : ℕ → ℕ → Type 0 where
+    inFirst : {i m j : ℕ} → BadSegment i m → Takes text (many (opt sp then segment)) m j → BadQuoted i j
+    inFurther : {i m j : ℕ} → Takes text segment i m → Among text (opt sp then segment) BadFurther m j → BadQuoted i j
+
+  -- ---- Fraction
+
+  pub record ZeroDenominator (i j : ℕ) : Type 0 where
+    pub start : ℕ
+    pub end : ℕ
+    pub before : Takes text (integer then spaced "/") i start
+    pub zero : Number text start end 0
+    pub behind : Takes text (opt power) end j
+
+  pub record SmallRadix (i j : ℕ) : Type 0 where
+    pub start : ℕ
+    pub end : ℕ
+    pub before : Takes text (significand then spaced "*") i start
+    pub radix : ℕ
+    pub number : Number text start end radix
+    pub small : radix < 2
+    pub behind : Takes text (spaced "^" then integer) end j
+
+  -- ---- Blob
+
+  pub record BadPadding (i j : ℕ) : Type 0 where
+    pub start : ℕ
+    pub before : Takes text (lit "0xy" then opt sp) i start
+    pub bytes : List ℕ
+    pub digits-are : Digits text 4 base64 start j bytes
+    pub misplaced : Misplaced bytes

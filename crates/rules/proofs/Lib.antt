@@ -1,0 +1,6 @@
+-- The laws of the vocabulary.
+pub mod Bools
+pub mod Classes
+pub mod Chains
+pub mod Matches
+pub mod Ways

@@ -1,0 +1,36 @@
+-- First laws of matching. Assumes nothing.
+use mathlib.Core.Path.{_≡_}
+use mathlib.Core.List.{List}
+use Prim.Native.Nat.{ℕ, _+_, _≤_, _<_}
+use native.Mathlib.Omega.{arith}
+use lib.ListN.{length, getD}
+use Rattle.rules.specs.Class.{Class}
+use Rattle.rules.specs.Rule.{Rule, one, Takes, nothing, byte, both, left, right, stop, more, At}
+
+module _ {text : List ℕ} where
+  -- a match goes forward
+  pub forward : {r : Rule} {i j : ℕ} → Takes text r i j → i ≤ j
+  forward (nothing e) = omega arith
+  forward (byte a e) = omega arith
+  forward (both t u) = let x = forward t in let y = forward u in omega arith
+  forward (left t) = forward t
+  forward (right t) = forward t
+  forward (stop e) = omega arith
+  forward (more t u) = let x = forward t in let y = forward u in omega arith
+
+  -- and ends within the text, if it begins there
+  pub inside : {r : Rule} {i j : ℕ} → Takes text r i j → i ≤ length text → j ≤ length text
+  inside (nothing e) h = omega arith
+  inside (byte a e) h = omega arith
+  inside (both t u) h = inside u (inside t h)
+  inside (left t) h = inside t h
+  inside (right t) h = inside t h
+  inside (stop e) h = omega arith
+  inside (more t u) h = inside u (inside t h)
+
+  -- one byte
+  pub byte-at : {c : Class} {i j : ℕ} → Takes text (one c) i j → At text c i
+  byte-at (byte a e) = a
+
+  pub byte-end : {c : Class} {i j : ℕ} → Takes text (one c) i j → j ≡ i + 1
+  byte-end (byte a e) = e

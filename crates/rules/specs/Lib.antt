@@ -1,0 +1,4 @@
+-- The vocabulary of rules over bytes.
+pub mod Test
+pub mod Class
+pub mod Rule
