@@ -29,7 +29,7 @@ underscore-space : never (anyOf "_") sp ≡ true
 unfolding never apart apartSpan
 underscore-space = refl
 
-underscore-blank : never (anyOf "_") blank ≡ true
+pub underscore-blank : never (anyOf "_") blank ≡ true
 unfolding never apart apartSpan
 underscore-blank = refl
 
@@ -76,7 +76,7 @@ module _ (text : List ℕ) (n : ℕ) (c : Class) (cl : Clear c) where
   abbrev pub Row : ℕ → ℕ → List ℕ → Type 0
   Row i j ds = Digits text (suc n) c i j ds
 
-  digits-at : {i j : ℕ} {ds : List ℕ} → Row i j ds → At text c i
+  pub digits-at : {i j : ℕ} {ds : List ℕ} → Row i j ds → At text c i
   digits-at (lastUnit u) = unit-at n u
   digits-at (nextUnit u s d) = unit-at n u
 
@@ -132,9 +132,13 @@ module _ (text : List ℕ) (n : ℕ) (c : Class) where
       first : {i m e j : ℕ} → ((x : ℕ) → Takes text (unit n c) x e → SomeRow x j) → Takes text (unit n c) i m → Takes text (many (unit n c)) m e → SomeRow i j
       first {i} f u (stop e) = f i (ending e u)
       first f u (more v us) = let r = first f v us in (_, nextUnit u (right (nothing refl)) (r .1))
+
+      go : {x e k j : ℕ} → Takes text (unit n c) x e → Takes text joint e k → SomeRow k j → SomeRow x j
+      go u t r = (_, nextUnit u (left t) (r .1))
+
       later : {e j : ℕ} → Takes text (many (joint then plus (unit n c))) e j → (x : ℕ) → Takes text (unit n c) x e → SomeRow x j
       later (stop e) x u = (_, lastUnit (ending e u))
-      later (more (both t (both v us)) rest) x u = let r = first (λ y w. later rest y w) v us in (_, nextUnit u (left t) (r .1))
+      later (more (both t (both v us)) rest) x u = go u t (first (λ y w. later rest y w) v us)
 
   pub of-row : {i j : ℕ} {ds : List ℕ} → Digits text n c i j ds → Takes text (groups n c) i j
   of-row (lastUnit u) = both (both u (stop refl)) (stop refl)

@@ -1,3 +1,6 @@
 -- The laws of the token rules.
 pub mod Spaces
 pub mod Groups
+pub mod Numbers
+pub mod Integers
+pub mod Fractions
