@@ -18,6 +18,12 @@ pub enum Found {
     Nothing,
 }
 
+// Where a literal ends, if one begins, and whether its value is bad.
+pub enum Literal {
+    At { end: usize, bad: bool },
+    Nothing,
+}
+
 // The answer of the UTF-8 test: refusal 3 has the place.
 pub enum Encoding {
     WellFormed,

@@ -4,7 +4,7 @@ use mathlib.Core.Path.{_≡_, refl, subst, sym, _∙_}
 use mathlib.Core.Logic.{_⊎_, inl, inr}
 use mathlib.Core.List.{List}
 use Prim.Native.Nat.{ℕ, _≤_, _<_}
-use Rattle.rules.specs.Rule.{Rule, many, Takes, stop, more, Fails, Longest}
+use Rattle.rules.specs.Rule.{Rule, many, plus, opt, Takes, nothing, both, left, right, stop, more, Fails, Longest}
 use Rattle.rules.proofs.Matches.{forward}
 
 module _ {text : List ℕ} {r : Rule} where
@@ -17,6 +17,15 @@ module _ {text : List ℕ} {r : Rule} where
 
   pub snoc : {i j k : ℕ} → Takes text (many r) i j → Takes text r j k → Takes text (many r) i k
   snoc c s = join c (more s (stop refl))
+
+  -- `[r+]?` is `r*`
+  pub many-of-opt : {i j : ℕ} → Takes text (opt (plus r)) i j → Takes text (many r) i j
+  many-of-opt (left (both t u)) = more t u
+  many-of-opt (right (nothing e)) = stop e
+
+  pub opt-of-many : {i j : ℕ} → Takes text (many r) i j → Takes text (opt (plus r)) i j
+  opt-of-many (stop e) = right (nothing e)
+  opt-of-many (more t u) = left (both t u)
 
 -- the rule has at most one match from each place
 pub record Single (text : List ℕ) (r : Rule) : Type 0 where

@@ -10,11 +10,11 @@ use lib.Dec.{leb, ltb}
 use Rattle.rules.specs.Class.{Span, Class, has, In, just}
 use Rattle.rules.proofs.Bools.{and-left, and-right, and-both, or-cases, or-left}
 
-pub apartSpan : Span → Class → Bool
+unfoldable pub apartSpan : Span → Class → Bool
 apartSpan s [] = true
 apartSpan s (t ∷ c) = (ltb (s .high) (t .low) || ltb (t .high) (s .low)) && apartSpan s c
 
-pub apart : Class → Class → Bool
+unfoldable pub apart : Class → Class → Bool
 apart [] d = true
 apart (s ∷ c) d = apartSpan s d && apart c d
 

@@ -1,5 +1,5 @@
 -- First laws of matching. Assumes nothing.
-use mathlib.Core.Path.{_≡_}
+use mathlib.Core.Path.{_≡_, refl, subst}
 use mathlib.Core.List.{List}
 use Prim.Native.Nat.{ℕ, _+_, _≤_, _<_}
 use native.Mathlib.Omega.{arith}
@@ -34,3 +34,13 @@ module _ {text : List ℕ} where
 
   pub byte-end : {c : Class} {i j : ℕ} → Takes text (one c) i j → j ≡ i + 1
   byte-end (byte a e) = e
+
+  -- the same match from, or to, a place that is given in another way
+  pub starting : {r : Rule} {i j k : ℕ} → i ≡ j → Takes text r i k → Takes text r j k
+  starting {r} {k = k} e t = subst (λ (x : ℕ). Takes text r x k) e t
+
+  pub ending : {r : Rule} {i j k : ℕ} → j ≡ k → Takes text r i j → Takes text r i k
+  ending {r} {i} e t = subst (λ (x : ℕ). Takes text r i x) e t
+
+  pub one-at : {c : Class} {i : ℕ} → At text c i → Takes text (one c) i (i + 1)
+  one-at a = byte a refl

@@ -94,7 +94,7 @@ abbrev noneIn : Class → List Way → Bool
 noneIn d [] = true
 noneIn d (w ∷ ws) = apart d (w .class) && noneIn d ws
 
-pub never : Class → Rule → Bool
+unfoldable pub never : Class → Rule → Bool
 never d r = not (nullable r) && noneIn d (ways r)
 
 -- ---- a match of r reaches at least as far as any match of s: the bytes that both can begin with are followed for n bytes
@@ -111,7 +111,7 @@ abbrev none : List Way → Bool
 none [] = true
 none (w ∷ ws) = false
 
-pub covers : ℕ → Rule → Rule → Bool
+unfoldable pub covers : ℕ → Rule → Rule → Bool
 covers zero r s = false
 covers (suc n) r s = (not (nullable r) || none (ways s)) && allPairs (covers n) (ways r) (ways s)
 

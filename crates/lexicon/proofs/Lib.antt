@@ -1,0 +1,3 @@
+-- The laws of the token rules.
+pub mod Spaces
+pub mod Groups
