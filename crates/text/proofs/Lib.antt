@@ -1,3 +1,6 @@
 -- The laws that the proofs of the functions cite.
 pub mod Table
 pub mod Sets
+pub mod Ranges
+pub mod Searches
+pub mod Sequences
