@@ -134,10 +134,10 @@ module _ (text : List ℕ) where
   pub ends-same : (c d : ℕ) → Apart c → Apart d → {g e f : ℕ} → SomeNumeral text g e → Ahead text (just c) e → SomeNumeral text g f → Ahead text (just d) f → f ≡ e
   ends-same c d a b n x m y = le-antisymm (ahead-most c a n x m) (ahead-most d b m y n)
 
-  some : {b : Base} {g e : ℕ} {ds : List ℕ} → Numeral text b g e ds → SomeNumeral text g e
+  pub some : {b : Base} {g e : ℕ} {ds : List ℕ} → Numeral text b g e ds → SomeNumeral text g e
   some n = record { of = _; bytes = _; is = n }
 
-  symbol-from : {c i j k : ℕ} → i ≡ j → Symbol text c i k → Symbol text c j k
+  pub symbol-from : {c i j k : ℕ} → i ≡ j → Symbol text c i k → Symbol text c j k
   symbol-from {c} {k = k} e s = subst (λ (x : ℕ). Symbol text c x k) e s
 
   -- what follows a symbol begins where the dividing space behind it ends

@@ -7,6 +7,7 @@ use mathlib.Core.Bool.{true}
 use mathlib.Core.List.{List, [], _∷_, _++_, append-assoc}
 use Prim.Native.Nat.{ℕ, zero, suc, _+_, _≤_, _<_}
 use native.Mathlib.Decide.{decLe}
+use native.Mathlib.Nat.{not-suc-le-zero, le-of-suc-le-suc, add-zero}
 use native.Mathlib.Omega.{arith}
 use lib.ListN.{length, getD}
 use Rattle.rules.specs.Class.{Class, In, has, just, anyOf}
@@ -40,6 +41,17 @@ module _ {text : List ℕ} where
 
   pub unit-at : (n : ℕ) {c : Class} {i j : ℕ} → Takes text (unit (suc n) c) i j → At text c i
   unit-at n (both (byte a e) u) = a
+
+  -- a unit is read byte by byte
+  pub unit-snoc : (n : ℕ) (c : Class) {i j : ℕ} → Takes text (unit n c) i j → At text c j → Takes text (unit (suc n) c) i (j + 1)
+  unit-snoc zero c (nothing e) a = both (byte (subst (λ (k : ℕ). At text c k) (sym e) a) refl) (nothing (ap (λ (k : ℕ). k + 1) e))
+  unit-snoc (suc n) c (both x u) a = both x (unit-snoc n c u a)
+
+  pub unit-byte : (n : ℕ) (c : Class) (i : ℕ) {j : ℕ} → Takes text (unit n c) i j → (k : ℕ) → k < n → At text c (i + k)
+  unit-byte zero c i u k h = absurd (not-suc-le-zero h)
+  unit-byte (suc n) c i (both (byte a e) u) zero h = subst (λ (k : ℕ). At text c k) (sym (add-zero i)) a
+  unit-byte (suc n) c i (both (byte a e) u) (suc k) h =
+      subst (λ (x : ℕ). At text c x) (omega arith) (unit-byte n c (i + 1) (starting e u) k (le-of-suc-le-suc h))
 
   -- two joints from one place, each followed by a digit, end in one place
   joint-same : {c : Class} → Clear c → {m k l : ℕ} → Takes text (opt joint) m k → At text c k → Takes text (opt joint) m l → At text c l → k ≡ l

@@ -4,3 +4,4 @@ pub mod Groups
 pub mod Numbers
 pub mod Integers
 pub mod Fractions
+pub mod Powers

@@ -1,3 +1,3 @@
 // The numeric literals: Integer, Fraction, Bits and Blob.
-mod tally;
 mod groups;
+mod tally;
