@@ -4,3 +4,4 @@ pub mod Sets
 pub mod Ranges
 pub mod Searches
 pub mod Sequences
+pub mod Spaces

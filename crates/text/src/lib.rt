@@ -1,3 +1,4 @@
 // What stands below tokens: the class of a byte, UTF-8, the front that is dropped, dividing space.
 pub mod class;
+pub mod space;
 pub mod utf8;
