@@ -26,7 +26,7 @@ pub record Clear (c : Class) : Type 0 where
   pub no-joint : never c joint ≡ true
   pub no-blank : never c blank ≡ true
 
-underscore-space : never (anyOf "_") sp ≡ true
+pub underscore-space : never (anyOf "_") sp ≡ true
 unfolding never apart apartSpan
 underscore-space = refl
 
@@ -72,6 +72,10 @@ pub record Further (text : List ℕ) (n : ℕ) (c : Class) (j : ℕ) : Type 0 wh
   pub end : ℕ
   pub joined : Takes text (opt joint) j from
   pub next : Takes text (unit n c) from end
+
+-- none does
+pub record Ended (text : List ℕ) (n : ℕ) (c : Class) (j : ℕ) : Type 0 where
+  pub stops : Further text n c j → ⊥
 
 module _ {text : List ℕ} {n : ℕ} {c : Class} where
   pub snoc-digits : {i j m e : ℕ} {ds : List ℕ} → Digits text n c i j ds → Takes text (opt joint) j m → Takes text (unit n c) m e → Digits text n c i e (ds ++ read text m n)
@@ -125,12 +129,12 @@ module _ (text : List ℕ) (n : ℕ) (c : Class) (cl : Clear c) where
   digits-cut (nextUnit u s d) (nextUnit v t f) h = digits-cut d (row-from (next-same u v s d t f) f) h
 
   -- so a row that does not go on is the longest
-  pub digits-most : {i j k : ℕ} {ds es : List ℕ} → Row i j ds → (Further text (suc n) c j → ⊥) → Row i k es → k ≤ j
+  pub digits-most : {i j k : ℕ} {ds es : List ℕ} → Row i j ds → Ended text (suc n) c j → Row i k es → k ≤ j
   digits-most {j = j} {k = k} d f e = go (decLe k j)
     where
       go : Dec (k ≤ j) → k ≤ j
       go (yes h) = h
-      go (no h) = absurd (f (digits-cut d e (omega (arith, h))))
+      go (no h) = absurd (f .stops (digits-cut d e (omega (arith, h))))
 
 -- ---- the rule
 

@@ -1,3 +1,5 @@
 -- Laws that the proofs of this crate share.
 pub mod Sums
 pub mod Units
+pub mod Joints
+pub mod Rows
