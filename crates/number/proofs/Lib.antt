@@ -3,3 +3,4 @@ pub mod Sums
 pub mod Units
 pub mod Joints
 pub mod Rows
+pub mod Marks

@@ -1,3 +1,4 @@
 -- What the private functions of this crate answer.
 pub mod Tally
 pub mod Groups
+pub mod Number

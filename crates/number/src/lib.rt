@@ -1,3 +1,4 @@
 // The numeric literals: Integer, Fraction, Bits and Blob.
 mod groups;
+mod integer;
 mod tally;
