@@ -1,10 +1,10 @@
 -- The rest of a line ends behind its newline, or at the end of the text. Assumes nothing.
-use mathlib.Core.Path.{_≡_, refl}
+use mathlib.Core.Path.{refl}
 use mathlib.Core.List.{List}
-use Prim.Native.Nat.{ℕ, _+_, _≤_, _<_}
+use Prim.Native.Nat.{ℕ, _+_, _≤_}
 use native.Mathlib.Omega.{arith}
 use lib.ListN.{length}
-use Rattle.rules.specs.Rule.{Rule, one, _then_, many, opt, Takes, nothing, byte, both, left, right, Longest, Fails}
+use Rattle.rules.specs.Rule.{one, _then_, many, opt, Takes, nothing, byte, both, left, right, Longest, Fails}
 use Rattle.rules.proofs.Classes.{apart, apartSpan}
 use Rattle.rules.proofs.Chains.{Single, reaches}
 use Rattle.rules.proofs.Matches.{forward}

@@ -1,19 +1,19 @@
 -- Laws of searching: what is found of a rule whose first byte is known. Assumes nothing.
-use mathlib.Core.Path.{_≡_, refl, sym, subst, _∙_}
+use mathlib.Core.Path.{_≡_, refl, subst}
 use mathlib.Core.Bool.{Bool, true, false, not}
 use mathlib.Core.Logic.{_⊎_, inl, inr}
 use mathlib.Core.List.{List, [], _∷_}
 use Prim.Native.Nat.{ℕ, _+_, _≤_, _<_}
-use lib.ListN.{length, getD}
+use lib.ListN.{length}
 use native.Mathlib.Omega.{arith}
 use borrow.Author.Tests.{not-false}
 use Rattle.rules.specs.Test.{Says}
 use Rattle.rules.specs.Class.{Class}
-use Rattle.rules.specs.Rule.{Rule, empty, one, _then_, _or_, opt, Takes, nothing, byte, both, left, right, Longest, Fails}
+use Rattle.rules.specs.Rule.{Rule, one, _then_, _or_, opt, Takes, nothing, byte, both, left, right, Longest, Fails}
 use Rattle.rules.proofs.Bools.{clash}
 use Rattle.rules.proofs.Chains.{Single}
 use Rattle.rules.proofs.Matches.{forward, byte-at, byte-end}
-use Rattle.rules.proofs.Ways.{Way, nullable, Through, Entered, enter, ways, never, never-takes, end-takes, covers, covers-all}
+use Rattle.rules.proofs.Ways.{Way, nullable, Through, enter, ways, never, never-takes, end-takes, covers, covers-all}
 use Rattle.lexicon.specs.declared.Found.{Found}
 use Rattle.lexicon.specs.declared.Found.the-variants.{At as FoundAt, Nothing}
 use Rattle.lexicon.specs.Found.{Finds}
