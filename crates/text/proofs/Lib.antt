@@ -5,3 +5,4 @@ pub mod Ranges
 pub mod Searches
 pub mod Sequences
 pub mod Spaces
+pub mod Lines

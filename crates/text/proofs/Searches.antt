@@ -1,21 +1,26 @@
 -- Laws of searching: what is found of a rule whose first byte is known. Assumes nothing.
-use mathlib.Core.Path.{_≡_, refl, sym, subst, _∙_}
-use mathlib.Core.Bool.{Bool, true, false}
+use mathlib.Core.Path.{_≡_, refl, subst}
+use mathlib.Core.Bool.{Bool, true, false, not}
 use mathlib.Core.Logic.{_⊎_, inl, inr}
 use mathlib.Core.List.{List, [], _∷_}
 use Prim.Native.Nat.{ℕ, _+_, _≤_, _<_}
-use lib.ListN.{length, getD}
+use lib.ListN.{length}
 use native.Mathlib.Omega.{arith}
+use borrow.Author.Tests.{not-false}
 use Rattle.rules.specs.Test.{Says}
 use Rattle.rules.specs.Class.{Class}
-use Rattle.rules.specs.Rule.{Rule, empty, one, _then_, _or_, many, Takes, nothing, byte, both, left, right, stop, more, At, Longest, Fails}
+use Rattle.rules.specs.Rule.{Rule, one, _then_, _or_, opt, Takes, nothing, byte, both, left, right, Longest, Fails}
 use Rattle.rules.proofs.Bools.{clash}
 use Rattle.rules.proofs.Chains.{Single}
 use Rattle.rules.proofs.Matches.{forward, byte-at, byte-end}
-use Rattle.rules.proofs.Ways.{Way, nullable, Through, Entered, enter, ways, never, never-takes, end-takes, covers, covers-all}
+use Rattle.rules.proofs.Ways.{Way, nullable, Through, enter, ways, never, never-takes, end-takes, covers, covers-all}
 use Rattle.lexicon.specs.declared.Found.{Found}
 use Rattle.lexicon.specs.declared.Found.the-variants.{At as FoundAt, Nothing}
 use Rattle.lexicon.specs.Found.{Finds}
+
+-- a negated test that failed
+pub shown : {P : Type 0} {o : Bool} → Says o P → not o ≡ false → P
+shown {P} {o} s e = s .true-holds (not-false o e)
 
 module _ {text : List ℕ} where
   -- an answer taken apart
@@ -80,6 +85,12 @@ module _ {text : List ℕ} where
   pub then-found : {c : Class} (r : Rule) {i : ℕ} {o : Bool} (f : Found) → Says o (Takes text (one c) i (i + 1)) → o ≡ true → Finds text r (i + 1) f → Finds text (one c then r) i f
   then-found r f s e l = found f (first (s .true-holds e)) l
 
+  pub then-longest : {c : Class} {r : Rule} {i j : ℕ} → Takes text (one c) i (i + 1) → Longest text r (i + 1) j → Longest text (one c then r) i j
+  then-longest {j = j} a l = found (FoundAt j) (first a) l
+
+  pub then-fails : {c : Class} {r : Rule} {i : ℕ} → Takes text (one c) i (i + 1) → Fails text r (i + 1) → Fails text (one c then r) i
+  then-fails a f = found Nothing (first a) f
+
   pub whole : {r : Rule} {i : ℕ} → Same text r i r i
   whole = record { there = λ t. t; back = λ t. t }
 
@@ -109,3 +120,31 @@ module _ {text : List ℕ} where
   -- where two matches from one place reach equally far, there is one at most
   pub single : (n : ℕ) {r : Rule} → covers n r r ≡ true → Single text r
   single n {r} e = record { same = λ t u. omega (arith, covers-all text n r r e t u, covers-all text n r r e u t) }
+
+  -- the sequence of three rules is one whichever two are taken together
+  pub regroup : {a b r : Rule} {i : ℕ} → Same text ((a then b) then r) i (a then b then r) i
+  regroup {a} {b} {r} {i} = record { there = there; back = back }
+    where
+      there : {j : ℕ} → Takes text ((a then b) then r) i j → Takes text (a then b then r) i j
+      there (both (both t u) v) = both t (both u v)
+
+      back : {j : ℕ} → Takes text (a then b then r) i j → Takes text ((a then b) then r) i j
+      back (both t (both u v)) = both (both t u) v
+
+  pub longest-from : {r : Rule} {i j k : ℕ} → i ≡ k → Longest text r i j → Longest text r k j
+  longest-from {r} {i} {j} e l = subst (λ (x : ℕ). Longest text r x j) e l
+
+  -- what may be left out
+  pub opt-longest : {r : Rule} {i j : ℕ} → Longest text r i j → Longest text (opt r) i j
+  opt-longest {r} {i} {j} l = record { takes = left (l .takes); most = go }
+    where
+      go : {k : ℕ} → Takes text (opt r) i k → k ≤ j
+      go (left t) = l .most t
+      go (right (nothing e)) = omega (arith, forward (l .takes))
+
+  pub opt-missed : {r : Rule} {i : ℕ} → Fails text r i → Longest text (opt r) i i
+  opt-missed {r} {i} f = record { takes = right (nothing refl); most = go }
+    where
+      go : {k : ℕ} → Takes text (opt r) i k → k ≤ i
+      go (left t) = absurd (f .none t)
+      go (right (nothing e)) = omega arith

@@ -1,22 +1,10 @@
 // UTF-8, by the Unicode Standard's table of well-formed byte sequences.
+use crate::byte::within;
 use lexicon::Encoding;
 use lexicon::Found;
-ghost use Prim.Native.Nat.{_+_};
-ghost use Rattle.rules.specs.Test.{Says};
-ghost use Rattle.rules.specs.Rule.{_then_, Takes};
+ghost use Rattle.rules.specs.Rule.{_then_};
 ghost use Rattle.lexicon.specs.Found.{Finds};
 ghost use Rattle.lexicon.specs.Utf8 as Utf8;
-
-// Whether a byte from `low` to `high` stands at `at`.
-fn within(text: &[u8], at: usize, low: u8, high: u8) -> bool
-    ensures { λ r. ⌜ Says r (Takes (now (text .entry)) (Utf8.range low high) at (at + 1)) ⌝ }
-{
-    if text.len() <= at {
-        return false;
-    }
-    let b = text[at];
-    low <= b && b <= high
-}
 
 // The last byte of a sequence.
 fn last(text: &[u8], at: usize) -> Found

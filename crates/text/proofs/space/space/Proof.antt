@@ -9,9 +9,10 @@ use borrow.Author.Tests.{not-true, not-false}
 use Rattle.rules.specs.Rule.{one, many, Takes, stop}
 use Rattle.rules.proofs.Matches.{forward}
 use Rattle.rules.proofs.Chains.{snoc}
-use Rattle.lexicon.specs.Space.{notGrave, blank}
+use Rattle.lexicon.specs.Space.{grave, notGrave, blank}
 use Rattle.lexicon.proofs.Spaces.{skips}
-use Rattle.text.proofs.Spaces.{blank-byte, no-blank, no-blank-end, grave-byte, comment-byte, comment-blank, lone-grave}
+use Rattle.text.proofs.Ranges.{byte-is, byte-but}
+use Rattle.text.proofs.Spaces.{blank-byte, no-blank, no-blank-end, comment-blank, lone-grave}
 use Rattle.text.proofs.space.space.Statement.{statement}
 use Rattle.text.proofs.space.space.Tie as tie
 
@@ -26,6 +27,12 @@ Inv-space text at end₀ end = Takes text (many blank) at end
 
 abbrev μ-space : tie.MeasureT-space
 μ-space text at end₀ end = length text - end
+
+-- where a comment begins
+opener :
+    (c : tie.Else1 Inv-loop μ-loop Inv-space μ-space) →
+    Takes (c .before .before .before .before .before .args .text .now) (one grave) (c .before .before .before .space .end) (c .before .before .before .space .end + 1)
+opener c = byte-is 0x60 (c .before .before .before .space .end) (c .before .before .space-test .taken) (c .if1 .left)
 
 space-holds : tie.Need-space-holds Inv-loop μ-loop Inv-space μ-space
 space-holds c = stop refl
@@ -68,7 +75,7 @@ space-less-2 c =
 
 space-again-2 : tie.Need-space-again-2 Inv-loop μ-loop Inv-space μ-space
 space-again-2 c =
-    snoc (c .before .before .before .before .before .before .before .space .inv) (comment-blank (grave-byte (c .before .before .before .before .before .before .before .space .end) (c .before .before .before .before .before .before .space-test .taken) (c .before .before .before .before .if1 .left)) (c .before .before .before .loop .inv .2) (grave-byte (c .before .before .before .loop .i) (omega arith) (c .if3 .taken)))
+    snoc (c .before .before .before .before .before .before .before .space .inv) (comment-blank (opener (c .before .before .before .before)) (c .before .before .before .loop .inv .2) (byte-is 0x60 (c .before .before .before .loop .i) (omega arith) (c .if3 .taken)))
 
 add-i-2 : tie.Need-add-i-2 Inv-loop μ-loop Inv-space μ-space
 add-i-2 c = omega arith
@@ -78,7 +85,7 @@ loop-less c = omega arith
 
 loop-again : tie.Need-loop-again Inv-loop μ-loop Inv-space μ-space
 loop-again c =
-    (c .before .before .before .loop .inv .0, omega arith, snoc (c .before .before .before .loop .inv .2) (comment-byte (c .before .before .before .loop .i) (omega arith) (c .if3 .left) (c .before .shared-slice-known4 .given (c .before .before .before .loop .i) .fits)))
+    (c .before .before .before .loop .inv .0, omega arith, snoc (c .before .before .before .loop .inv .2) (byte-but 0x5F (c .before .before .before .loop .i) (omega arith) (c .if3 .left) (c .before .shared-slice-known4 .given (c .before .before .before .loop .i) .fits)))
 
 returns : tie.Need-returns Inv-loop μ-loop Inv-space μ-space
 returns c =
@@ -91,7 +98,7 @@ returns-2 c =
 returns-3 : tie.Need-returns-3 Inv-loop μ-loop Inv-space μ-space
 returns-3 c =
     rw (c .before .loop .inv .0)
-    (skips (c .before .before .before .before .before .space .inv) (lone-grave (grave-byte (c .before .before .before .before .before .space .end) (c .before .before .before .before .space-test .taken) (c .before .before .if1 .left)) (c .before .loop .inv .2) (omega arith)))
+    (skips (c .before .before .before .before .before .space .inv) (lone-grave (opener (c .before .before)) (c .before .loop .inv .2) (omega arith)))
 
 pub space-spec : {M : Type 1} → statement M
 space-spec =

@@ -1,9 +1,9 @@
--- `text::utf8::within` meets its contract: a byte of the range stands there, or none stands there, or it is too low or too high.
+-- `text::byte::within` meets its contract: a byte of the range stands there, or none stands there, or it is too low or too high.
 -- Assumes nothing.
 use borrow.Author.Needs.{needs}
 use Rattle.text.proofs.Ranges.{no-byte, high-enough, too-low}
-use Rattle.text.proofs.utf8.within.Statement.{statement}
-use Rattle.text.proofs.utf8.within.Tie as tie
+use Rattle.text.proofs.byte.within.Statement.{statement}
+use Rattle.text.proofs.byte.within.Tie as tie
 
 returns : tie.Need-returns
 returns c = search (no-byte, needs)
