@@ -83,6 +83,11 @@ module _ {text : List ℕ} {n : ℕ} {c : Class} where
   snoc-digits {m = m} (nextUnit {i = i} {ds = ds} u s d) t v =
       rw append-assoc (nextUnit u s (snoc-digits d t v))
 
+  -- a row begins with a unit
+  pub digits-unit : {i j : ℕ} {ds : List ℕ} → Digits text n c i j ds → (e : ℕ) × Takes text (unit n c) i e
+  digits-unit (lastUnit u) = (_, u)
+  digits-unit (nextUnit u s d) = (_, u)
+
   pub digits-forward : {i j : ℕ} {ds : List ℕ} → Digits text n c i j ds → i + n ≤ j
   digits-forward (lastUnit u) = omega (arith, unit-end n c u)
   digits-forward (nextUnit u s d) = let x = unit-end n c u in let y = forward s in let z = digits-forward d in omega arith

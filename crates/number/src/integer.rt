@@ -1,6 +1,9 @@
 // Numbers without a sign, in their four bases, and Integers.
-use crate::groups::{longest_row, Groups};
-use lexicon::{Base, Found, Set};
+use crate::groups::Groups;
+use crate::groups::longest_row;
+use lexicon::Base;
+use lexicon::Found;
+use lexicon::Set;
 ghost use mathlib.Core.Path.{_≡_};
 ghost use Prim.Native.Nat.{_≤_};
 ghost use lib.ListN.{length};
@@ -102,8 +105,10 @@ pub fn start(text: &[u8], at: usize) -> usize
     if at >= text.len() {
         return at;
     }
-    let b = text[at];
-    if b == b'+' || b == b'-' {
+    if text[at] == b'+' {
+        return text::space::space(text, at + 1);
+    }
+    if text[at] == b'-' {
         return text::space::space(text, at + 1);
     }
     at

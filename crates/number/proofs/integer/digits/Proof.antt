@@ -1,3 +1,6 @@
+use mathlib.Core.Path.{refl}
+use native.Mathlib.Omega.{arith}
+use Rattle.number.proofs.Marks.{clear-set, row-found, row-missing}
 use borrow.Author.Needs.{needs}
 use Rattle.number.proofs.integer.digits.Statement.{statement}
 use Rattle.number.proofs.integer.digits.Tie as tie
@@ -12,7 +15,7 @@ digit-set-requires c κs = search needs
 
 -- src/integer.rt:63:35
 longest-row-requires : tie.Need-longest-row-requires
-longest-row-requires c κs = ?
+longest-row-requires c κs = (search needs, omega arith, omega arith, clear-set (c .before .before .args .base) (c .digit-set .result) (c .digit-set .ensures))
 
 -- src/integer.rt:63:22
 enum-known-end : tie.Need-enum-known-end
@@ -24,11 +27,15 @@ enum-told c = search needs
 
 -- src/integer.rt:64:9
 returns : tie.Need-returns
-returns c = ?
+returns c =
+    let a = c .before .before .before .before .before .args in
+    row-missing (a .text .now) (a .at) (a .base) (c .before .before .before .digit-set .result) (c .before .before .longest-row .result) (c .before .before .before .digit-set .ensures) (c .before .before .longest-row .ensures) (c .enum-told .given .1)
 
 -- src/integer.rt:58:1
 returns-2 : tie.Need-returns-2
-returns-2 c = ?
+returns-2 c =
+    let a = c .before .before .before .before .before .before .args in
+    (refl, row-found (a .text .now) (a .at) (a .base) (c .before .before .before .before .digit-set .result) (c .before .before .before .longest-row .result) (c .before .before .before .before .digit-set .ensures) (c .before .before .before .longest-row .ensures) (c .before .end .given .1))
 
 pub digits-spec : {M : Type 1} → statement M
 digits-spec =

@@ -1,3 +1,4 @@
+use Rattle.number.proofs.Marks.{marked-stands, bare-answer}
 use borrow.Author.Needs.{needs}
 use Rattle.number.proofs.integer.number_at.Statement.{statement}
 use Rattle.number.proofs.integer.number_at.Tie as tie
@@ -19,7 +20,9 @@ enum-told-2 c = search needs
 
 -- src/integer.rt:92:9
 returns : tie.Need-returns
-returns c = ?
+returns c =
+    let a = c .before .before .before .before .args in
+    marked-stands (a .text .now) (a .at) _ _ _ (c .before .before .marked .result) (c .before .before .marked .ensures) (c .enum-told2 .given .1)
 
 -- src/integer.rt:94:5
 digits-requires : tie.Need-digits-requires
@@ -27,7 +30,9 @@ digits-requires c κs = search needs
 
 -- src/integer.rt:86:1
 returns-2 : tie.Need-returns-2
-returns-2 c = ?
+returns-2 c =
+    let a = c .before .before .before .before .before .args in
+    bare-answer (a .text .now) (a .at) (c .before .before .before .marked .result) (c .before .before .before .marked .ensures) (c .before .enum-told .given .1) (c .digits .result) (c .digits .ensures)
 
 pub number-at-spec : {M : Type 1} → statement M
 number-at-spec =
