@@ -4,3 +4,4 @@ pub mod Units
 pub mod Joints
 pub mod Rows
 pub mod Marks
+pub mod Integers

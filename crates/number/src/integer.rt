@@ -113,3 +113,17 @@ pub fn start(text: &[u8], at: usize) -> usize
     }
     at
 }
+
+// The Integer at a place.
+pub fn integer(text: &[u8], at: usize) -> Found
+    ensures { λ r. ⌜ Finds (now (text .entry)) integerOf at r ⌝ }
+{
+    if at > text.len() {
+        return Found::Nothing;
+    }
+    let begin = start(text, at);
+    let Number::At { base: _, end, value: _ } = number_at(text, begin) else {
+        return Found::Nothing;
+    };
+    Found::At(end)
+}

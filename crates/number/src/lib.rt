@@ -1,4 +1,4 @@
 // The numeric literals: Integer, Fraction, Bits and Blob.
 mod groups;
-mod integer;
+pub mod integer;
 mod tally;
