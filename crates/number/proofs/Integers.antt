@@ -15,7 +15,7 @@ use Rattle.number.specs.declared.integer.Number.the-variants as Number
 use Rattle.number.specs.Number.{IsNumber, NoNumber, Numbered}
 
 module _ (text : List ℕ) where
-  pub some-number : {b : Base} {i j v : ℕ} → IsNumber text b i j v → SomeNumeral text i j
+  abbrev pub some-number : {b : Base} {i j v : ℕ} → IsNumber text b i j v → SomeNumeral text i j
   some-number n = record { of = _; bytes = n .bytes; is = n .is }
 
   -- what the search answered

@@ -5,3 +5,4 @@ pub mod Joints
 pub mod Rows
 pub mod Marks
 pub mod Integers
+pub mod Fractions

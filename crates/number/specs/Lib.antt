@@ -2,3 +2,4 @@
 pub mod Tally
 pub mod Groups
 pub mod Number
+pub mod Fraction

@@ -61,7 +61,7 @@ fn joined(text: &[u8], at: usize, set: Set, width: usize) -> Found
 }
 
 // The longest row of units from a place.
-pub fn longest_row(text: &[u8], at: usize, set: Set, width: usize) -> Groups
+pub(crate) fn longest_row(text: &[u8], at: usize, set: Set, width: usize) -> Groups
     requires { ⌜ (at ≤ length (now text)) × (1 ≤ width) × (width ≤ 8) × Clear (members set) ⌝ }
     ensures { λ r. ⌜ Grouped (now (text .entry)) set width at r ⌝ }
 {

@@ -58,7 +58,7 @@ fn digit_set(base: Base) -> Set
 }
 
 // The digits of a base from a place on, as a number.
-fn digits(text: &[u8], at: usize, base: Base) -> Number
+pub(crate) fn digits(text: &[u8], at: usize, base: Base) -> Number
     requires { ⌜ at ≤ length (now text) ⌝ }
     ensures { λ r. ⌜ OfBase (now (text .entry)) base at r ⌝ }
 {
@@ -86,7 +86,7 @@ fn marked(text: &[u8], at: usize) -> Number
 }
 
 // The longest number without a sign. A mark whose digits do not come is a decimal 0.
-pub fn number_at(text: &[u8], at: usize) -> Number
+pub(crate) fn number_at(text: &[u8], at: usize) -> Number
     requires { ⌜ at ≤ length (now text) ⌝ }
     ensures { λ r. ⌜ Numbered (now (text .entry)) at r ⌝ }
 {
@@ -98,7 +98,7 @@ pub fn number_at(text: &[u8], at: usize) -> Number
 }
 
 // Where the number of an Integer or a Fraction begins: behind its sign and dividing space.
-pub fn start(text: &[u8], at: usize) -> usize
+pub(crate) fn start(text: &[u8], at: usize) -> usize
     requires { ⌜ at ≤ length (now text) ⌝ }
     ensures { λ r. ⌜ Start (now (text .entry)) at r × (r ≤ length (now (text .entry))) ⌝ }
 {
@@ -122,7 +122,12 @@ pub fn integer(text: &[u8], at: usize) -> Found
         return Found::Nothing;
     }
     let begin = start(text, at);
-    let Number::At { base: _, end, value: _ } = number_at(text, begin) else {
+    let Number::At {
+        base: _,
+        end,
+        value: _,
+    } = number_at(text, begin)
+    else {
         return Found::Nothing;
     };
     Found::At(end)
