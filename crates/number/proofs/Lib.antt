@@ -6,3 +6,4 @@ pub mod Rows
 pub mod Marks
 pub mod Integers
 pub mod Fractions
+pub mod Blobs

@@ -3,3 +3,4 @@ pub mod Tally
 pub mod Groups
 pub mod Number
 pub mod Fraction
+pub mod Blob
