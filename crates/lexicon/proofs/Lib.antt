@@ -5,3 +5,4 @@ pub mod Numbers
 pub mod Integers
 pub mod Fractions
 pub mod Powers
+pub mod Tokens

@@ -21,7 +21,7 @@ use Rattle.lexicon.specs.declared.Next.{Next}
 use Rattle.lexicon.specs.declared.Next.the-variants.{Token, End, NoToken}
 use Rattle.lexicon.specs.Space.{Skips}
 use Rattle.lexicon.specs.Literals.{ignorance, boolean, integer, fraction, bits, blob, quoted, word, codePoint, later, plusMinus}
-use Rattle.lexicon.specs.Symbols.{spelled, Colons}
+use Rattle.lexicon.specs.Symbols.{symbol, Colons}
 use Rattle.lexicon.specs.Bad.{BadCode, BadQuoted, ZeroDenominator, SmallRadix, BadPadding}
 
 -- the token rules
@@ -49,7 +49,7 @@ rule aQuoted = quoted
 rule aWord = word
 rule aCodePoint = codePoint
 rule aLater = later
-rule (aSymbol s) = lit (spelled s)
+rule (aSymbol s) = symbol s
 
 -- the thirteen head words
 abbrev pub headWord : Head → String
