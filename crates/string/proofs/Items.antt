@@ -1,0 +1,107 @@
+-- What stands between quotes: characters, escapes, backslashes. Each has one match at most from a place, takes a byte at least
+-- and does not begin with a quote. Assumes nothing.
+use mathlib.Core.Path.{_≡_, refl, subst, sym, _∙_}
+use mathlib.Core.Logic.{_⊎_, inl, inr}
+use mathlib.Core.Bool.{Bool, true, false, false≢true}
+use mathlib.Core.List.{List, [], _∷_}
+use Prim.Native.Nat.{ℕ, _+_, _≤_, _<_}
+use native.Mathlib.Nat.{le-antisymm}
+use native.Mathlib.Omega.{arith}
+use lib.ListN.{length, getD}
+use Rattle.rules.specs.Class.{Class, In, has, just}
+use Rattle.rules.specs.Rule.{Rule, one, _then_, _or_, many, lit, Takes, nothing, byte, both, left, right, stop, more, At, Longest, Fails}
+use Rattle.rules.proofs.Bools.{clash}
+use Rattle.rules.proofs.Classes.{apart, apartSpan, apart-no, just-is}
+use Rattle.rules.proofs.Matches.{forward, starting, ending}
+use Rattle.rules.proofs.Chains.{Single}
+use Rattle.rules.proofs.Ways.{Way, nullable, ways, Through, Entered, enter, never, never-takes, covers, covers-all}
+use Rattle.lexicon.specs.Literals.{plainByte, unescaped, restricted, escapeLetter, escape, codePoint, segment}
+use Rattle.string.specs.Parts.{item}
+use Rattle.string.proofs.Among.{Strict}
+use Rattle.string.proofs.Codes.{angle-same}
+
+abbrev pub quote : Class
+quote = just 0x22
+
+abbrev pub backslash : Class
+backslash = just 0x5C
+
+pub backslash-unescaped : never backslash unescaped ≡ true
+unfolding never apart apartSpan
+backslash-unescaped = refl
+
+pub letter-angle : apart escapeLetter (just 0x3C) ≡ true
+unfolding apart apartSpan
+letter-angle = refl
+
+unescaped-covers : covers 5 unescaped unescaped ≡ true
+unfolding covers apart apartSpan
+unescaped-covers = refl
+
+pub quote-restricted : never quote restricted ≡ true
+unfolding never apart apartSpan
+quote-restricted = refl
+
+pub quote-item : never quote item ≡ true
+unfolding never apart apartSpan
+quote-item = refl
+
+module _ {text : List ℕ} where
+  -- a rule that takes no empty text takes a byte at least
+  pub strict-of : (r : Rule) → nullable r ≡ false → Strict text r
+  strict-of r n = record { less = λ t. go (enter text t) }
+    where
+      thru : (ws : List Way) {i j : ℕ} → Through text ws i j → i < j
+      thru [] t = absurd t
+      thru (w ∷ ws) (inl t) = let x = forward (t .1) in omega arith
+      thru (w ∷ ws) (inr t) = thru ws t
+      go : {i j : ℕ} → Entered text r i j → i < j
+      go (inl x) = absurd (clash (x .1) n)
+      go (inr t) = thru (ways r) t
+
+  -- a rule of bounded length that covers itself is single
+  pub single-of : (n : ℕ) (r : Rule) → covers n r r ≡ true → Single text r
+  single-of n r e = record { same = λ t u. le-antisymm (covers-all text n r r e u t) (covers-all text n r r e t u) }
+
+  -- of two rules, the first of which begins with no byte of the class that the second begins with
+  pub unescaped-single : Single text unescaped
+  unescaped-single = single-of 5 unescaped unescaped-covers
+
+  pub restricted-single : Single text restricted
+  restricted-single = record { same = go }
+    where
+      go : {i j k : ℕ} → Takes text restricted i j → Takes text restricted i k → j ≡ k
+      go (left t) (left u) = unescaped-single .same t u
+      go (left t) (right (byte a e)) = absurd (never-takes text backslash unescaped backslash-unescaped a t)
+      go (right (byte a e)) (left u) = absurd (never-takes text backslash unescaped backslash-unescaped a u)
+      go (right (byte a e)) (right (byte b f)) = omega arith
+
+  pub escape-single : Single text escape
+  escape-single = record { same = go }
+    where
+      second : {i j k : ℕ} → Takes text (one escapeLetter or lit "<" then codePoint then lit ">") i j → Takes text (one escapeLetter or lit "<" then codePoint then lit ">") i k → j ≡ k
+      second (left (byte a e)) (left (byte b f)) = omega arith
+      second {i} (left (byte a e)) (right (both (byte b f) u)) = absurd (apart-no escapeLetter (just 0x3C) (getD text i 0) letter-angle (a .1) (b .1))
+      second {i} (right (both (byte b f) u)) (left (byte a e)) = absurd (apart-no escapeLetter (just 0x3C) (getD text i 0) letter-angle (a .1) (b .1))
+      second (right (both (byte a e) (both t (byte c g)))) (right (both (byte b f) (both u (byte d h)))) =
+          let x = angle-same t c (starting (f ∙ sym e) u) d in omega arith
+      go : {i j k : ℕ} → Takes text escape i j → Takes text escape i k → j ≡ k
+      go (both (byte a e) t) (both (byte b f) u) = second t (starting (f ∙ sym e) u)
+
+  escape-begins : {i j : ℕ} → Takes text escape i j → At text backslash i
+  escape-begins (both (byte a e) t) = a
+
+  pub item-single : Single text item
+  item-single = record { same = go }
+    where
+      go : {i j k : ℕ} → Takes text item i j → Takes text item i k → j ≡ k
+      go (left t) (left u) = unescaped-single .same t u
+      go (left t) (right u) = absurd (never-takes text backslash unescaped backslash-unescaped (escape-begins u) t)
+      go (right u) (left t) = absurd (never-takes text backslash unescaped backslash-unescaped (escape-begins u) t)
+      go (right t) (right u) = escape-single .same t u
+
+  pub restricted-strict : Strict text restricted
+  restricted-strict = strict-of restricted refl
+
+  pub item-strict : Strict text item
+  item-strict = strict-of item refl

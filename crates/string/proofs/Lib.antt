@@ -1,0 +1,8 @@
+-- The laws of Text literals.
+pub mod Among
+pub mod Closed
+pub mod Marks
+pub mod Codes
+pub mod Items
+pub mod Escapes
+pub mod Segments
