@@ -1,7 +1,6 @@
 -- Escapes, characters and backslashes: what each answer says of the part it belongs to. Assumes nothing.
 use mathlib.Core.Path.{_≡_, refl, subst, sym, _∙_}
-use mathlib.Core.Logic.{⊎-elim}
-use mathlib.Core.Bool.{Bool, true, false, false≢true}
+use mathlib.Core.Bool.{Bool, true, false}
 use mathlib.Core.List.{List, [], _∷_}
 use Prim.Native.Nat.{ℕ, _+_, _≤_, _<_}
 use native.Mathlib.Nat.{le-antisymm}
@@ -19,6 +18,7 @@ use Rattle.lexicon.specs.Found.{Judges}
 use Rattle.lexicon.specs.Literals.{unescaped, restricted, escapeLetter, escape, codePoint}
 use Rattle.lexicon.specs.Bad.{BadCode, BadEscape}
 use Rattle.string.specs.Parts.{angled, BadAngled, item}
+use Rattle.string.proofs.Answers.{says-no}
 use Rattle.string.proofs.Among.{place}
 use Rattle.string.proofs.Closed.{agree}
 use Rattle.string.proofs.Codes.{angle-most}
@@ -30,9 +30,6 @@ angle = 0x3C
 module _ (text : List ℕ) where
   move-at : (c : Class) {i j : ℕ} → i ≡ j → At text c i → At text c j
   move-at c e a = subst (λ (x : ℕ). At text c x) e a
-
-  never-bad : {P : Type 0} → (P → ⊥) → Says false P
-  never-bad n = record { true-holds = λ e. absurd (false≢true e); holds-true = λ p. absurd (n p) }
 
   -- ---- the rest of an escape by number
 
@@ -87,7 +84,7 @@ module _ (text : List ℕ) where
   letter-judged i a l =
       let h : i + 2 ≡ i + 1 + 1 = omega arith in
       (agree escape-single (both (one-at a) (left (byte l h))),
-        never-bad (λ b. apart-no escapeLetter (just angle) (getD text (i + 1) 0) letter-angle (l .1) (bad-angled b .0 .1)))
+        says-no (λ b. apart-no escapeLetter (just angle) (getD text (i + 1) 0) letter-angle (l .1) (bad-angled b .0 .1)))
 
   pub angle-judged : (i : ℕ) (r : Literal) → At text backslash i → At text (just angle) (i + 1) → Judges text angled (BadAngled text) (i + 2) r → Judges text escape (BadEscape text) i r
   angle-judged i r a g y = go r y
@@ -113,7 +110,7 @@ module _ (text : List ℕ) where
   escape-begins (both (byte a e) t) = a
 
   pub item-character : (i j : ℕ) → Longest text unescaped i j → Judges text item (BadEscape text) i (Literal.the-variants.At j false)
-  item-character i j l = (record { takes = left (l .takes); most = most }, never-bad (λ b. never-takes text backslash unescaped backslash-unescaped (escape-begins (b .before)) (l .takes)))
+  item-character i j l = (record { takes = left (l .takes); most = most }, says-no (λ b. never-takes text backslash unescaped backslash-unescaped (escape-begins (b .before)) (l .takes)))
     where
       most : {k : ℕ} → Takes text item i k → k ≤ j
       most (left t) = l .most t

@@ -1,8 +1,11 @@
 -- The laws of Text literals.
+pub mod Answers
 pub mod Among
 pub mod Closed
 pub mod Marks
 pub mod Codes
+pub mod Numbers
+pub mod Words
 pub mod Items
 pub mod Escapes
 pub mod Segments

@@ -1,7 +1,7 @@
 -- Segments of a quoted text, and the text. Assumes nothing.
 use mathlib.Core.Path.{_≡_, refl, subst, sym, _∙_}
 use mathlib.Core.Logic.{_⊎_, inl, inr, ⊎-elim}
-use mathlib.Core.Bool.{Bool, true, false, _||_, false≢true}
+use mathlib.Core.Bool.{Bool, true, false, _||_}
 use mathlib.Core.List.{List, [], _∷_}
 use Prim.Native.Nat.{ℕ, _+_, _≤_, _<_}
 use native.Mathlib.Omega.{arith}
@@ -22,6 +22,7 @@ use Rattle.lexicon.specs.Literals.{unescaped, restricted, escape, content, segm
 use Rattle.lexicon.specs.Bad.{BadEscape, BadSegment, BadFurther, BadQuoted, inFirst, inFurther}
 use Rattle.lexicon.proofs.Spaces.{landed, skips-same}
 use Rattle.string.specs.Parts.{plainRest, item, escapedRest, BadRest}
+use Rattle.string.proofs.Answers.{says-no}
 use Rattle.string.proofs.Among.{Strict, place, found, kept, none-among, which}
 use Rattle.string.proofs.Closed.{closed-single, begins-none}
 use Rattle.string.proofs.Items.{quote, backslash, backslash-unescaped, quote-restricted, quote-item, restricted-single, item-single, strict-of}
@@ -120,7 +121,7 @@ module _ (text : List ℕ) where
   pub segment-plain : (i j : ℕ) → At text quote i → (At text backslash (i + 1) → ⊥) → Longest text plainRest (i + 1) j → Judges text segment (BadSegment text) i (Literal.the-variants.At j false)
   segment-plain i j a n l =
       (record { takes = both (byte a refl) (of-plain n (l .takes)); most = λ t. l .most (to-plain n (segment-rest t)) },
-        record { true-holds = λ e. absurd (false≢true e); holds-true = λ s. absurd (n (bad-rest s .0)) })
+        says-no (λ s. n (bad-rest s .0)))
 
   pub segment-open : (i : ℕ) → (At text backslash (i + 1) → ⊥) → Fails text plainRest (i + 1) → Fails text segment i
   segment-open i n f = record { none = λ t. f .none (to-plain n (segment-rest t)) }

@@ -1,0 +1,1 @@
+// Code points by their numbers.
