@@ -39,9 +39,9 @@ module _ (text : List ℕ) (r : Rule) (P : ℕ → ℕ → Type 0) (single : Sin
       let x = forward (a .before) in let y = strict .less (a .match) in let z = forward (a .behind) in omega arith
 
   last :
-    {i j k x y : ℕ} →
-    Takes text (many r) i x → Takes text (many r) i j → Takes text r j k →
-    Takes text r x y → P x y → Takes text (many r) y k → Among text r P i j ⊎ P j k
+      {i j k x y : ℕ} →
+      Takes text (many r) i x → Takes text (many r) i j → Takes text r j k →
+      Takes text r x y → P x y → Takes text (many r) y k → Among text r P i j ⊎ P j k
   last (stop d) (stop e) s m p b = inr (place P (sym d ∙ e) (single .same (starting (sym d ∙ e) m) s) p)
   last (stop d) (more t c) s m p b =
       inl (record { from = _; upto = _; before = stop d; match = m; holds = p; behind = move (single .same (starting (sym d) m) t) c })
@@ -59,9 +59,10 @@ module _ (text : List ℕ) (r : Rule) (P : ℕ → ℕ → Type 0) (single : Sin
   none-said i = record { true-holds = λ e. absurd (false≢true e); holds-true = λ a. absurd (none-among a) }
 
   pub said :
-    {i j k : ℕ} {b c : Bool} → Takes text (many r) i j → Takes text r j k → Says b (Among text r P i j) → Says c (P j k) →
-    Says (b || c) (Among text r P i k)
+      {i j k : ℕ} {b c : Bool} → Takes text (many r) i j → Takes text r j k → Says b (Among text r P i j) → Says c (P j k) →
+      Says (b || c) (Among text r P i k)
   said {i} {j} {k} {b} {c} t s u v =
       record {
         true-holds = λ e. ⊎-elim (λ x. kept (u .true-holds x) s) (λ x. found t s (v .true-holds x)) (or-cases b c e);
-        holds-true = λ a. ⊎-elim (λ x. or-left b c (u .holds-true x)) (λ x. or-right b c (v .holds-true x)) (which t s a) }
+        holds-true = λ a. ⊎-elim (λ x. or-left b c (u .holds-true x)) (λ x. or-right b c (v .holds-true x)) (which t s a);
+      }

@@ -19,6 +19,9 @@ says-no n = record { true-holds = λ e. absurd (false≢true e); holds-true = λ
 pub says-yes : {P : Type 0} → P → Says true P
 says-yes p = record { true-holds = λ e. p; holds-true = λ q. refl }
 
+pub refuted : {o : Bool} {P : Type 0} → Says o P → o ≡ false → P → ⊥
+refuted s e p = clash (s .holds-true p) e
+
 -- whether a byte stands at a place
 module _ {text : List ℕ} {i b : ℕ} where
   pub stands : i < length text → getD text i 0 ≡ b → Says true (Takes text (one (just b)) i (i + 1))

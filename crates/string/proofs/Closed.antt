@@ -51,5 +51,6 @@ module _ {text : List ℕ} (r : Rule) (c : Class) (single : Single text r) (free
       same : {k : ℕ} → Takes text (many r) k j → At text c k → ⊥
       same (stop e) a = n (subst (λ (x : ℕ). At text c x) e a)
       same (more s d) a = begins-none c r free a .none s
+
       go : {k : ℕ} → Takes text (many r then one c) i k → ⊥
       go (both u (byte a e)) = same (reaches single t f u) a

@@ -1,10 +1,11 @@
 -- Code points by their number: the literal's longest match, its value, and the closing angle of an escape. Assumes nothing.
 use mathlib.Core.Path.{_≡_, refl, subst, subst₂, sym, ap, _∙_}
-use mathlib.Core.Bool.{Bool, true, false}
+use mathlib.Core.Bool.{Bool, true, false, not}
 use mathlib.Core.List.{List, [], _∷_}
 use Prim.Native.Nat.{ℕ, _+_, _≤_, _<_}
 use native.Mathlib.Nat.{le-antisymm}
 use native.Mathlib.Omega.{arith}
+use borrow.Author.Tests.{not-true, not-false}
 use lib.ListN.{length, getD}
 use Rattle.rules.specs.Test.{Says}
 use Rattle.rules.specs.Class.{Class, In, just}
@@ -23,7 +24,8 @@ use Rattle.lexicon.specs.Literals.{codeMark, codeOfBase, codePoint}
 use Rattle.lexicon.specs.Values.{CodeOf}
 use Rattle.lexicon.specs.Bad.{Scalar, BadCode}
 use Rattle.string.specs.Parts.{number, numberAt, BadNumber}
-use Rattle.string.proofs.Marks.{Marked, marked}
+use Rattle.string.proofs.Marks.{markByte, Marked, marked, by-mark, by-digit, begins, mark-long}
+use Rattle.string.proofs.Answers.{refuted, not-there}
 use Rattle.string.proofs.Closed.{byte-single, begins-none}
 
 -- the closing angle is no digit
@@ -83,15 +85,43 @@ module _ {text : List ℕ} where
   bad-code b {s = s} {j = j} m d y =
       record {
         true-holds = λ e.
-          record {
-            number = numberAt text b s j;
-            code = record { base = b; start = s; before = m .mark; all-digits = d; value-is = refl };
-            bad = y .true-holds e };
-        holds-true = λ c. y .holds-true (λ k. c .bad (subst (λ (v : ℕ). Scalar v) (sym (value-same b m (c .code))) k)) }
+            record {
+              number = numberAt text b s j;
+              code = record { base = b; start = s; before = m .mark; all-digits = d; value-is = refl };
+              bad = y .true-holds e;
+            };
+        holds-true = λ c. y .holds-true (λ k. c .bad (subst (λ (v : ℕ). Scalar v) (sym (value-same b m (c .code))) k));
+      }
 
   pub code-judged : (b : Base) (i s : ℕ) (r : Literal) → Marked text i b s → Judges text (number b) (BadNumber text b) s r → Judges text codePoint (BadCode text) i r
   code-judged b i s (Literal.the-variants.At j bad) m y = (judged b m (y .0), bad-code b m (y .0 .takes) (y .1))
   code-judged b i s Literal.the-variants.Nothing m f = record { none = λ t. f .none (digits-of b m t) }
+
+  -- ---- a literal begins with `0c` and has a byte behind it
+
+  zero-of : {i j : ℕ} → Takes text codePoint i j → Takes text (lit "0c") i (i + 2)
+  zero-of t = go (of-some t .0) (of-some t .1)
+    where
+      go : (b : Base) {i j : ℕ} → Takes text (codeOfBase b) i j → Takes text (lit "0c") i (i + 2)
+      go b (both u d) = begins text b u
+
+  zero-at : {i j : ℕ} → Takes text (lit "0c") i j → At text (just 0x30) i
+  zero-at (both (byte a e) t) = a
+
+  c-at : {i j : ℕ} → Takes text (lit "0c") i j → Takes text (one (just 0x63)) (i + 1) j
+  c-at (both (byte a e) t) = starting e t
+
+  pub no-zero : {i : ℕ} {o : Bool} → Says o (Takes text (one (just 0x30)) i (i + 1)) → not o ≡ true → Fails text codePoint i
+  no-zero {o = o} s e = record { none = λ t. not-there s (not-true o e) (zero-at (zero-of t)) }
+
+  pub no-c : {i : ℕ} {o : Bool} → Says o (Takes text (one (just 0x63)) (i + 1) (i + 1 + 1)) → not o ≡ true → Fails text codePoint i
+  no-c {i} {o} s e = record { none = λ t. refuted s (not-true o e) (ending (omega arith) (c-at (zero-of t))) }
+
+  pub no-more : {i : ℕ} → length text ≤ i + 2 → Fails text codePoint i
+  no-more {i} h = record { none = λ t. go (of-some t .0) (of-some t .1) }
+    where
+      go : (b : Base) {j : ℕ} → Takes text (codeOfBase b) i j → ⊥
+      go b (both u d) = let x = mark-long text b u in omega (arith, first-digit d .0)
 
   -- ---- the closing angle
 
@@ -102,8 +132,29 @@ module _ {text : List ℕ} where
       go : (b : Base) {s : ℕ} → Marked text i b s → k ≤ j
       go b m =
           forward (reaches (byte-single (digits b)) (all-many (digits-of b m t)) (begins-none (just 0x3E) (one (digits b)) (angle-digit b) a)
-            (all-many (digits-of b m u)))
+          (all-many (digits-of b m u)))
 
   -- so a literal with the closing angle behind it has one end only
   pub angle-same : {i j k : ℕ} → Takes text codePoint i j → At text (just 0x3E) j → Takes text codePoint i k → At text (just 0x3E) k → j ≡ k
   angle-same t a u b = le-antisymm (angle-most u b t) (angle-most t a u)
+
+-- ---- what each way through the code says
+
+module _ (text : List ℕ) (i : ℕ) (r : Literal) {o p : Bool}
+    (s : Says o (Takes text (one (just 0x30)) i (i + 1))) (e : not o ≡ false)
+    (t : Says p (Takes text (one (just 0x63)) (i + 1) (i + 1 + 1))) (f : not p ≡ false) where
+  zero-c : Takes text (lit "0c") i (i + 2)
+  zero-c =
+      let h : i + 1 + 1 ≡ i + 2 = omega arith in both (s .true-holds (not-false o e)) (ending h (t .true-holds (not-false p f)))
+
+  pub mark-judged : (b : Base) → i + 2 < length text → getD text (i + 2) 0 ≡ markByte b → Judges text (number b) (BadNumber text b) (i + 3) r → Judges text codePoint (BadCode text) i r
+  mark-judged b h x y = code-judged b i (i + 3) r (by-mark text b zero-c h x) y
+
+  pub digit-judged : (getD text (i + 2) 0 ≡ 0x62 → ⊥) → (getD text (i + 2) 0 ≡ 0x6F → ⊥) → (getD text (i + 2) 0 ≡ 0x64 → ⊥) → (getD text (i + 2) 0 ≡ 0x78 → ⊥) → Judges text (number Ten) (BadNumber text Ten) (i + 2) r → Judges text codePoint (BadCode text) i r
+  digit-judged n2 n8 n10 n16 y = code-judged Ten i (i + 2) r (by-digit text zero-c none) y
+    where
+      none : (b : Base) → getD text (i + 2) 0 ≡ markByte b → ⊥
+      none Two = n2
+      none Eight = n8
+      none Ten = n10
+      none Sixteen = n16

@@ -50,6 +50,7 @@ module _ (text : List ℕ) where
     where
       most : {k : ℕ} → Takes text angled i k → k ≤ e + 1
       most (both t (byte b f)) = let x = y .0 .most t in omega arith
+
       back : {d : ℕ} → BadCode text i d → Takes text (lit ">") d (e + 1) → bad ≡ true
       back {d} c (byte b f) = let h : d ≡ e = omega arith in y .1 .holds-true (place (BadCode text) refl h c)
 
@@ -82,26 +83,31 @@ module _ (text : List ℕ) where
 
   pub letter-judged : (i : ℕ) → At text backslash i → At text escapeLetter (i + 1) → Judges text escape (BadEscape text) i (Literal.the-variants.At (i + 2) false)
   letter-judged i a l =
-      let h : i + 2 ≡ i + 1 + 1 = omega arith in
-      (agree escape-single (both (one-at a) (left (byte l h))),
-        says-no (λ b. apart-no escapeLetter (just angle) (getD text (i + 1) 0) letter-angle (l .1) (bad-angled b .0 .1)))
+      let h : i + 2 ≡ i + 1 + 1 = omega arith in (
+        agree escape-single (both (one-at a) (left (byte l h))),
+        says-no (λ b. apart-no escapeLetter (just angle) (getD text (i + 1) 0) letter-angle (l .1) (bad-angled b .0 .1)),
+      )
 
   pub angle-judged : (i : ℕ) (r : Literal) → At text backslash i → At text (just angle) (i + 1) → Judges text angled (BadAngled text) (i + 2) r → Judges text escape (BadEscape text) i r
   angle-judged i r a g y = go r y
     where
       h : i + 2 ≡ i + 1 + 1
       h = omega arith
+
       rest : {k : ℕ} → Takes text (one escapeLetter or lit "<" then angled) (i + 1) k → Takes text angled (i + 2) k
       rest (left (byte b e)) = absurd (apart-no escapeLetter (just angle) (getD text (i + 1) 0) letter-angle (b .1) (g .1))
       rest (right (both (byte b e) t)) = starting (e ∙ sym h) t
+
       go : (r : Literal) → Judges text angled (BadAngled text) (i + 2) r → Judges text escape (BadEscape text) i r
-      go (Literal.the-variants.At j bad) y =
-          (record { takes = both (one-at a) (right (both (byte g h) (y .0 .takes))); most = λ t. y .0 .most (rest (escape-rest t)) },
-            record {
-              true-holds = λ q.
-                let b = y .1 .true-holds q in
-                record { start = i + 2; end = b .end; before = both (one-at a) (byte g h); code = b .code; behind = b .behind };
-              holds-true = λ b. y .1 .holds-true (bad-angled b .1) })
+      go (Literal.the-variants.At j bad) y = (
+        record { takes = both (one-at a) (right (both (byte g h) (y .0 .takes))); most = λ t. y .0 .most (rest (escape-rest t)) },
+        record {
+          true-holds = λ q.
+              let b = y .1 .true-holds q in
+              record { start = i + 2; end = b .end; before = both (one-at a) (byte g h); code = b .code; behind = b .behind };
+          holds-true = λ b. y .1 .holds-true (bad-angled b .1);
+        },
+      )
       go Literal.the-variants.Nothing f = record { none = λ t. f .none (rest (escape-rest t)) }
 
   -- ---- an item of an escaped segment: a character, or else an escape
@@ -122,6 +128,7 @@ module _ (text : List ℕ) where
       esc : {k : ℕ} → Takes text item i k → Takes text escape i k
       esc (left t) = absurd (f .none t)
       esc (right t) = t
+
       go : (r : Literal) → Judges text escape (BadEscape text) i r → Judges text item (BadEscape text) i r
       go (Literal.the-variants.At j bad) y = (record { takes = right (y .0 .takes); most = λ t. y .0 .most (esc t) }, y .1)
       go Literal.the-variants.Nothing n = record { none = λ t. n .none (esc t) }

@@ -55,6 +55,7 @@ module _ {text : List ℕ} where
       thru [] t = absurd t
       thru (w ∷ ws) (inl t) = let x = forward (t .1) in omega arith
       thru (w ∷ ws) (inr t) = thru ws t
+
       go : {i j : ℕ} → Entered text r i j → i < j
       go (inl x) = absurd (clash (x .1) n)
       go (inr t) = thru (ways r) t
@@ -85,6 +86,7 @@ module _ {text : List ℕ} where
       second {i} (right (both (byte b f) u)) (left (byte a e)) = absurd (apart-no escapeLetter (just 0x3C) (getD text i 0) letter-angle (a .1) (b .1))
       second (right (both (byte a e) (both t (byte c g)))) (right (both (byte b f) (both u (byte d h)))) =
           let x = angle-same t c (starting (f ∙ sym e) u) d in omega arith
+
       go : {i j k : ℕ} → Takes text escape i j → Takes text escape i k → j ≡ k
       go (both (byte a e) t) (both (byte b f) u) = second t (starting (f ∙ sym e) u)
 

@@ -10,7 +10,7 @@ use lib.ListN.{length, getD}
 use Rattle.rules.specs.Class.{Class, In, has, just}
 use Rattle.rules.specs.Rule.{Rule, one, _then_, opt, lit, Takes, nothing, byte, both, left, right, At}
 use Rattle.rules.proofs.Classes.{in-just, just-is}
-use Rattle.rules.proofs.Matches.{starting}
+use Rattle.rules.proofs.Matches.{forward}
 use Rattle.lexicon.specs.declared.Base.{Base}
 use Rattle.lexicon.specs.declared.Base.the-variants.{Two, Eight, Ten, Sixteen}
 use Rattle.lexicon.specs.Bytes.{decimal, digits}
@@ -114,8 +114,15 @@ module _ (text : List ℕ) where
     where
       zero-c : {i m n : ℕ} → Takes text (lit "0") i m → Takes text (lit "c") m n → Takes text (lit "0c") i (i + 2)
       zero-c {i} {m} (byte a e) (byte b f) = let h : i + 2 ≡ m + 1 = omega arith in both (byte a e) (byte b h)
+
       go : (b : Base) {i s : ℕ} → Takes text (codeMark b) i s → Takes text (lit "0c") i (i + 2)
       go Two (both t (both u d)) = zero-c t u
       go Eight (both t (both u d)) = zero-c t u
       go Ten (both (both t u) d) = zero-c t u
       go Sixteen (both t (both u d)) = zero-c t u
+
+  pub mark-long : (b : Base) {i s : ℕ} → Takes text (codeMark b) i s → i + 2 ≤ s
+  mark-long Two (both (byte a e) (both (byte b f) (byte d g))) = omega arith
+  mark-long Eight (both (byte a e) (both (byte b f) (byte d g))) = omega arith
+  mark-long Ten (both (both (byte a e) (byte b f)) d) = let x = forward d in omega arith
+  mark-long Sixteen (both (byte a e) (both (byte b f) (byte d g))) = omega arith

@@ -109,19 +109,22 @@ module _ (text : List ℕ) where
 
   -- the answer for the rest of an escaped one
   pub segment-escaped : (i : ℕ) (r : Literal) → At text quote i → At text backslash (i + 1) → Judges text escapedRest (BadRest text) (i + 2) r → Judges text segment (BadSegment text) i r
-  segment-escaped i (Literal.the-variants.At j bad) a b y =
-      (record {
-          takes = both (byte a refl) (of-escaped b (starting (omega arith) (y .0 .takes)));
-          most = λ t. y .0 .most (starting (omega arith) (to-escaped b (segment-rest t))) },
-        record { true-holds = λ e. rest-bad a b (y .1 .true-holds e); holds-true = λ s. y .1 .holds-true (bad-rest s .1) })
+  segment-escaped i (Literal.the-variants.At j bad) a b y = (
+    record {
+      takes = both (byte a refl) (of-escaped b (starting (omega arith) (y .0 .takes)));
+      most = λ t. y .0 .most (starting (omega arith) (to-escaped b (segment-rest t)));
+    },
+    record { true-holds = λ e. rest-bad a b (y .1 .true-holds e); holds-true = λ s. y .1 .holds-true (bad-rest s .1) },
+  )
   segment-escaped i Literal.the-variants.Nothing a b f =
       record { none = λ t. f .none (starting (omega arith) (to-escaped b (segment-rest t))) }
 
   -- and of a plain one
   pub segment-plain : (i j : ℕ) → At text quote i → (At text backslash (i + 1) → ⊥) → Longest text plainRest (i + 1) j → Judges text segment (BadSegment text) i (Literal.the-variants.At j false)
-  segment-plain i j a n l =
-      (record { takes = both (byte a refl) (of-plain n (l .takes)); most = λ t. l .most (to-plain n (segment-rest t)) },
-        says-no (λ s. n (bad-rest s .0)))
+  segment-plain i j a n l = (
+    record { takes = both (byte a refl) (of-plain n (l .takes)); most = λ t. l .most (to-plain n (segment-rest t)) },
+    says-no (λ s. n (bad-rest s .0)),
+  )
 
   pub segment-open : (i : ℕ) → (At text backslash (i + 1) → ⊥) → Fails text plainRest (i + 1) → Fails text segment i
   segment-open i n f = record { none = λ t. f .none (to-plain n (segment-rest t)) }
@@ -158,11 +161,13 @@ module _ (text : List ℕ) where
       subst (λ (x : ℕ). BadSegment text x j) (space-ends (b .before) (bad-takes (b .bad)) y) (b .bad)
 
   pub further-judged : (i s : ℕ) (r : Literal) → Skips text i s → Judges text segment (BadSegment text) s r → Judges text further (BadFurther text) i r
-  further-judged i s (Literal.the-variants.At j bad) p y =
-      (record { takes = both (p .takes) (y .0 .takes); most = λ t. y .0 .most (further-rest p t) },
-        record {
-          true-holds = λ e. record { start = s; before = p .takes; bad = y .1 .true-holds e };
-          holds-true = λ b. y .1 .holds-true (bad-further p b) })
+  further-judged i s (Literal.the-variants.At j bad) p y = (
+    record { takes = both (p .takes) (y .0 .takes); most = λ t. y .0 .most (further-rest p t) },
+    record {
+      true-holds = λ e. record { start = s; before = p .takes; bad = y .1 .true-holds e };
+      holds-true = λ b. y .1 .holds-true (bad-further p b);
+    },
+  )
   further-judged i s Literal.the-variants.Nothing p f = record { none = λ t. f .none (further-rest p t) }
 
   -- ---- the text
@@ -191,7 +196,7 @@ module _ (text : List ℕ) where
         go (inFirst s t) e = y .holds-true (place (BadSegment text) refl (first-same (bad-takes s)) s)
         go (inFurther t a) e =
             absurd (none-among text further (BadFurther text) further-single further-strict
-              (place (Among text further (BadFurther text)) (first-same t) e a))
+            (place (Among text further (BadFurther text)) (first-same t) e a))
 
     -- one more segment
     pub next-said : {j k : ℕ} {b c : Bool} → Takes text (many further) m j → Takes text further j k → Says b (BadQuoted text i j) → Says c (BadFurther text j k) → Says (b || c) (BadQuoted text i k)
@@ -201,9 +206,10 @@ module _ (text : List ℕ) where
         more-bad : {j k : ℕ} → BadQuoted text i j → Takes text further j k → BadQuoted text i k
         more-bad (inFirst x u) s = inFirst x (snoc u s)
         more-bad (inFurther x a) s = inFurther x (kept a s)
+
         back : BadQuoted text i k → (b || c) ≡ true
         back (inFirst x u) = or-left b c (y .holds-true (inFirst (place (BadSegment text) refl (first-same (bad-takes x)) x) t))
         back (inFurther x a) =
             ⊎-elim (λ p. or-left b c (y .holds-true (inFurther first p))) (λ p. or-right b c (z .holds-true p))
             (which text further (BadFurther text) further-single further-strict t s
-              (place (Among text further (BadFurther text)) (first-same x) refl a))
+            (place (Among text further (BadFurther text)) (first-same x) refl a))

@@ -9,13 +9,17 @@ use borrow.Author.Tests.{not-true, not-false}
 use lib.ListN.{length, getD}
 use Rattle.rules.specs.Test.{Says}
 use Rattle.rules.specs.Class.{Class, In, has, just}
-use Rattle.rules.specs.Rule.{Rule, one, _then_, many, row, Takes, nothing, byte, both, stop, more, At, Longest, Fails}
+use Rattle.rules.specs.Rule.{Rule, one, _then_, many, row, lit, Takes, nothing, byte, both, stop, more, At, Longest, Fails}
 use Rattle.rules.proofs.Bools.{not-both}
 use Rattle.rules.proofs.Classes.{in-just, just-is}
 use Rattle.rules.proofs.Matches.{starting, one-at}
 use Rattle.rules.proofs.Chains.{snoc, longest}
+use Rattle.lexicon.specs.declared.Head.{Head}
+use Rattle.lexicon.specs.declared.Head.the-variants.{Array, Set, Bag, Mix, IntervalSet, IntervalBag, TupleArray, Relation, TupleBag, Article, Excuse, Heading, Renaming}
 use Rattle.lexicon.specs.Bytes.{wordStart, wordRest}
 use Rattle.lexicon.specs.Literals.{word}
+use Rattle.lexicon.specs.Token.{headWord}
+use Rattle.string.specs.Parts.{NoneOf, collections}
 use Rattle.string.proofs.Answers.{says-no, says-yes, there, not-there}
 use Rattle.string.proofs.Closed.{byte-single}
 
@@ -56,6 +60,7 @@ module _ {text : List ℕ} {i j : ℕ} where
         where
           go : {k : ℕ} → Takes text (one wordRest) j k → ⊥
           go (byte b e) = n b
+
       most : {k : ℕ} → Takes text word i k → k ≤ j
       most (both (byte b e) t) = longest (byte-single wordRest) (p .rest) stops .most (starting e t)
 
@@ -74,9 +79,10 @@ module _ (text : List ℕ) where
 
   first-byte : (b i : ℕ) → (i + 0 < length text) × (getD text (i + 0) 0 ≡ b) → At text (just b) i
   first-byte b i s =
-      let e : i + 0 ≡ i = omega arith in
-      (omega arith,
-        subst (λ (x : ℕ). In (just b) x) (sym (s .1) ∙ ap (λ (k : ℕ). getD text k 0) e) (in-just b))
+      let e : i + 0 ≡ i = omega arith in (
+        omega arith,
+        subst (λ (x : ℕ). In (just b) x) (sym (s .1) ∙ ap (λ (k : ℕ). getD text k 0) e) (in-just b),
+      )
 
   tail-same : (b : ℕ) (w : List ℕ) (i n : ℕ) → Same (b ∷ w) i (suc n) → Same w (i + 1) n
   tail-same b w i n s k h =
@@ -131,8 +137,8 @@ module _ (text w : List ℕ) (i j : ℕ) where
   pub spells-other : (k : ℕ) (o : Bool) → k < length w → Says o (Takes text (one (just (getD w k 0))) (i + k) (i + k + 1)) → not o ≡ true → Says false (Takes text (row w) i j)
   spells-other k o h s e =
       says-no (λ t.
-        let p = row-same text w t k h in
-        not-there s (not-true o e) (p .0, subst (λ (x : ℕ). In (just (getD w k 0)) x) (sym (p .1)) (in-just (getD w k 0))))
+      let p = row-same text w t k h in
+      not-there s (not-true o e) (p .0, subst (λ (x : ℕ). In (just (getD w k 0)) x) (sym (p .1)) (in-just (getD w k 0))))
 
   pub spells-more : (k : ℕ) (o : Bool) → k < length w → Matched text w i k → Says o (Takes text (one (just (getD w k 0))) (i + k) (i + k + 1)) → not o ≡ false → Matched text w i (k + 1)
   spells-more k o h m s e = record { same = below-more _ k (m .same) (a .0, just-is _ _ (a .1)); within = omega arith }
@@ -142,3 +148,22 @@ module _ (text w : List ℕ) (i j : ℕ) where
 
   pub spells-none : Matched text w i 0
   spells-none = record { same = λ k h. absurd (omega arith); within = omega arith }
+
+-- ---- head words
+
+pub no-head :
+    (text : List ℕ) (i j : ℕ) → NoneOf text collections i j → (Takes text (lit "Article") i j → ⊥) → (Takes text (lit "Excuse") i j → ⊥) →
+    (Takes text (lit "Heading") i j → ⊥) → (Takes text (lit "Renaming") i j → ⊥) → (h : Head) → Takes text (lit (headWord h)) i j → ⊥
+no-head text i j n a e d r Array = n .0
+no-head text i j n a e d r Set = n .1 .0
+no-head text i j n a e d r Bag = n .1 .1 .0
+no-head text i j n a e d r Mix = n .1 .1 .1 .0
+no-head text i j n a e d r IntervalSet = n .1 .1 .1 .1 .0
+no-head text i j n a e d r IntervalBag = n .1 .1 .1 .1 .1 .0
+no-head text i j n a e d r TupleArray = n .1 .1 .1 .1 .1 .1 .0
+no-head text i j n a e d r Relation = n .1 .1 .1 .1 .1 .1 .1 .0
+no-head text i j n a e d r TupleBag = n .1 .1 .1 .1 .1 .1 .1 .1 .0
+no-head text i j n a e d r Article = a
+no-head text i j n a e d r Excuse = e
+no-head text i j n a e d r Heading = d
+no-head text i j n a e d r Renaming = r

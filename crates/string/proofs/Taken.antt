@@ -1,0 +1,49 @@
+-- An answer taken apart: what a contract by cases says, once the answer's variant is known. Assumes nothing.
+use mathlib.Core.Path.{_≡_, subst}
+use mathlib.Core.Logic.{_⊎_, inl, inr, ⊎-elim}
+use mathlib.Core.Bool.{Bool}
+use mathlib.Core.List.{List, [], _∷_}
+use Prim.Native.Nat.{ℕ}
+use native.Mathlib.Omega.{arith}
+use types.Run.{OneOf}
+use denote.Enum.Declared.{tagOf}
+use Rattle.rules.specs.Rule.{Rule, lit, Takes, Longest, Fails}
+use Rattle.lexicon.proofs.Found as FoundType
+use Rattle.lexicon.proofs.Literal as LiteralType
+use Rattle.lexicon.proofs.Form as FormType
+use Rattle.lexicon.specs.declared.Found as Found
+use Rattle.lexicon.specs.declared.Found.{Found}
+use Rattle.lexicon.specs.declared.Literal as Literal
+use Rattle.lexicon.specs.declared.Literal.{Literal}
+use Rattle.lexicon.specs.declared.Head.{Head}
+use Rattle.lexicon.specs.declared.Form as Form
+use Rattle.lexicon.specs.declared.Form.{Form}
+use Rattle.lexicon.specs.Found.{Finds, Judges}
+use Rattle.lexicon.specs.Token.{headWord}
+use Rattle.string.specs.Parts.{NoneOf, TellsOf}
+
+module _ {text : List ℕ} {r : Rule} {i : ℕ} where
+  pub found-at : {f : Found} {j : ℕ} → f ≡ Found.the-variants.At j → Finds text r i f → Longest text r i j
+  found-at e y = subst (λ (x : Found). Finds text r i x) e y
+
+  pub found-none : (f : Found) → OneOf (1 ∷ []) (tagOf FoundType.the-type f) → Finds text r i f → Fails text r i
+  found-none (Found.the-variants.At j) e y = absurd (omega arith)
+  found-none Found.the-variants.Nothing e y = y
+
+  module _ (P : ℕ → ℕ → Type 0) where
+    pub literal-at : {l : Literal} {j : ℕ} {b : Bool} → l ≡ Literal.the-variants.At j b → Judges text r P i l → Judges text r P i (Literal.the-variants.At j b)
+    literal-at e y = subst (λ (x : Literal). Judges text r P i x) e y
+
+    pub literal-none : (l : Literal) → OneOf (1 ∷ []) (tagOf LiteralType.the-type l) → Judges text r P i l → Fails text r i
+    literal-none (Literal.the-variants.At j b) e y = absurd (omega arith)
+    literal-none Literal.the-variants.Nothing e y = y
+
+module _ (text : List ℕ) (hs : List Head) (i j : ℕ) where
+  pub head-at : {f : Form} {h : Head} → f ≡ Form.the-variants.HeadWord h → TellsOf text hs i j f → Takes text (lit (headWord h)) i j
+  head-at e y = subst (λ (x : Form). TellsOf text hs i j x) e y
+
+  pub head-none : (f : Form) → OneOf (0 ∷ 1 ∷ 3 ∷ []) (tagOf FormType.the-type f) → TellsOf text hs i j f → NoneOf text hs i j
+  head-none Form.the-variants.Quoted e y = absurd y
+  head-none Form.the-variants.Word e y = y
+  head-none (Form.the-variants.HeadWord h) e y = ⊎-elim (λ x. absurd (omega arith)) (λ x. ⊎-elim (λ y. absurd (omega arith)) (λ y. absurd (omega arith)) x) e
+  head-none Form.the-variants.CodePoint e y = absurd y
