@@ -132,7 +132,6 @@ module _ (text : List ℕ) (n : ℕ) (c : Class) where
       first : {i m e j : ℕ} → ((x : ℕ) → Takes text (unit n c) x e → SomeRow x j) → Takes text (unit n c) i m → Takes text (many (unit n c)) m e → SomeRow i j
       first {i} f u (stop e) = f i (ending e u)
       first f u (more v us) = let r = first f v us in (_, nextUnit u (right (nothing refl)) (r .1))
-
       later : {e j : ℕ} → Takes text (many (joint then plus (unit n c))) e j → (x : ℕ) → Takes text (unit n c) x e → SomeRow x j
       later (stop e) x u = (_, lastUnit (ending e u))
       later (more (both t (both v us)) rest) x u = let r = first (λ y w. later rest y w) v us in (_, nextUnit u (left t) (r .1))

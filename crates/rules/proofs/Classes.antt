@@ -30,8 +30,8 @@ apart-span s [] b a l h i = false≢true i
 apart-span s (t ∷ d) b a l h i =
     ⊎-elim
     (λ e.
-    ⊎-elim (λ x. omega (arith, ltb-true (s .high) (t .low) x, low≤ t b e)) (λ x. omega (arith, ltb-true (t .high) (s .low) x, ≤high t b e))
-    (or-cases (ltb (s .high) (t .low)) _ (and-left (ltb (s .high) (t .low) || ltb (t .high) (s .low)) _ a)))
+      ⊎-elim (λ x. omega (arith, ltb-true (s .high) (t .low) x, low≤ t b e)) (λ x. omega (arith, ltb-true (t .high) (s .low) x, ≤high t b e))
+      (or-cases (ltb (s .high) (t .low)) _ (and-left (ltb (s .high) (t .low) || ltb (t .high) (s .low)) _ a)))
     (λ e. apart-span s d b (and-right (ltb (s .high) (t .low) || ltb (t .high) (s .low)) _ a) l h e)
     (or-cases (leb (t .low) b && leb b (t .high)) _ i)
 
