@@ -7,6 +7,7 @@ use mathlib.Core.Bool.{true}
 use mathlib.Core.List.{List, [], _∷_, _++_, append-assoc}
 use Prim.Native.Nat.{ℕ, zero, suc, _+_, _≤_, _<_}
 use native.Mathlib.Decide.{decLe}
+use native.Mathlib.Nat.{not-suc-le-zero, le-of-suc-le-suc, add-zero}
 use native.Mathlib.Omega.{arith}
 use lib.ListN.{length, getD}
 use Rattle.rules.specs.Class.{Class, In, has, just, anyOf}
@@ -29,7 +30,7 @@ underscore-space : never (anyOf "_") sp ≡ true
 unfolding never apart apartSpan
 underscore-space = refl
 
-underscore-blank : never (anyOf "_") blank ≡ true
+pub underscore-blank : never (anyOf "_") blank ≡ true
 unfolding never apart apartSpan
 underscore-blank = refl
 
@@ -40,6 +41,17 @@ module _ {text : List ℕ} where
 
   pub unit-at : (n : ℕ) {c : Class} {i j : ℕ} → Takes text (unit (suc n) c) i j → At text c i
   unit-at n (both (byte a e) u) = a
+
+  -- a unit is read byte by byte
+  pub unit-snoc : (n : ℕ) (c : Class) {i j : ℕ} → Takes text (unit n c) i j → At text c j → Takes text (unit (suc n) c) i (j + 1)
+  unit-snoc zero c (nothing e) a = both (byte (subst (λ (k : ℕ). At text c k) (sym e) a) refl) (nothing (ap (λ (k : ℕ). k + 1) e))
+  unit-snoc (suc n) c (both x u) a = both x (unit-snoc n c u a)
+
+  pub unit-byte : (n : ℕ) (c : Class) (i : ℕ) {j : ℕ} → Takes text (unit n c) i j → (k : ℕ) → k < n → At text c (i + k)
+  unit-byte zero c i u k h = absurd (not-suc-le-zero h)
+  unit-byte (suc n) c i (both (byte a e) u) zero h = subst (λ (k : ℕ). At text c k) (sym (add-zero i)) a
+  unit-byte (suc n) c i (both (byte a e) u) (suc k) h =
+      subst (λ (x : ℕ). At text c x) (omega arith) (unit-byte n c (i + 1) (starting e u) k (le-of-suc-le-suc h))
 
   -- two joints from one place, each followed by a digit, end in one place
   joint-same : {c : Class} → Clear c → {m k l : ℕ} → Takes text (opt joint) m k → At text c k → Takes text (opt joint) m l → At text c l → k ≡ l
@@ -76,7 +88,7 @@ module _ (text : List ℕ) (n : ℕ) (c : Class) (cl : Clear c) where
   abbrev pub Row : ℕ → ℕ → List ℕ → Type 0
   Row i j ds = Digits text (suc n) c i j ds
 
-  digits-at : {i j : ℕ} {ds : List ℕ} → Row i j ds → At text c i
+  pub digits-at : {i j : ℕ} {ds : List ℕ} → Row i j ds → At text c i
   digits-at (lastUnit u) = unit-at n u
   digits-at (nextUnit u s d) = unit-at n u
 
@@ -132,9 +144,13 @@ module _ (text : List ℕ) (n : ℕ) (c : Class) where
       first : {i m e j : ℕ} → ((x : ℕ) → Takes text (unit n c) x e → SomeRow x j) → Takes text (unit n c) i m → Takes text (many (unit n c)) m e → SomeRow i j
       first {i} f u (stop e) = f i (ending e u)
       first f u (more v us) = let r = first f v us in (_, nextUnit u (right (nothing refl)) (r .1))
+
+      go : {x e k j : ℕ} → Takes text (unit n c) x e → Takes text joint e k → SomeRow k j → SomeRow x j
+      go u t r = (_, nextUnit u (left t) (r .1))
+
       later : {e j : ℕ} → Takes text (many (joint then plus (unit n c))) e j → (x : ℕ) → Takes text (unit n c) x e → SomeRow x j
       later (stop e) x u = (_, lastUnit (ending e u))
-      later (more (both t (both v us)) rest) x u = let r = first (λ y w. later rest y w) v us in (_, nextUnit u (left t) (r .1))
+      later (more (both t (both v us)) rest) x u = go u t (first (λ y w. later rest y w) v us)
 
   pub of-row : {i j : ℕ} {ds : List ℕ} → Digits text n c i j ds → Takes text (groups n c) i j
   of-row (lastUnit u) = both (both u (stop refl)) (stop refl)

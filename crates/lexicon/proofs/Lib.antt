@@ -1,3 +1,7 @@
 -- The laws of the token rules.
 pub mod Spaces
 pub mod Groups
+pub mod Numbers
+pub mod Integers
+pub mod Fractions
+pub mod Powers

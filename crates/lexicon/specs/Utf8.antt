@@ -32,7 +32,7 @@ sequence = range 0x00 0x7F or beyond 0xC2
 
 module _ (text : List ℕ) where
   -- the whole text is well-formed sequences from the front
-  pub WellFormed : Type 0
+  abbrev pub WellFormed : Type 0
   WellFormed = Takes text (many sequence) 0 (length text)
 
   -- the first byte at which, reading well-formed sequences from the front, none begins

@@ -8,7 +8,7 @@ use native.Mathlib.Omega.{arith}
 use borrow.Author.Tests.{leb-true, ltb-true, le-leb}
 use lib.Dec.{leb, ltb}
 use Rattle.rules.specs.Class.{Span, Class, has, In, just}
-use Rattle.rules.proofs.Bools.{and-left, and-right, and-both, or-cases, or-left}
+use Rattle.rules.proofs.Bools.{and-left, and-right, and-both, or-cases, or-left, or-right}
 
 unfoldable pub apartSpan : Span → Class → Bool
 apartSpan s [] = true
@@ -30,8 +30,8 @@ apart-span s [] b a l h i = false≢true i
 apart-span s (t ∷ d) b a l h i =
     ⊎-elim
     (λ e.
-      ⊎-elim (λ x. omega (arith, ltb-true (s .high) (t .low) x, low≤ t b e)) (λ x. omega (arith, ltb-true (t .high) (s .low) x, ≤high t b e))
-      (or-cases (ltb (s .high) (t .low)) _ (and-left (ltb (s .high) (t .low) || ltb (t .high) (s .low)) _ a)))
+    ⊎-elim (λ x. omega (arith, ltb-true (s .high) (t .low) x, low≤ t b e)) (λ x. omega (arith, ltb-true (t .high) (s .low) x, ≤high t b e))
+    (or-cases (ltb (s .high) (t .low)) _ (and-left (ltb (s .high) (t .low) || ltb (t .high) (s .low)) _ a)))
     (λ e. apart-span s d b (and-right (ltb (s .high) (t .low) || ltb (t .high) (s .low)) _ a) l h e)
     (or-cases (leb (t .low) b && leb b (t .high)) _ i)
 
@@ -55,3 +55,34 @@ just-is a b i =
     ⊎-elim (λ e. omega (arith, leb-true a b (and-left (leb a b) (leb b a) e), leb-true b a (and-right (leb a b) (leb b a) e)))
     (λ e. absurd (false≢true e))
     (or-cases (leb a b && leb b a) false i)
+
+-- ---- inclusion, each span in one of the other class's
+
+unfoldable pub inSome : Span → Class → Bool
+inSome s [] = false
+inSome s (t ∷ d) = leb (t .low) (s .low) && leb (s .high) (t .high) || inSome s d
+
+unfoldable pub includes : Class → Class → Bool
+includes [] d = true
+includes (s ∷ c) d = inSome s d && includes c d
+
+in-some : (s : Span) (d : Class) (b : ℕ) → inSome s d ≡ true → s .low ≤ b → b ≤ s .high → In d b
+unfolding inSome has
+in-some s [] b e l h = absurd (false≢true e)
+in-some s (t ∷ d) b e l h =
+    ⊎-elim
+    (λ x.
+    or-left (leb (t .low) b && leb b (t .high)) (has d b)
+    (and-both (leb (t .low) b) (leb b (t .high))
+    (le-leb (t .low) b (omega (arith, leb-true (t .low) (s .low) (and-left (leb (t .low) (s .low)) (leb (s .high) (t .high)) x))))
+    (le-leb b (t .high) (omega (arith, leb-true (s .high) (t .high) (and-right (leb (t .low) (s .low)) (leb (s .high) (t .high)) x))))))
+    (λ x. or-right (leb (t .low) b && leb b (t .high)) (has d b) (in-some s d b x l h))
+    (or-cases (leb (t .low) (s .low) && leb (s .high) (t .high)) (inSome s d) e)
+
+pub includes-in : (c d : Class) (b : ℕ) → includes c d ≡ true → In c b → In d b
+unfolding includes has
+includes-in [] d b e i = absurd (false≢true i)
+includes-in (s ∷ c) d b e i =
+    ⊎-elim (λ x. in-some s d b (and-left (inSome s d) _ e) (low≤ s b x) (≤high s b x))
+    (λ x. includes-in c d b (and-right (inSome s d) _ e) x)
+    (or-cases (leb (s .low) b && leb b (s .high)) (has c b) i)

@@ -65,7 +65,7 @@ module _ (text : List ℕ) where
   then-enter a b i m j (inl x) (inl y) u = inl (omega arith, and-both (nullable a) (nullable b) (x .1) (y .1))
   then-enter a b i m j (inl x) (inr t) u =
       inr (second (follow b (ways a)) _ i j
-        (subst (λ (v : Bool). Through (cond v (ways b) []) i j) (sym (x .1)) (subst (λ (n : ℕ). Through (ways b) n j) (sym (x .0)) t)))
+      (subst (λ (v : Bool). Through (cond v (ways b) []) i j) (sym (x .1)) (subst (λ (n : ℕ). Through (ways b) n j) (sym (x .0)) t)))
 
   or-first : (a b : Rule) (i j : ℕ) → Entered a i j → Entered (a or b) i j
   or-first a b i j (inl x) = inl (x .0, or-left (nullable a) (nullable b) (x .1))
@@ -137,14 +137,15 @@ module _ (text : List ℕ) where
       thru [] t = t
       thru (w ∷ ws) (inl t) = omega (arith, t .0 .0)
       thru (w ∷ ws) (inr t) = thru ws t
+
       go : (ws : List Way) → ((i ≡ j) × (nullable r ≡ true)) ⊎ Through text ws i j → ⊥
       go ws (inl x) = clash (x .1) e
       go ws (inr t) = thru ws t
 
   pair-covers :
-    (f : Rule → Rule → Bool) (w : Way) (vs : List Way) (i e j : ℕ) →
-    ((r s : Rule) → f r s ≡ true → Takes text r (i + 1) e → Takes text s (i + 1) j → j ≤ e) →
-    pairs f w vs ≡ true → At text (w .class) i → Takes text (w .rest) (i + 1) e → Through text vs i j → j ≤ e
+      (f : Rule → Rule → Bool) (w : Way) (vs : List Way) (i e j : ℕ) →
+      ((r s : Rule) → f r s ≡ true → Takes text r (i + 1) e → Takes text s (i + 1) j → j ≤ e) →
+      pairs f w vs ≡ true → At text (w .class) i → Takes text (w .rest) (i + 1) e → Through text vs i j → j ≤ e
   pair-covers f w [] i e j h p a t u = absurd u
   pair-covers f w (v ∷ vs) i e j h p a t (inl u) = go (apart (w .class) (v .class)) refl (and-left (elim (apart (w .class) (v .class)) [ true ↦ true | false ↦ f (w .rest) (v .rest) ]) (pairs f w vs) p)
     where
@@ -155,9 +156,9 @@ module _ (text : List ℕ) where
       pair-covers f w vs i e j h (and-right (elim (apart (w .class) (v .class)) [ true ↦ true | false ↦ f (w .rest) (v .rest) ]) (pairs f w vs) p) a t u
 
   all-cover :
-    (f : Rule → Rule → Bool) (ws vs : List Way) (i e j : ℕ) →
-    ((r s : Rule) → f r s ≡ true → Takes text r (i + 1) e → Takes text s (i + 1) j → j ≤ e) →
-    allPairs f ws vs ≡ true → Through text ws i e → Through text vs i j → j ≤ e
+      (f : Rule → Rule → Bool) (ws vs : List Way) (i e j : ℕ) →
+      ((r s : Rule) → f r s ≡ true → Takes text r (i + 1) e → Takes text s (i + 1) j → j ≤ e) →
+      allPairs f ws vs ≡ true → Through text ws i e → Through text vs i j → j ≤ e
   all-cover f [] vs i e j h p t u = absurd t
   all-cover f (w ∷ ws) vs i e j h p (inl t) u = pair-covers f w vs i e j h (and-left (pairs f w vs) _ p) (t .0) (t .1) u
   all-cover f (w ∷ ws) vs i e j h p (inr t) u = all-cover f ws vs i e j h (and-right (pairs f w vs) _ p) t u

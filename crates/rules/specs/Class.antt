@@ -15,7 +15,6 @@ pub record Span : Type 0 where
   pub high : ℕ
 
 infix 80 _upto_ _to_
-
 -- by the bytes' numbers, 0x80 upto 0xBF, or by their characters, "A" to "Z"
 abbrev pub _upto_ : ℕ → ℕ → Span
 a upto b = record { low = a; high = b }

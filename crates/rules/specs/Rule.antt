@@ -17,7 +17,6 @@ pub data Rule : Type 0 where
 
 infixr 50 _then_
 infixr 45 _or_
-
 -- the source's `+`, `?`, `** n` and `% q`
 abbrev pub plus : Rule → Rule
 plus r = r then many r
@@ -30,7 +29,6 @@ times zero r = empty
 times (suc n) r = r then times n r
 
 infix 55 _sepBy_
-
 abbrev pub _sepBy_ : Rule → Rule → Rule
 r sepBy q = r then many (q then r)
 

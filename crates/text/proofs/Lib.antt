@@ -1,3 +1,8 @@
 -- The laws that the proofs of the functions cite.
 pub mod Table
 pub mod Sets
+pub mod Ranges
+pub mod Searches
+pub mod Sequences
+pub mod Spaces
+pub mod Lines

@@ -5,14 +5,14 @@ use mathlib.Core.Bool.{Bool, true, false, _&&_}
 use mathlib.Core.List.{List, [], _∷_, List·Memᴰ, List·Memᴰ·head as here, List·Memᴰ·tail as there}
 use Prim.Native.Nat.{ℕ, _<_, _/_, _%_}
 use lib.Dec.{eqb}
-use lib.ListN.{length, getD}
+use lib.ListN.{getD}
 use borrow.Author.Tests.{eqb-true}
 use Rattle.rules.specs.Class.{has}
 use Rattle.rules.proofs.Bools.{and-left, and-right}
 use Rattle.lexicon.specs.Bytes.{classOf, members, weight, sets, bit}
 use Rattle.lexicon.specs.declared.Set.{Set}
 use Rattle.lexicon.specs.declared.Set.the-variants.{Binary, Octal, Decimal, Hexadecimal, Base64, WordStart, WordRest, Dividing}
-use Rattle.text.proofs.Table.{listed, every, entry}
+use Rattle.text.proofs.Table.{listed, entry}
 
 -- the set's bit of a class
 abbrev bitOf : Set → ℕ → ℕ

@@ -1,2 +1,6 @@
-// What stands below tokens: the class of a byte, UTF-8, the front that is dropped, dividing space.
+// What stands below tokens: a byte and its class, UTF-8, the front that is dropped, dividing space.
+pub mod byte;
 pub mod class;
+pub mod front;
+pub mod space;
+pub mod utf8;

@@ -1,0 +1,3 @@
+-- What the private functions of this crate answer.
+pub mod Tally
+pub mod Groups

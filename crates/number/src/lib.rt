@@ -1,0 +1,3 @@
+// The numeric literals: Integer, Fraction, Bits and Blob.
+mod groups;
+mod tally;

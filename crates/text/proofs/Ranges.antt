@@ -1,0 +1,75 @@
+-- A byte of a range, by its bounds. Assumes nothing.
+use mathlib.Core.Path.{_≡_, refl, subst, sym}
+use mathlib.Core.Logic.{⊎-elim}
+use mathlib.Core.Bool.{true, false, _&&_, false≢true}
+use mathlib.Core.List.{List, [], _∷_}
+use Prim.Native.Nat.{ℕ, _+_, _≤_, _<_}
+use lib.Dec.{leb}
+use lib.ListN.{length, getD}
+use native.Mathlib.Omega.{arith}
+use borrow.Author.Tests.{leb-true, leb-false, le-leb}
+use Rattle.rules.specs.Test.{Says}
+use Rattle.rules.specs.Class.{Class, _upto_, just, has, In}
+use Rattle.rules.specs.Rule.{one, Takes, byte}
+use Rattle.rules.proofs.Bools.{and-left, and-right, and-both, or-cases, or-left, or-right, decide}
+use Rattle.rules.proofs.Classes.{in-just}
+use Rattle.rules.proofs.Matches.{byte-at}
+use Rattle.lexicon.specs.Utf8.{range}
+
+-- the first span of a class has the byte
+pub in-first : (low high : ℕ) (c : Class) (b : ℕ) → low ≤ b → b ≤ high → In (low upto high ∷ c) b
+unfolding has
+in-first low high c b l h = or-left (leb low b && leb b high) (has c b) (and-both (leb low b) (leb b high) (le-leb low b l) (le-leb b high h))
+
+-- or a later one
+pub in-later : (low high : ℕ) (c : Class) (b : ℕ) → In c b → In (low upto high ∷ c) b
+unfolding has
+in-later low high c b i = or-right (leb low b && leb b high) (has c b) i
+
+between : (low high b : ℕ) → In (low upto high ∷ []) b → (leb low b && leb b high) ≡ true
+unfolding has
+between low high b i = ⊎-elim (λ e. e) (λ e. absurd (false≢true e)) (or-cases (leb low b && leb b high) false i)
+
+pub low-in : (low high b : ℕ) → In (low upto high ∷ []) b → low ≤ b
+low-in low high b i = leb-true low b (and-left (leb low b) (leb b high) (between low high b i))
+
+pub in-high : (low high b : ℕ) → In (low upto high ∷ []) b → b ≤ high
+in-high low high b i = leb-true b high (and-right (leb low b) (leb b high) (between low high b i))
+
+-- the ways out of `within`: no byte stands there, it is low enough, it is too low
+module _ {text : List ℕ} {low high at : ℕ} where
+  pub no-byte : length text ≤ at → Says false (Takes text (range low high) at (at + 1))
+  no-byte h = record { true-holds = λ e. absurd (false≢true e); holds-true = λ t. absurd (omega (arith, byte-at t .0)) }
+
+  pub high-enough : at < length text → low ≤ getD text at 0 → Says (leb (getD text at 0) high) (Takes text (range low high) at (at + 1))
+  high-enough l h =
+      record {
+        true-holds = λ e. byte (l, in-first low high [] (getD text at 0) h (leb-true (getD text at 0) high e)) refl;
+        holds-true = λ t. le-leb (getD text at 0) high (in-high low high (getD text at 0) (byte-at t .1));
+      }
+
+  pub too-low : getD text at 0 < low → Says (leb low (getD text at 0)) (Takes text (range low high) at (at + 1))
+  too-low h =
+      record {
+        true-holds = λ e. absurd (omega (arith, leb-true low (getD text at 0) e));
+        holds-true = λ t. le-leb low (getD text at 0) (low-in low high (getD text at 0) (byte-at t .1));
+      }
+
+-- a byte that is known
+pub byte-is : {text : List ℕ} (b i : ℕ) → i < length text → getD text i 0 ≡ b → Takes text (one (just b)) i (i + 1)
+byte-is b i h e = byte (h, subst (λ (x : ℕ). In (just b) x) (sym e) (in-just b)) refl
+
+-- any byte but n + 1
+pub byte-but : {text : List ℕ} (n i : ℕ) → i < length text → (getD text i 0 ≡ n + 1 → ⊥) → getD text i 0 < 256 → Takes text (one (0 upto n ∷ (n + 2) upto 255 ∷ [])) i (i + 1)
+byte-but {text} n i h other f =
+    byte (h, ⊎-elim (λ e. below (leb-true (getD text i 0) n e)) (λ e. above (leb-false (getD text i 0) n e)) (decide (leb (getD text i 0) n))) refl
+  where
+    below : getD text i 0 ≤ n → In (0 upto n ∷ (n + 2) upto 255 ∷ []) (getD text i 0)
+    below l = in-first 0 n ((n + 2) upto 255 ∷ []) (getD text i 0) (omega arith) l
+
+    above : n < getD text i 0 → In (0 upto n ∷ (n + 2) upto 255 ∷ []) (getD text i 0)
+    above l = in-later 0 n ((n + 2) upto 255 ∷ []) (getD text i 0) (in-first (n + 2) 255 [] (getD text i 0) (omega arith) (omega arith))
+
+-- a byte that stands within the bounds
+pub in-range : (text : List ℕ) (low high i : ℕ) → i < length text → low ≤ getD text i 0 → getD text i 0 ≤ high → Takes text (range low high) i (i + 1)
+in-range text low high i l a b = byte (l, in-first low high [] (getD text i 0) a b) refl

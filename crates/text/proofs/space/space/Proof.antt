@@ -1,0 +1,129 @@
+-- `text::space::space` meets its contract. Outer invariant: what stands up to `end` is a run of space. Inner: `end` is unchanged, and no
+-- grave accent stands between it and `i`. What is left of the text is the measure of both. Assumes nothing.
+use mathlib.Core.Path.{_≡_, refl}
+use Prim.Native.Nat.{_+_, _≤_, _-_}
+use lib.ListN.{length}
+use native.Mathlib.Omega.{arith}
+use borrow.Author.Needs.{needs}
+use borrow.Author.Tests.{not-true, not-false}
+use Rattle.rules.specs.Rule.{one, many, Takes, stop}
+use Rattle.rules.proofs.Matches.{forward}
+use Rattle.rules.proofs.Chains.{snoc}
+use Rattle.lexicon.specs.Space.{grave, notGrave, blank}
+use Rattle.lexicon.proofs.Spaces.{skips}
+use Rattle.text.proofs.Ranges.{byte-is, byte-but}
+use Rattle.text.proofs.Spaces.{blank-byte, no-blank, no-blank-end, comment-blank, lone-grave}
+use Rattle.text.proofs.space.space.Statement.{statement}
+use Rattle.text.proofs.space.space.Tie as tie
+
+abbrev Inv-loop : tie.InvT-loop
+Inv-loop text at end₀ i₀ end i = (end ≡ end₀) × (i ≤ length text) × Takes text (many (one notGrave)) (end₀ + 1) i
+
+abbrev μ-loop : tie.MeasureT-loop
+μ-loop text at end₀ i₀ end i = length text - i
+
+abbrev Inv-space : tie.InvT-space
+Inv-space text at end₀ end = Takes text (many blank) at end
+
+abbrev μ-space : tie.MeasureT-space
+μ-space text at end₀ end = length text - end
+
+-- where a comment begins
+opener :
+    (c : tie.Else1 Inv-loop μ-loop Inv-space μ-space) →
+    Takes (c .before .before .before .before .before .args .text .now) (one grave) (c .before .before .before .space .end) (c .before .before .before .space .end + 1)
+opener c = byte-is 0x60 (c .before .before .before .space .end) (c .before .before .space-test .taken) (c .if1 .left)
+
+space-holds : tie.Need-space-holds Inv-loop μ-loop Inv-space μ-space
+space-holds c = stop refl
+
+shared-slice-read-if1 : tie.Need-shared-slice-read-if1 Inv-loop μ-loop Inv-space μ-space
+shared-slice-read-if1 c = omega arith
+
+shared-slice-read-in-set : tie.Need-shared-slice-read-in-set Inv-loop μ-loop Inv-space μ-space
+shared-slice-read-in-set c = omega arith
+
+in-set-requires : tie.Need-in-set-requires Inv-loop μ-loop Inv-space μ-space
+in-set-requires c κs = search needs
+
+add-end : tie.Need-add-end Inv-loop μ-loop Inv-space μ-space
+add-end c = omega arith
+
+space-less : tie.Need-space-less Inv-loop μ-loop Inv-space μ-space
+space-less c = omega arith
+
+space-again : tie.Need-space-again Inv-loop μ-loop Inv-space μ-space
+space-again c =
+    snoc (c .before .before .before .before .before .before .space .inv) (blank-byte (c .before .before .before .before .before .space-test .taken) (c .before .in-set .ensures) (not-false (c .before .in-set .result) (c .if2 .left)))
+
+add-i : tie.Need-add-i Inv-loop μ-loop Inv-space μ-space
+add-i c = omega arith
+
+loop-holds : tie.Need-loop-holds Inv-loop μ-loop Inv-space μ-space
+loop-holds c =
+    (refl, omega arith, stop refl)
+
+shared-slice-read-if3 : tie.Need-shared-slice-read-if3 Inv-loop μ-loop Inv-space μ-space
+shared-slice-read-if3 c = omega arith
+
+add-end-2 : tie.Need-add-end-2 Inv-loop μ-loop Inv-space μ-space
+add-end-2 c = omega arith
+
+space-less-2 : tie.Need-space-less-2 Inv-loop μ-loop Inv-space μ-space
+space-less-2 c =
+    omega (arith, forward (c .before .before .before .loop .inv .2))
+
+space-again-2 : tie.Need-space-again-2 Inv-loop μ-loop Inv-space μ-space
+space-again-2 c =
+    snoc (c .before .before .before .before .before .before .before .space .inv) (comment-blank (opener (c .before .before .before .before)) (c .before .before .before .loop .inv .2) (byte-is 0x60 (c .before .before .before .loop .i) (omega arith) (c .if3 .taken)))
+
+add-i-2 : tie.Need-add-i-2 Inv-loop μ-loop Inv-space μ-space
+add-i-2 c = omega arith
+
+loop-less : tie.Need-loop-less Inv-loop μ-loop Inv-space μ-space
+loop-less c = omega arith
+
+loop-again : tie.Need-loop-again Inv-loop μ-loop Inv-space μ-space
+loop-again c =
+    (c .before .before .before .loop .inv .0, omega arith, snoc (c .before .before .before .loop .inv .2) (byte-but 0x5F (c .before .before .before .loop .i) (omega arith) (c .if3 .left) (c .before .shared-slice-known4 .given (c .before .before .before .loop .i) .fits)))
+
+returns : tie.Need-returns Inv-loop μ-loop Inv-space μ-space
+returns c =
+    skips (c .before .space .inv) (no-blank-end (c .space-test .left))
+
+returns-2 : tie.Need-returns-2 Inv-loop μ-loop Inv-space μ-space
+returns-2 c =
+    skips (c .before .before .before .before .before .before .space .inv) (no-blank (c .before .before .before .if1 .taken) (c .before .in-set .ensures) (not-true (c .before .in-set .result) (c .if2 .taken)))
+
+returns-3 : tie.Need-returns-3 Inv-loop μ-loop Inv-space μ-space
+returns-3 c =
+    rw (c .before .loop .inv .0)
+    (skips (c .before .before .before .before .before .space .inv) (lone-grave (opener (c .before .before)) (c .before .loop .inv .2) (omega arith)))
+
+pub space-spec : {M : Type 1} → statement M
+space-spec =
+    tie.close
+    (tie.spec
+    Inv-loop
+    μ-loop
+    Inv-space
+    μ-space
+    space-holds
+    shared-slice-read-if1
+    shared-slice-read-in-set
+    in-set-requires
+    add-end
+    space-less
+    space-again
+    add-i
+    loop-holds
+    shared-slice-read-if3
+    add-end-2
+    space-less-2
+    space-again-2
+    add-i-2
+    loop-less
+    loop-again
+    returns
+    returns-2
+    returns-3)

@@ -1,0 +1,72 @@
+-- `text::utf8::utf8` meets its contract. The loop's invariant: the text up to `at` is well-formed sequences; what is left of the text
+-- is the measure. Assumes nothing.
+use borrow.Author.Needs.{needs}
+use mathlib.Core.Path.{refl}
+use Prim.Native.Nat.{_≤_, _-_}
+use lib.ListN.{length}
+use native.Mathlib.Omega.{arith}
+use Rattle.rules.specs.Rule.{many, Takes, stop}
+use Rattle.rules.proofs.Matches.{ending, inside}
+use Rattle.rules.proofs.Chains.{snoc}
+use Rattle.lexicon.specs.Utf8.{sequence}
+use Rattle.text.proofs.Searches.{at-end, not-found, grows}
+use Rattle.text.proofs.utf8.utf8.Statement.{statement}
+use Rattle.text.proofs.utf8.utf8.Tie as tie
+
+abbrev Inv-loop : tie.InvT-loop
+Inv-loop text at₀ at = (at ≤ length text) × Takes text (many sequence) 0 at
+
+abbrev μ-loop : tie.MeasureT-loop
+μ-loop text at₀ at = length text - at
+
+loop-holds : tie.Need-loop-holds Inv-loop μ-loop
+loop-holds c =
+    (omega arith, stop refl)
+
+sequence-requires : tie.Need-sequence-requires Inv-loop μ-loop
+sequence-requires c κs = search needs
+
+enum-known-end : tie.Need-enum-known-end Inv-loop μ-loop
+enum-known-end c =
+    search needs
+
+enum-told : tie.Need-enum-told Inv-loop μ-loop
+enum-told c =
+    search needs
+
+returns : tie.Need-returns Inv-loop μ-loop
+returns c =
+    record {
+      reached = c .before .before .before .before .loop .inv .1;
+      within = c .before .before .before .loop-test .taken;
+      none = not-found (c .enum-told .given .1) (c .before .before .sequence .ensures);
+    }
+
+loop-less : tie.Need-loop-less Inv-loop μ-loop
+loop-less c =
+    let t = at-end (c .before .end .given .1) (c .before .before .before .sequence .ensures) .takes in
+    omega (arith, grows sequence refl t, inside t (c .before .before .before .before .before .loop .inv .0))
+
+loop-again : tie.Need-loop-again Inv-loop μ-loop
+loop-again c =
+    let t = at-end (c .before .end .given .1) (c .before .before .before .sequence .ensures) .takes in
+    (inside t (c .before .before .before .before .before .loop .inv .0), snoc (c .before .before .before .before .before .loop .inv .1) t)
+
+returns-2 : tie.Need-returns-2 Inv-loop μ-loop
+returns-2 c =
+    ending (omega arith) (c .before .loop .inv .1)
+
+pub utf8-spec : {M : Type 1} → statement M
+utf8-spec =
+    tie.close
+    (tie.spec
+    Inv-loop
+    μ-loop
+    loop-holds
+    sequence-requires
+    enum-known-end
+    enum-told
+    returns
+    loop-less
+    loop-again
+    returns-2)
