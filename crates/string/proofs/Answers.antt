@@ -1,16 +1,12 @@
 -- A test that has answered. Assumes nothing.
-use mathlib.Core.Path.{_≡_, refl, subst, sym}
-use mathlib.Core.Bool.{Bool, true, false, not, false≢true}
+use mathlib.Core.Path.{_≡_, refl}
+use mathlib.Core.Bool.{Bool, true, false, false≢true}
 use mathlib.Core.List.{List}
-use Prim.Native.Nat.{ℕ, _+_, _≤_, _<_}
-use native.Mathlib.Omega.{arith}
-use borrow.Author.Tests.{not-true, not-false}
-use lib.ListN.{length, getD}
+use Prim.Native.Nat.{ℕ, _+_}
 use Rattle.rules.specs.Test.{Says}
-use Rattle.rules.specs.Class.{Class, In, just}
+use Rattle.rules.specs.Class.{Class}
 use Rattle.rules.specs.Rule.{one, Takes, byte, At}
 use Rattle.rules.proofs.Bools.{clash}
-use Rattle.rules.proofs.Classes.{in-just, just-is}
 use Rattle.rules.proofs.Matches.{one-at}
 
 pub says-no : {P : Type 0} → (P → ⊥) → Says false P
@@ -22,23 +18,7 @@ says-yes p = record { true-holds = λ e. p; holds-true = λ q. refl }
 pub refuted : {o : Bool} {P : Type 0} → Says o P → o ≡ false → P → ⊥
 refuted s e p = clash (s .holds-true p) e
 
--- whether a byte stands at a place
-module _ {text : List ℕ} {i b : ℕ} where
-  pub stands : i < length text → getD text i 0 ≡ b → Says true (Takes text (one (just b)) i (i + 1))
-  stands h e = says-yes (one-at (h, subst (λ (x : ℕ). In (just b) x) (sym e) (in-just b)))
-
-  pub stands-other : (getD text i 0 ≡ b → ⊥) → Says false (Takes text (one (just b)) i (i + 1))
-  stands-other n = says-no go
-    where
-      go : Takes text (one (just b)) i (i + 1) → ⊥
-      go (byte a e) = n (just-is b (getD text i 0) (a .1))
-
-  pub stands-beyond : length text ≤ i → Says false (Takes text (one (just b)) i (i + 1))
-  stands-beyond h = says-no go
-    where
-      go : Takes text (one (just b)) i (i + 1) → ⊥
-      go (byte a e) = omega (arith, a .0)
-
+-- whether a byte of a class stands at a place
 module _ {text : List ℕ} {c : Class} {i : ℕ} {o : Bool} where
   pub there : Says o (Takes text (one c) i (i + 1)) → o ≡ true → At text c i
   there s e = go (s .true-holds e)

@@ -1,21 +1,19 @@
 -- What stands between quotes: characters, escapes, backslashes. Each has one match at most from a place, takes a byte at least
 -- and does not begin with a quote. Assumes nothing.
 use mathlib.Core.Path.{_≡_, refl, subst, sym, _∙_}
-use mathlib.Core.Logic.{_⊎_, inl, inr}
 use mathlib.Core.Bool.{Bool, true, false, false≢true}
 use mathlib.Core.List.{List, [], _∷_}
 use Prim.Native.Nat.{ℕ, _+_, _≤_, _<_}
-use native.Mathlib.Nat.{le-antisymm}
 use native.Mathlib.Omega.{arith}
 use lib.ListN.{length, getD}
 use Rattle.rules.specs.Class.{Class, In, has, just}
 use Rattle.rules.specs.Rule.{Rule, one, _then_, _or_, many, lit, Takes, nothing, byte, both, left, right, stop, more, At, Longest, Fails}
-use Rattle.rules.proofs.Bools.{clash}
 use Rattle.rules.proofs.Classes.{apart, apartSpan, apart-no, just-is}
 use Rattle.rules.proofs.Matches.{forward, starting, ending}
 use Rattle.rules.proofs.Chains.{Single}
-use Rattle.rules.proofs.Ways.{Way, nullable, ways, Through, Entered, enter, never, never-takes, covers, covers-all}
+use Rattle.rules.proofs.Ways.{nullable, never, never-takes, covers}
 use Rattle.lexicon.specs.Literals.{plainByte, unescaped, restricted, escapeLetter, escape, codePoint, segment}
+use Rattle.text.proofs.Searches.{grows, single}
 use Rattle.string.specs.Parts.{item}
 use Rattle.string.proofs.Among.{Strict}
 use Rattle.string.proofs.Codes.{angle-same}
@@ -49,24 +47,10 @@ quote-item = refl
 module _ {text : List ℕ} where
   -- a rule that takes no empty text takes a byte at least
   pub strict-of : (r : Rule) → nullable r ≡ false → Strict text r
-  strict-of r n = record { less = λ t. go (enter text t) }
-    where
-      thru : (ws : List Way) {i j : ℕ} → Through text ws i j → i < j
-      thru [] t = absurd t
-      thru (w ∷ ws) (inl t) = let x = forward (t .1) in omega arith
-      thru (w ∷ ws) (inr t) = thru ws t
+  strict-of r n = record { less = λ t. grows r n t }
 
-      go : {i j : ℕ} → Entered text r i j → i < j
-      go (inl x) = absurd (clash (x .1) n)
-      go (inr t) = thru (ways r) t
-
-  -- a rule of bounded length that covers itself is single
-  pub single-of : (n : ℕ) (r : Rule) → covers n r r ≡ true → Single text r
-  single-of n r e = record { same = λ t u. le-antisymm (covers-all text n r r e u t) (covers-all text n r r e t u) }
-
-  -- of two rules, the first of which begins with no byte of the class that the second begins with
   pub unescaped-single : Single text unescaped
-  unescaped-single = single-of 5 unescaped unescaped-covers
+  unescaped-single = single 5 unescaped-covers
 
   pub restricted-single : Single text restricted
   restricted-single = record { same = go }

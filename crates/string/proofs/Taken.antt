@@ -23,9 +23,6 @@ use Rattle.lexicon.specs.Token.{headWord}
 use Rattle.string.specs.Parts.{NoneOf, TellsOf}
 
 module _ {text : List ℕ} {r : Rule} {i : ℕ} where
-  pub found-at : {f : Found} {j : ℕ} → f ≡ Found.the-variants.At j → Finds text r i f → Longest text r i j
-  found-at e y = subst (λ (x : Found). Finds text r i x) e y
-
   pub found-none : (f : Found) → OneOf (1 ∷ []) (tagOf FoundType.the-type f) → Finds text r i f → Fails text r i
   found-none (Found.the-variants.At j) e y = absurd (omega arith)
   found-none Found.the-variants.Nothing e y = y

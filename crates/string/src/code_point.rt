@@ -1,5 +1,6 @@
 // Code points by their numbers.
-use crate::spelling::stands;
+use text::byte::stands;
+use text::class::in_set;
 use lexicon::Base;
 use lexicon::Literal;
 use lexicon::Set;
@@ -93,7 +94,7 @@ fn count(text: &[u8], at: usize, base: Base) -> Run
     let mut i = at;
     while i < text.len() {
         let b = text[i];
-        if !text::class::in_set(b, set) {
+        if !in_set(b, set) {
             return Run { end: i, code };
         }
         code = step(code, base, b);

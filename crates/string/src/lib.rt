@@ -1,4 +1,6 @@
 // Text literals: bare words and which head word one is, code points by their numbers, quoted texts.
 pub mod code_point;
-pub mod spelling;
+pub mod quoted;
+pub mod segment;
+mod spelling;
 pub mod word;

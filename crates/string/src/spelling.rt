@@ -1,21 +1,7 @@
 // Given bytes at a place of a text.
-ghost use Prim.Native.Nat.{_+_};
+use text::byte::stands;
 ghost use Rattle.rules.specs.Test.{Says};
-ghost use Rattle.rules.specs.Class.{just};
-ghost use Rattle.rules.specs.Rule.{Takes, one, row};
-
-// Whether the byte stands at the place.
-pub fn stands(text: &[u8], at: usize, b: u8) -> bool
-    ensures { λ r. ⌜ Says r (Takes (now (text .entry)) (one (just b)) at (at + 1)) ⌝ }
-{
-    if at < text.len() {
-        let found = text[at];
-        if found == b {
-            return true;
-        }
-    }
-    false
-}
+ghost use Rattle.rules.specs.Rule.{Takes, row};
 
 // Whether exactly these bytes stand from one place to the other.
 pub fn spells(text: &[u8], at: usize, end: usize, bytes: &[u8]) -> bool

@@ -1,5 +1,6 @@
 // Bare words, and which of the thirteen head words one is.
 use crate::spelling::spells;
+use text::class::in_set;
 use lexicon::Form;
 use lexicon::Found;
 use lexicon::Head;
@@ -15,12 +16,12 @@ pub fn word(text: &[u8], at: usize) -> Found
     if at >= text.len() {
         return Found::Nothing;
     }
-    if !text::class::in_set(text[at], Set::WordStart) {
+    if !in_set(text[at], Set::WordStart) {
         return Found::Nothing;
     }
     let mut i = at + 1;
     while i < text.len() {
-        if !text::class::in_set(text[i], Set::WordRest) {
+        if !in_set(text[i], Set::WordRest) {
             return Found::At(i);
         }
         i += 1;

@@ -9,7 +9,7 @@ use Rattle.string.proofs.code_point.code_point.Tie as tie
 use Rattle.string.proofs.code_point.code_point.Reads as reads
 use Rattle.string.proofs.code_point.code_point.Lts as lts
 use Rattle.string.proofs.code_point.number.Reads as number-reads
-use Rattle.string.proofs.spelling.stands.Reads as stands-reads
+use Rattle.text.proofs.byte.stands.Reads as stands-reads
 
 -- src/code_point.rt:125:9
 stands-requires : tie.Need-stands-requires

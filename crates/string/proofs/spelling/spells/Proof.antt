@@ -6,7 +6,7 @@ use Rattle.string.proofs.spelling.spells.Statement.{statement}
 use Rattle.string.proofs.spelling.spells.Tie as tie
 use Rattle.string.proofs.spelling.spells.Reads as reads
 use Rattle.string.proofs.spelling.spells.Lts as lts
-use Rattle.string.proofs.spelling.stands.Reads as stands-reads
+use Rattle.text.proofs.byte.stands.Reads as stands-reads
 
 abbrev Inv-loop : tie.InvT-loop
 Inv-loop text at end bytes k₀ k = Matched text bytes at k

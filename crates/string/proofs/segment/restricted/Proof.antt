@@ -1,0 +1,52 @@
+use borrow.Author.Needs.{needs}
+use Rattle.string.proofs.segment.restricted.Statement.{statement}
+use Rattle.string.proofs.segment.restricted.Tie as tie
+use Rattle.string.proofs.segment.restricted.Reads as reads
+use Rattle.string.proofs.segment.restricted.Lts as lts
+use Rattle.string.proofs.segment.character.Reads as character-reads
+use Rattle.text.proofs.byte.stands.Reads as stands-reads
+
+-- src/segment.rt:86:8
+stands-requires : tie.Need-stands-requires
+stands-requires c κs = search needs
+
+-- src/segment.rt:87:26
+add-t5 : tie.Need-add-t5
+add-t5 c = search needs
+
+-- src/segment.rt:87:9
+returns : tie.Need-returns
+returns c = ?
+
+-- src/segment.rt:89:26
+character-requires : tie.Need-character-requires
+character-requires c κs = search needs
+
+-- src/segment.rt:89:19
+enum-known-end : tie.Need-enum-known-end
+enum-known-end c = search needs
+
+-- src/segment.rt:90:9
+enum-told : tie.Need-enum-told
+enum-told c = search needs
+
+-- src/segment.rt:90:9
+returns-2 : tie.Need-returns-2
+returns-2 c = ?
+
+-- src/segment.rt:83:1
+returns-3 : tie.Need-returns-3
+returns-3 c = ?
+
+pub restricted-spec : {M : Type 1} → statement M
+restricted-spec =
+    tie.close
+    (tie.spec
+    stands-requires
+    add-t5
+    returns
+    character-requires
+    enum-known-end
+    enum-told
+    returns-2
+    returns-3)
