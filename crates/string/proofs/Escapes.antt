@@ -1,24 +1,29 @@
 -- Escapes, characters and backslashes: what each answer says of the part it belongs to. Assumes nothing.
 use mathlib.Core.Path.{_≡_, refl, subst, sym, _∙_}
-use mathlib.Core.Bool.{Bool, true, false}
+use mathlib.Core.Logic.{⊎-elim}
+use mathlib.Core.Bool.{Bool, true, false, not, _&&_, false≢true}
 use mathlib.Core.List.{List, [], _∷_}
 use Prim.Native.Nat.{ℕ, _+_, _≤_, _<_}
 use native.Mathlib.Nat.{le-antisymm}
 use native.Mathlib.Omega.{arith}
+use borrow.Author.Tests.{not-true, not-false}
+use lib.Dec.{leb}
 use lib.ListN.{length, getD}
 use Rattle.rules.specs.Test.{Says}
-use Rattle.rules.specs.Class.{Class, In, just}
+use Rattle.rules.specs.Class.{Class, In, has, just, anyIn, codes}
 use Rattle.rules.specs.Rule.{Rule, one, _then_, _or_, lit, Takes, byte, both, left, right, At, Longest, Fails}
-use Rattle.rules.proofs.Classes.{apart-no}
+use Rattle.rules.proofs.Bools.{or-cases, or-left}
+use Rattle.rules.proofs.Classes.{apart-no, in-just, just-is}
 use Rattle.rules.proofs.Matches.{starting, ending, one-at}
 use Rattle.rules.proofs.Ways.{never-takes}
 use Rattle.lexicon.specs.declared.Literal.{Literal}
 use Rattle.lexicon.specs.declared.Literal as Literal
 use Rattle.lexicon.specs.Found.{Judges}
 use Rattle.lexicon.specs.Literals.{unescaped, restricted, escapeLetter, escape, codePoint}
+use Rattle.lexicon.specs.Values.{Letter}
 use Rattle.lexicon.specs.Bad.{BadCode, BadEscape}
 use Rattle.string.specs.Parts.{angled, BadAngled, item}
-use Rattle.string.proofs.Answers.{says-no}
+use Rattle.string.proofs.Answers.{says-no, there, not-there}
 use Rattle.string.proofs.Among.{place}
 use Rattle.string.proofs.Closed.{agree}
 use Rattle.string.proofs.Codes.{angle-most}
@@ -26,6 +31,27 @@ use Rattle.string.proofs.Items.{backslash, backslash-unescaped, letter-
 
 abbrev angle : ℕ
 angle = 0x3C
+
+-- the letters are those that stand for a character
+letter-in : (text : List ℕ) {x v : ℕ} → Letter text x v → In escapeLetter x
+unfolding has
+letter-in text Letter.q = refl
+letter-in text Letter.g = refl
+letter-in text Letter.b = refl
+letter-in text Letter.t = refl
+letter-in text Letter.n = refl
+letter-in text Letter.r = refl
+
+-- a byte that is none of these is in no class of them
+abbrev pub NoneOf : List ℕ → ℕ → Type 0
+NoneOf [] x = Unit {0}
+NoneOf (b ∷ bs) x = (x ≡ b → ⊥) × NoneOf bs x
+
+none-in : (bs : List ℕ) (x : ℕ) → NoneOf bs x → In (anyIn bs) x → ⊥
+unfolding has
+none-in [] x n i = false≢true i
+none-in (b ∷ bs) x n i =
+    ⊎-elim (λ e. n .0 (just-is b x (or-left _ false e))) (λ e. none-in bs x (n .1) e) (or-cases (leb b x && leb x b) (has (anyIn bs) x) i)
 
 module _ (text : List ℕ) where
   move-at : (c : Class) {i j : ℕ} → i ≡ j → At text c i → At text c j
@@ -147,3 +173,24 @@ module _ (text : List ℕ) where
       go : {k : ℕ} → Takes text restricted i k → ⊥
       go (left t) = f .none t
       go (right (byte a e)) = n a
+
+  -- ---- what each way through the code of an escape says
+
+  module _ (i : ℕ) {o : Bool} (s : Says o (Takes text (one backslash) i (i + 1))) (e : not o ≡ false) where
+    pub by-letter : {x v : ℕ} → Letter text x v → i + 1 < length text → getD text (i + 1) 0 ≡ x → Judges text escape (BadEscape text) i (Literal.the-variants.At (i + 2) false)
+    by-letter l h f =
+        letter-judged i (there s (not-false o e)) (h, subst (λ (y : ℕ). In escapeLetter y) (sym f) (letter-in text l))
+
+    pub by-angle : (r : Literal) → i + 1 < length text → getD text (i + 1) 0 ≡ angle → Judges text angled (BadAngled text) (i + 2) r → Judges text escape (BadEscape text) i r
+    by-angle r h f y =
+        angle-judged i r (there s (not-false o e)) (h, subst (λ (y : ℕ). In (just angle) y) (sym f) (in-just angle)) y
+
+  pub by-none : (i : ℕ) {o : Bool} → Says o (Takes text (one backslash) i (i + 1)) → not o ≡ true → Fails text escape i
+  by-none i {o} s e = no-escape (not-there s (not-true o e))
+
+  pub by-end : (i : ℕ) → length text ≤ i + 1 → Fails text escape i
+  by-end i h = unknown-escape i (λ a. omega (arith, a .0)) (λ a. omega (arith, a .0))
+
+  pub by-other : (i : ℕ) → NoneOf (codes "qgbtnr") (getD text (i + 1) 0) → (getD text (i + 1) 0 ≡ angle → ⊥) → Fails text escape i
+  by-other i n m =
+      unknown-escape i (λ a. none-in (codes "qgbtnr") (getD text (i + 1) 0) n (a .1)) (λ a. m (just-is angle (getD text (i + 1) 0) (a .1)))

@@ -8,5 +8,6 @@ pub mod Codes
 pub mod Numbers
 pub mod Words
 pub mod Items
+pub mod Characters
 pub mod Escapes
 pub mod Segments

@@ -11,7 +11,7 @@ use Rattle.rules.specs.Class.{Class, In, just}
 use Rattle.rules.specs.Rule.{Rule, one, _then_, _or_, many, opt, lit, Takes, nothing, byte, both, left, right, stop, more, At, Longest, Fails, Among}
 use Rattle.rules.proofs.Bools.{or-cases, or-left, or-right}
 use Rattle.rules.proofs.Classes.{apart, apartSpan, apart-no}
-use Rattle.rules.proofs.Matches.{forward, starting, ending}
+use Rattle.rules.proofs.Matches.{forward, starting, ending, one-at}
 use Rattle.rules.proofs.Chains.{Single, move, join, snoc, reaches}
 use Rattle.rules.proofs.Ways.{never, never-takes}
 use Rattle.lexicon.specs.declared.Literal.{Literal}
@@ -24,7 +24,7 @@ use Rattle.lexicon.proofs.Spaces.{landed, skips-same}
 use Rattle.string.specs.Parts.{plainRest, item, escapedRest, BadRest}
 use Rattle.string.proofs.Answers.{says-no}
 use Rattle.string.proofs.Among.{Strict, place, found, kept, none-among, which}
-use Rattle.string.proofs.Closed.{closed-single, begins-none}
+use Rattle.string.proofs.Closed.{closed-single, closes, begins-none}
 use Rattle.string.proofs.Items.{quote, backslash, backslash-unescaped, quote-restricted, quote-item, restricted-single, item-single, strict-of}
 
 quote-backslash : apart quote backslash ≡ true
@@ -76,6 +76,17 @@ module _ (text : List ℕ) where
   rest-same t u =
       ⊎-elim (λ b. closed-single item quote item-single quote-item .same (to-escaped b t) (to-escaped b u))
       (λ n. closed-single restricted quote restricted-single quote-restricted .same (to-plain n t) (to-plain n u)) (which-rest t)
+
+  -- a row of items that has come to the closing quote
+  pub rest-judged : {i j : ℕ} {bad : Bool} → Takes text (many item) i j → At text quote j → Says bad (Among text item (BadEscape text) i j) → Judges text escapedRest (BadRest text) i (Literal.the-variants.At (j + 1) bad)
+  rest-judged {i} {j} {bad} t a y =
+      (closes item quote item-single quote-item t a,
+        record {
+          true-holds = λ e. record { end = j; content = y .true-holds e; behind = one-at a };
+          holds-true = λ b. back (b .content) (b .behind) })
+    where
+      back : {e : ℕ} → Among text item (BadEscape text) i e → Takes text (lit "\"") e (j + 1) → bad ≡ true
+      back {e} c (byte b f) = let h : e ≡ j = omega arith in y .holds-true (place (Among text item (BadEscape text)) refl h c)
 
   -- ---- a segment
 

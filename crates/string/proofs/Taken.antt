@@ -7,33 +7,23 @@ use Prim.Native.Nat.{ℕ}
 use native.Mathlib.Omega.{arith}
 use types.Run.{OneOf}
 use denote.Enum.Declared.{tagOf}
-use Rattle.rules.specs.Rule.{Rule, lit, Takes, Longest, Fails}
-use Rattle.lexicon.proofs.Found as FoundType
-use Rattle.lexicon.proofs.Literal as LiteralType
+use Rattle.rules.specs.Rule.{Rule, lit, Takes, Fails}
 use Rattle.lexicon.proofs.Form as FormType
-use Rattle.lexicon.specs.declared.Found as Found
-use Rattle.lexicon.specs.declared.Found.{Found}
 use Rattle.lexicon.specs.declared.Literal as Literal
 use Rattle.lexicon.specs.declared.Literal.{Literal}
 use Rattle.lexicon.specs.declared.Head.{Head}
 use Rattle.lexicon.specs.declared.Form as Form
 use Rattle.lexicon.specs.declared.Form.{Form}
-use Rattle.lexicon.specs.Found.{Finds, Judges}
+use Rattle.lexicon.specs.Found.{Judges}
 use Rattle.lexicon.specs.Token.{headWord}
 use Rattle.string.specs.Parts.{NoneOf, TellsOf}
 
-module _ {text : List ℕ} {r : Rule} {i : ℕ} where
-  pub found-none : (f : Found) → OneOf (1 ∷ []) (tagOf FoundType.the-type f) → Finds text r i f → Fails text r i
-  found-none (Found.the-variants.At j) e y = absurd (omega arith)
-  found-none Found.the-variants.Nothing e y = y
+module _ {text : List ℕ} {r : Rule} {i : ℕ} (P : ℕ → ℕ → Type 0) where
+  pub literal-at : {l : Literal} {j : ℕ} {b : Bool} → l ≡ Literal.the-variants.At j b → Judges text r P i l → Judges text r P i (Literal.the-variants.At j b)
+  literal-at e y = subst (λ (x : Literal). Judges text r P i x) e y
 
-  module _ (P : ℕ → ℕ → Type 0) where
-    pub literal-at : {l : Literal} {j : ℕ} {b : Bool} → l ≡ Literal.the-variants.At j b → Judges text r P i l → Judges text r P i (Literal.the-variants.At j b)
-    literal-at e y = subst (λ (x : Literal). Judges text r P i x) e y
-
-    pub literal-none : (l : Literal) → OneOf (1 ∷ []) (tagOf LiteralType.the-type l) → Judges text r P i l → Fails text r i
-    literal-none (Literal.the-variants.At j b) e y = absurd (omega arith)
-    literal-none Literal.the-variants.Nothing e y = y
+  pub no-literal : {l : Literal} → l ≡ Literal.the-variants.Nothing → Judges text r P i l → Fails text r i
+  no-literal e y = subst (λ (x : Literal). Judges text r P i x) e y
 
 module _ (text : List ℕ) (hs : List Head) (i j : ℕ) where
   pub head-at : {f : Form} {h : Head} → f ≡ Form.the-variants.HeadWord h → TellsOf text hs i j f → Takes text (lit (headWord h)) i j

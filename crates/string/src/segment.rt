@@ -59,12 +59,15 @@ fn escape(text: &[u8], at: usize) -> Literal
     if next >= text.len() {
         return Literal::Nothing;
     }
+    let end = at + 2;
     match text[next] {
-        b'q' | b'g' | b'b' | b't' | b'n' | b'r' => Literal::At {
-            end: at + 2,
-            bad: false,
-        },
-        b'<' => angled(text, at + 2),
+        b'q' => Literal::At { end, bad: false },
+        b'g' => Literal::At { end, bad: false },
+        b'b' => Literal::At { end, bad: false },
+        b't' => Literal::At { end, bad: false },
+        b'n' => Literal::At { end, bad: false },
+        b'r' => Literal::At { end, bad: false },
+        b'<' => angled(text, end),
         _ => Literal::Nothing,
     }
 }
@@ -90,4 +93,50 @@ fn restricted(text: &[u8], at: usize) -> Found
         return Found::Nothing;
     };
     Found::At(end)
+}
+
+// Characters and backslashes up to the closing quote.
+fn plain(text: &[u8], at: usize) -> Found
+    ensures { λ r. ⌜ Finds (now (text .entry)) Parts.plainRest at r ⌝ }
+{
+    let mut i = at;
+    while !stands(text, i, b'"') {
+        let Found::At(next) = restricted(text, i) else {
+            return Found::Nothing;
+        };
+        i = next;
+    }
+    Found::At(i + 1)
+}
+
+// Characters and escapes up to the closing quote.
+fn escaped(text: &[u8], at: usize) -> Literal
+    ensures { λ r. ⌜ Judges (now (text .entry)) Parts.escapedRest (BadRest (now (text .entry))) at r ⌝ }
+{
+    let mut i = at;
+    let mut bad = false;
+    while !stands(text, i, b'"') {
+        let Literal::At { end, bad: worse } = item(text, i) else {
+            return Literal::Nothing;
+        };
+        i = end;
+        bad = bad | worse;
+    }
+    Literal::At { end: i + 1, bad }
+}
+
+// A segment.
+pub fn segment(text: &[u8], at: usize) -> Literal
+    ensures { λ r. ⌜ Judges (now (text .entry)) Literals.segment (BadSegment (now (text .entry))) at r ⌝ }
+{
+    if !stands(text, at, b'"') {
+        return Literal::Nothing;
+    }
+    if stands(text, at + 1, b'\\') {
+        return escaped(text, at + 2);
+    }
+    let Found::At(end) = plain(text, at + 1) else {
+        return Literal::Nothing;
+    };
+    Literal::At { end, bad: false }
 }

@@ -1,4 +1,6 @@
 use borrow.Author.Needs.{needs}
+use Rattle.text.proofs.Searches.{at-end, not-found}
+use Rattle.string.proofs.Escapes.{item-character, item-escape}
 use Rattle.string.proofs.segment.item.Statement.{statement}
 use Rattle.string.proofs.segment.item.Tie as tie
 use Rattle.string.proofs.segment.item.Reads as reads
@@ -24,11 +26,11 @@ escape-requires c κs = search needs
 
 -- src/segment.rt:77:9
 returns : tie.Need-returns
-returns c = ?
+returns c = let a = c .before .before .before .before .before .args in item-escape (a .text .now) (a .at) (c .escape .result) (not-found (c .before .enum-told .given .1) (c .before .before .before .character .ensures)) (c .escape .ensures)
 
 -- src/segment.rt:73:1
 returns-2 : tie.Need-returns-2
-returns-2 c = ?
+returns-2 c = let a = c .before .before .before .before .before .args in item-character (a .text .now) (a .at) (c .before .end .given .0 .0) (at-end (c .before .end .given .1) (c .before .before .before .character .ensures))
 
 pub item-spec : {M : Type 1} → statement M
 item-spec =

@@ -1,4 +1,8 @@
 use borrow.Author.Needs.{needs}
+use native.Mathlib.Omega.{arith}
+use Rattle.text.proofs.Searches.{at-end, not-found}
+use Rattle.string.proofs.Answers.{there, not-there}
+use Rattle.string.proofs.Escapes.{plain-character, plain-backslash, no-plain}
 use Rattle.string.proofs.segment.restricted.Statement.{statement}
 use Rattle.string.proofs.segment.restricted.Tie as tie
 use Rattle.string.proofs.segment.restricted.Reads as reads
@@ -12,11 +16,11 @@ stands-requires c κs = search needs
 
 -- src/segment.rt:87:26
 add-t5 : tie.Need-add-t5
-add-t5 c = search needs
+add-t5 c = omega (arith, there (c .before .stands .ensures) (c .if1 .taken) .0)
 
 -- src/segment.rt:87:9
 returns : tie.Need-returns
-returns c = ?
+returns c = plain-backslash _ (there (c .before .stands .ensures) (c .if1 .taken))
 
 -- src/segment.rt:89:26
 character-requires : tie.Need-character-requires
@@ -32,11 +36,11 @@ enum-told c = search needs
 
 -- src/segment.rt:90:9
 returns-2 : tie.Need-returns-2
-returns-2 c = ?
+returns-2 c = no-plain _ (not-found (c .enum-told .given .1) (c .before .before .character .ensures)) (not-there (c .before .before .before .before .stands .ensures) (c .before .before .before .if1 .left))
 
 -- src/segment.rt:83:1
 returns-3 : tie.Need-returns-3
-returns-3 c = ?
+returns-3 c = plain-character _ (at-end (c .before .end .given .1) (c .before .before .before .character .ensures))
 
 pub restricted-spec : {M : Type 1} → statement M
 restricted-spec =
