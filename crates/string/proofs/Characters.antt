@@ -34,11 +34,11 @@ inside-in low high [] b e i = absurd (false≢true i)
 inside-in low high (s ∷ c) b e i =
     ⊎-elim
     (λ x.
-      let l = leb-true (s .low) b (and-left (leb (s .low) b) _ x) in
-      let h = leb-true b (s .high) (and-right (leb (s .low) b) _ x) in
-      let m = leb-true low (s .low) (and-left (leb low (s .low)) _ e) in
-      let n = leb-true (s .high) high (and-left (leb (s .high) high) _ (and-right (leb low (s .low)) _ e)) in
-      (omega arith, omega arith))
+    let l = leb-true (s .low) b (and-left (leb (s .low) b) _ x) in
+    let h = leb-true b (s .high) (and-right (leb (s .low) b) _ x) in
+    let m = leb-true low (s .low) (and-left (leb low (s .low)) _ e) in
+    let n = leb-true (s .high) high (and-left (leb (s .high) high) _ (and-right (leb low (s .low)) _ e)) in
+    (omega arith, omega arith))
     (λ x. inside-in low high c b (and-right (leb (s .high) high) _ (and-right (leb low (s .low)) _ e)) x)
     (or-cases (leb (s .low) b && leb b (s .high)) _ i)
 
@@ -77,9 +77,11 @@ plain-in b h l q w g = first (decLe b 0x21)
     third : Dec (b ≤ 0x5F) → 0x5D ≤ b → In (0x5D upto 0x5F ∷ 0x61 upto 0x7F ∷ []) b
     third (yes x) y = in-first 0x5D 0x5F _ b y x
     third (no x) y = in-later 0x5D 0x5F _ b (in-first 0x61 0x7F [] b (omega (arith, x, g)) h)
+
     second : Dec (b ≤ 0x5B) → 0x23 ≤ b → In (0x23 upto 0x5B ∷ 0x5D upto 0x5F ∷ 0x61 upto 0x7F ∷ []) b
     second (yes x) y = in-first 0x23 0x5B _ b y x
     second (no x) y = in-later 0x23 0x5B _ b (third (decLe b 0x5F) (omega (arith, x, w)))
+
     first : Dec (b ≤ 0x21) → In plainByte b
     first (yes x) = in-first 0x20 0x21 _ b l x
     first (no x) = in-later 0x20 0x21 _ b (second (decLe b 0x5B) (omega (arith, x, q)))

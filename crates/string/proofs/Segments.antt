@@ -79,11 +79,13 @@ module _ (text : List ℕ) where
 
   -- a row of items that has come to the closing quote
   pub rest-judged : {i j : ℕ} {bad : Bool} → Takes text (many item) i j → At text quote j → Says bad (Among text item (BadEscape text) i j) → Judges text escapedRest (BadRest text) i (Literal.the-variants.At (j + 1) bad)
-  rest-judged {i} {j} {bad} t a y =
-      (closes item quote item-single quote-item t a,
-        record {
-          true-holds = λ e. record { end = j; content = y .true-holds e; behind = one-at a };
-          holds-true = λ b. back (b .content) (b .behind) })
+  rest-judged {i} {j} {bad} t a y = (
+    closes item quote item-single quote-item t a,
+    record {
+      true-holds = λ e. record { end = j; content = y .true-holds e; behind = one-at a };
+      holds-true = λ b. back (b .content) (b .behind);
+    },
+  )
     where
       back : {e : ℕ} → Among text item (BadEscape text) i e → Takes text (lit "\"") e (j + 1) → bad ≡ true
       back {e} c (byte b f) = let h : e ≡ j = omega arith in y .holds-true (place (Among text item (BadEscape text)) refl h c)

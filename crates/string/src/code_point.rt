@@ -1,9 +1,9 @@
 // Code points by their numbers.
-use text::byte::stands;
-use text::class::in_set;
 use lexicon::Base;
 use lexicon::Literal;
 use lexicon::Set;
+use text::byte::stands;
+use text::class::in_set;
 ghost use mathlib.Core.Path.{_≡_};
 ghost use Prim.Native.Nat.{_+_, _*_, _≤_, min};
 ghost use Rattle.rules.specs.Test.{Says};

@@ -20,13 +20,21 @@ fn further(text: &[u8], at: usize) -> Literal
 pub fn quoted(text: &[u8], at: usize) -> Literal
     ensures { λ r. ⌜ Judges (now (text .entry)) Literals.quoted (BadQuoted (now (text .entry))) at r ⌝ }
 {
-    let Literal::At { end: first, bad: broken } = segment(text, at) else {
+    let Literal::At {
+        end: first,
+        bad: broken,
+    } = segment(text, at)
+    else {
         return Literal::Nothing;
     };
     let mut end = first;
     let mut bad = broken;
     loop {
-        let Literal::At { end: next, bad: worse } = further(text, end) else {
+        let Literal::At {
+            end: next,
+            bad: worse,
+        } = further(text, end)
+        else {
             return Literal::At { end, bad };
         };
         end = next;

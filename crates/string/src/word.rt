@@ -1,10 +1,10 @@
 // Bare words, and which of the thirteen head words one is.
 use crate::spelling::spells;
-use text::class::in_set;
 use lexicon::Form;
 use lexicon::Found;
 use lexicon::Head;
 use lexicon::Set;
+use text::class::in_set;
 ghost use Rattle.lexicon.specs.Found.{Finds};
 ghost use Rattle.lexicon.specs.Literals as Literals;
 ghost use Rattle.string.specs.Parts.{Tells, TellsOf, collections};
