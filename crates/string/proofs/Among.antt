@@ -2,14 +2,14 @@
 -- a byte at least. Assumes nothing.
 use mathlib.Core.Path.{_≡_, refl, subst, sym, _∙_}
 use mathlib.Core.Logic.{_⊎_, inl, inr, ⊎-elim}
-use mathlib.Core.Bool.{Bool, true, false, _||_, false≢true}
+use mathlib.Core.Bool.{Bool, false, _||_, false≢true}
 use mathlib.Core.List.{List}
-use Prim.Native.Nat.{ℕ, _≤_, _<_}
+use Prim.Native.Nat.{ℕ, _<_}
 use native.Mathlib.Omega.{arith}
 use Rattle.rules.specs.Test.{Says}
 use Rattle.rules.specs.Rule.{Rule, many, Takes, stop, more, Among}
 use Rattle.rules.proofs.Bools.{or-cases, or-left, or-right}
-use Rattle.rules.proofs.Matches.{forward, starting, ending}
+use Rattle.rules.proofs.Matches.{forward, starting}
 use Rattle.rules.proofs.Chains.{Single, move, snoc}
 
 -- every match takes a byte at least

@@ -1,6 +1,6 @@
 -- A character inside quotes is a well-formed sequence of bytes, narrowed. Assumes nothing.
-use mathlib.Core.Path.{_≡_, refl, subst, sym, ap, _∙_}
-use mathlib.Core.Logic.{_⊎_, inl, inr, ⊎-elim}
+use mathlib.Core.Path.{_≡_, refl, subst}
+use mathlib.Core.Logic.{inl, inr, ⊎-elim}
 use mathlib.Core.Bool.{Bool, true, false, _&&_, false≢true}
 use mathlib.Core.List.{List, [], _∷_}
 use Prim.Native.Nat.{ℕ, _+_, _≤_, _<_}
@@ -11,14 +11,14 @@ use lib.Dec.{leb}
 use lib.ListN.{length, getD}
 use types.Run.{OneOf}
 use Rattle.rules.specs.Test.{Says}
-use Rattle.rules.specs.Class.{Span, Class, _upto_, In, has, just}
-use Rattle.rules.specs.Rule.{Rule, one, _then_, _or_, Takes, byte, both, left, right, At, Longest, Fails}
-use Rattle.rules.proofs.Bools.{and-left, and-right, or-cases, clash}
+use Rattle.rules.specs.Class.{Class, _upto_, In, has, just}
+use Rattle.rules.specs.Rule.{Rule, one, Takes, byte, both, left, right, Longest, Fails}
+use Rattle.rules.proofs.Bools.{and-left, and-right, or-cases}
 use Rattle.rules.proofs.Classes.{apart, apartSpan}
 use Rattle.rules.proofs.Matches.{byte-at, byte-end, ending}
 use Rattle.rules.proofs.Ways.{nullable, never, never-takes, end-takes}
-use Rattle.lexicon.specs.Literals.{plainByte, above9F, unescaped}
-use Rattle.lexicon.specs.Utf8.{range, tail, beyond, sequence}
+use Rattle.lexicon.specs.Literals.{plainByte, unescaped}
+use Rattle.lexicon.specs.Utf8.{range, beyond, sequence}
 use Rattle.text.proofs.Ranges.{in-first, in-later, low-in, in-high, byte-is}
 use Rattle.text.proofs.Searches.{fails}
 use Rattle.string.proofs.Answers.{refuted}

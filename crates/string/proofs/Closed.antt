@@ -2,13 +2,12 @@
 use mathlib.Core.Path.{_≡_, subst}
 use mathlib.Core.Bool.{true}
 use mathlib.Core.List.{List}
-use Prim.Native.Nat.{ℕ, _+_, _≤_, _<_}
+use Prim.Native.Nat.{ℕ, _+_}
 use native.Mathlib.Nat.{le-antisymm}
 use native.Mathlib.Omega.{arith}
-use lib.ListN.{length, getD}
 use Rattle.rules.specs.Class.{Class}
 use Rattle.rules.specs.Rule.{Rule, one, _then_, many, Takes, byte, both, stop, more, At, Longest, Fails}
-use Rattle.rules.proofs.Matches.{forward, starting, ending, one-at}
+use Rattle.rules.proofs.Matches.{forward, one-at}
 use Rattle.rules.proofs.Chains.{Single, reaches}
 use Rattle.rules.proofs.Ways.{never, never-takes}
 

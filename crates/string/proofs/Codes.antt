@@ -1,26 +1,26 @@
 -- Code points by their number: the literal's longest match, its value, and the closing angle of an escape. Assumes nothing.
 use mathlib.Core.Path.{_≡_, refl, subst, subst₂, sym, ap, _∙_}
 use mathlib.Core.Bool.{Bool, true, false, not}
-use mathlib.Core.List.{List, [], _∷_}
+use mathlib.Core.List.{List}
 use Prim.Native.Nat.{ℕ, _+_, _≤_, _<_}
 use native.Mathlib.Nat.{le-antisymm}
 use native.Mathlib.Omega.{arith}
 use borrow.Author.Tests.{not-true, not-false}
 use lib.ListN.{length, getD}
 use Rattle.rules.specs.Test.{Says}
-use Rattle.rules.specs.Class.{Class, In, just}
-use Rattle.rules.specs.Rule.{Rule, one, _then_, _or_, many, plus, lit, Takes, byte, both, left, right, stop, more, At, Longest, Fails}
-use Rattle.rules.proofs.Classes.{apart, apartSpan, apart-no}
+use Rattle.rules.specs.Class.{Class, just}
+use Rattle.rules.specs.Rule.{one, many, plus, lit, Takes, byte, both, left, right, more, At, Longest, Fails}
+use Rattle.rules.proofs.Classes.{apart, apartSpan}
 use Rattle.rules.proofs.Matches.{forward, starting, ending}
-use Rattle.rules.proofs.Chains.{Single, reaches}
-use Rattle.rules.proofs.Ways.{never, never-takes}
+use Rattle.rules.proofs.Chains.{reaches}
+use Rattle.rules.proofs.Ways.{never}
 use Rattle.lexicon.specs.declared.Base.{Base}
 use Rattle.lexicon.specs.declared.Base.the-variants.{Two, Eight, Ten, Sixteen}
 use Rattle.lexicon.specs.declared.Literal.{Literal}
 use Rattle.lexicon.specs.declared.Literal as Literal
-use Rattle.lexicon.specs.Bytes.{digits, radix}
+use Rattle.lexicon.specs.Bytes.{digits}
 use Rattle.lexicon.specs.Found.{Judges}
-use Rattle.lexicon.specs.Literals.{codeMark, codeOfBase, codePoint}
+use Rattle.lexicon.specs.Literals.{codeOfBase, codePoint}
 use Rattle.lexicon.specs.Values.{CodeOf}
 use Rattle.lexicon.specs.Bad.{Scalar, BadCode}
 use Rattle.string.specs.Parts.{number, numberAt, BadNumber}

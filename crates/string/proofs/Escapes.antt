@@ -11,10 +11,10 @@ use lib.Dec.{leb}
 use lib.ListN.{length, getD}
 use Rattle.rules.specs.Test.{Says}
 use Rattle.rules.specs.Class.{Class, In, has, just, anyIn, codes}
-use Rattle.rules.specs.Rule.{Rule, one, _then_, _or_, lit, Takes, byte, both, left, right, At, Longest, Fails}
+use Rattle.rules.specs.Rule.{one, _then_, _or_, lit, Takes, byte, both, left, right, At, Longest, Fails}
 use Rattle.rules.proofs.Bools.{or-cases, or-left}
 use Rattle.rules.proofs.Classes.{apart-no, in-just, just-is}
-use Rattle.rules.proofs.Matches.{starting, ending, one-at}
+use Rattle.rules.proofs.Matches.{starting, one-at}
 use Rattle.rules.proofs.Ways.{never-takes}
 use Rattle.lexicon.specs.declared.Literal.{Literal}
 use Rattle.lexicon.specs.declared.Literal as Literal

@@ -1,18 +1,18 @@
 -- What stands between quotes: characters, escapes, backslashes. Each has one match at most from a place, takes a byte at least
 -- and does not begin with a quote. Assumes nothing.
-use mathlib.Core.Path.{_≡_, refl, subst, sym, _∙_}
-use mathlib.Core.Bool.{Bool, true, false, false≢true}
-use mathlib.Core.List.{List, [], _∷_}
-use Prim.Native.Nat.{ℕ, _+_, _≤_, _<_}
+use mathlib.Core.Path.{_≡_, refl, sym, _∙_}
+use mathlib.Core.Bool.{true, false}
+use mathlib.Core.List.{List}
+use Prim.Native.Nat.{ℕ, _<_}
 use native.Mathlib.Omega.{arith}
-use lib.ListN.{length, getD}
-use Rattle.rules.specs.Class.{Class, In, has, just}
-use Rattle.rules.specs.Rule.{Rule, one, _then_, _or_, many, lit, Takes, nothing, byte, both, left, right, stop, more, At, Longest, Fails}
-use Rattle.rules.proofs.Classes.{apart, apartSpan, apart-no, just-is}
-use Rattle.rules.proofs.Matches.{forward, starting, ending}
+use lib.ListN.{getD}
+use Rattle.rules.specs.Class.{Class, just}
+use Rattle.rules.specs.Rule.{Rule, one, _then_, _or_, lit, Takes, byte, both, left, right, At}
+use Rattle.rules.proofs.Classes.{apart, apartSpan, apart-no}
+use Rattle.rules.proofs.Matches.{starting}
 use Rattle.rules.proofs.Chains.{Single}
 use Rattle.rules.proofs.Ways.{nullable, never, never-takes, covers}
-use Rattle.lexicon.specs.Literals.{plainByte, unescaped, restricted, escapeLetter, escape, codePoint, segment}
+use Rattle.lexicon.specs.Literals.{unescaped, restricted, escapeLetter, escape, codePoint}
 use Rattle.text.proofs.Searches.{grows, single}
 use Rattle.string.specs.Parts.{item}
 use Rattle.string.proofs.Among.{Strict}

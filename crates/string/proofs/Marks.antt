@@ -1,14 +1,14 @@
 -- Code points by their number: the byte behind `0c` tells the base, so that a literal's base and the place of its first digit
 -- are fixed by the place where it begins. Assumes nothing.
 use mathlib.Core.Path.{_≡_, refl, subst, sym, ap, _∙_}
-use mathlib.Core.Logic.{_⊎_, inl, inr, ⊎-elim}
-use mathlib.Core.Bool.{true, false≢true}
-use mathlib.Core.List.{List, []}
+use mathlib.Core.Logic.{_⊎_, inl, inr}
+use mathlib.Core.Bool.{false≢true}
+use mathlib.Core.List.{List}
 use Prim.Native.Nat.{ℕ, _+_, _≤_, _<_}
 use native.Mathlib.Omega.{arith}
 use lib.ListN.{length, getD}
-use Rattle.rules.specs.Class.{Class, In, has, just}
-use Rattle.rules.specs.Rule.{Rule, one, _then_, opt, lit, Takes, nothing, byte, both, left, right, At}
+use Rattle.rules.specs.Class.{In, has, just}
+use Rattle.rules.specs.Rule.{one, lit, Takes, nothing, byte, both, left, right, At}
 use Rattle.rules.proofs.Classes.{in-just, just-is}
 use Rattle.rules.proofs.Matches.{forward}
 use Rattle.lexicon.specs.declared.Base.{Base}

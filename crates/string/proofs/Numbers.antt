@@ -1,8 +1,8 @@
 -- The number of a row of digits, and the same number held below a cap. Assumes nothing.
 use mathlib.Core.Path.{_≡_, refl, subst, sym, ap, _∙_}
-use mathlib.Core.Logic.{_⊎_, inl, inr, ⊎-elim}
+use mathlib.Core.Logic.{inl, inr}
 use mathlib.Core.Bool.{Bool, true, false, not, cond}
-use mathlib.Core.List.{List, [], _∷_}
+use mathlib.Core.List.{List}
 use Prim.Native.Nat.{ℕ, zero, suc, _+_, _-_, _*_, _≤_, _<_, min}
 use native.Mathlib.Nat.{mul-le-mul, mul-le-mul-left, mul-le-mul-right}
 use native.Mathlib.Omega.{arith, min-cases}
@@ -11,9 +11,9 @@ use lib.Dec.{leb, ltb}
 use lib.ListN.{length, getD}
 use Rattle.rules.specs.Test.{Says}
 use Rattle.rules.specs.Class.{has}
-use Rattle.rules.specs.Rule.{Rule, one, _then_, many, plus, Takes, byte, both, stop, more, At, Longest, Fails}
+use Rattle.rules.specs.Rule.{one, many, Takes, byte, both, stop, more, At, Fails}
 use Rattle.rules.proofs.Bools.{not-both}
-use Rattle.rules.proofs.Chains.{Single, snoc, longest}
+use Rattle.rules.proofs.Chains.{snoc, longest}
 use Rattle.rules.proofs.Matches.{starting, one-at}
 use Rattle.lexicon.specs.declared.Base.{Base}
 use Rattle.lexicon.specs.declared.Base.the-variants.{Two, Eight, Ten, Sixteen}

@@ -2,29 +2,29 @@
 use mathlib.Core.Path.{_≡_, refl, subst, sym, _∙_}
 use mathlib.Core.Logic.{_⊎_, inl, inr, ⊎-elim}
 use mathlib.Core.Bool.{Bool, true, false, _||_}
-use mathlib.Core.List.{List, [], _∷_}
-use Prim.Native.Nat.{ℕ, _+_, _≤_, _<_}
+use mathlib.Core.List.{List}
+use Prim.Native.Nat.{ℕ, _+_, _≤_}
 use native.Mathlib.Omega.{arith}
-use lib.ListN.{length, getD}
+use lib.ListN.{getD}
 use Rattle.rules.specs.Test.{Says}
-use Rattle.rules.specs.Class.{Class, In, just}
-use Rattle.rules.specs.Rule.{Rule, one, _then_, _or_, many, opt, lit, Takes, nothing, byte, both, left, right, stop, more, At, Longest, Fails, Among}
+use Rattle.rules.specs.Class.{Class}
+use Rattle.rules.specs.Rule.{Rule, one, _then_, many, opt, lit, Takes, nothing, byte, both, left, right, stop, more, At, Longest, Fails, Among}
 use Rattle.rules.proofs.Bools.{or-cases, or-left, or-right}
 use Rattle.rules.proofs.Classes.{apart, apartSpan, apart-no}
-use Rattle.rules.proofs.Matches.{forward, starting, ending, one-at}
-use Rattle.rules.proofs.Chains.{Single, move, join, snoc, reaches}
+use Rattle.rules.proofs.Matches.{forward, starting, one-at}
+use Rattle.rules.proofs.Chains.{Single, join, snoc, reaches}
 use Rattle.rules.proofs.Ways.{never, never-takes}
 use Rattle.lexicon.specs.declared.Literal.{Literal}
 use Rattle.lexicon.specs.declared.Literal as Literal
 use Rattle.lexicon.specs.Found.{Judges}
 use Rattle.lexicon.specs.Space.{blank, sp, Skips}
-use Rattle.lexicon.specs.Literals.{unescaped, restricted, escape, content, segment, quoted}
+use Rattle.lexicon.specs.Literals.{unescaped, restricted, content, segment, quoted}
 use Rattle.lexicon.specs.Bad.{BadEscape, BadSegment, BadFurther, BadQuoted, inFirst, inFurther}
 use Rattle.lexicon.proofs.Spaces.{landed, skips-same}
 use Rattle.string.specs.Parts.{plainRest, item, escapedRest, BadRest}
 use Rattle.string.proofs.Answers.{says-no}
 use Rattle.string.proofs.Among.{Strict, place, found, kept, none-among, which}
-use Rattle.string.proofs.Closed.{closed-single, closes, begins-none}
+use Rattle.string.proofs.Closed.{closed-single, closes}
 use Rattle.string.proofs.Items.{quote, backslash, backslash-unescaped, quote-restricted, quote-item, restricted-single, item-single, strict-of}
 
 quote-backslash : apart quote backslash ≡ true

@@ -8,8 +8,8 @@ use borrow.Author.Count.{below-more}
 use borrow.Author.Tests.{not-true, not-false}
 use lib.ListN.{length, getD}
 use Rattle.rules.specs.Test.{Says}
-use Rattle.rules.specs.Class.{Class, In, has, just}
-use Rattle.rules.specs.Rule.{Rule, one, _then_, many, row, lit, Takes, nothing, byte, both, stop, more, At, Longest, Fails}
+use Rattle.rules.specs.Class.{In, has, just}
+use Rattle.rules.specs.Rule.{one, many, row, lit, Takes, nothing, byte, both, stop, At, Longest, Fails}
 use Rattle.rules.proofs.Bools.{not-both}
 use Rattle.rules.proofs.Classes.{in-just, just-is}
 use Rattle.rules.proofs.Matches.{starting, one-at}

@@ -1,3 +1,5 @@
+-- `string::code_point::count` meets its contract: the bytes up to `i` are digits, and `code` is their number held below the cap.
+-- Assumes nothing.
 use borrow.Author.Needs.{needs}
 use Prim.Native.Nat.{_-_}
 use native.Mathlib.Omega.{arith}
@@ -5,11 +7,6 @@ use lib.ListN.{length}
 use Rattle.string.proofs.Numbers.{Counting, counting-none, counting-more, counting-ends, counting-all}
 use Rattle.string.proofs.code_point.count.Statement.{statement}
 use Rattle.string.proofs.code_point.count.Tie as tie
-use Rattle.string.proofs.code_point.count.Reads as reads
-use Rattle.string.proofs.code_point.count.Lts as lts
-use Rattle.string.proofs.code_point.set_of.Reads as set-of-reads
-use Rattle.string.proofs.code_point.step.Reads as step-reads
-use Rattle.text.proofs.class.in_set.Reads as in-set-reads
 
 abbrev Inv-loop : tie.InvT-loop
 Inv-loop text at base set code₀ i₀ code i = Counting text base at i code
@@ -17,43 +14,33 @@ Inv-loop text at base set code₀ i₀ code i = Counting text base at i code
 abbrev μ-loop : tie.MeasureT-loop
 μ-loop text at base set code₀ i₀ code i = length text - i
 
--- src/code_point.rt:92:9
 set-of-requires : tie.Need-set-of-requires Inv-loop μ-loop
 set-of-requires c κs = search needs
 
--- src/code_point.rt:95:5
 loop-holds : tie.Need-loop-holds Inv-loop μ-loop
 loop-holds c = counting-none _ _ _
 
--- src/code_point.rt:96:17
 shared-slice-read-b : tie.Need-shared-slice-read-b Inv-loop μ-loop
 shared-slice-read-b c = search needs
 
--- src/code_point.rt:97:13
 in-set-requires : tie.Need-in-set-requires Inv-loop μ-loop
 in-set-requires c κs = search needs
 
--- src/code_point.rt:98:13
 returns : tie.Need-returns Inv-loop μ-loop
 returns c = search (counting-ends, needs)
 
--- src/code_point.rt:100:9
 step-requires : tie.Need-step-requires Inv-loop μ-loop
 step-requires c κs = omega (arith, c .before .before .before .before .loop .inv .code)
 
--- src/code_point.rt:101:9
 add-i : tie.Need-add-i Inv-loop μ-loop
 add-i c = search needs
 
--- src/code_point.rt:95:5
 loop-less : tie.Need-loop-less Inv-loop μ-loop
 loop-less c = search needs
 
--- src/code_point.rt:95:5
 loop-again : tie.Need-loop-again Inv-loop μ-loop
 loop-again c = search (counting-more, needs)
 
--- src/code_point.rt:89:1
 returns-2 : tie.Need-returns-2 Inv-loop μ-loop
 returns-2 c = search (counting-all, needs)
 

@@ -1,31 +1,25 @@
+-- `string::code_point::digit` meets its contract: the three parts of the byte table.
+-- Assumes nothing.
 use borrow.Author.Needs.{needs}
 use Rattle.string.proofs.Numbers.{digit-low, digit-ten, digit-letter}
 use Rattle.string.proofs.code_point.digit.Statement.{statement}
 use Rattle.string.proofs.code_point.digit.Tie as tie
-use Rattle.string.proofs.code_point.digit.Reads as reads
-use Rattle.string.proofs.code_point.digit.Lts as lts
 
--- src/code_point.rt:55:9
 returns : tie.Need-returns
 returns c = search (digit-low, needs)
 
--- src/code_point.rt:58:16
 cast-result : tie.Need-cast-result
 cast-result c = search needs
 
--- src/code_point.rt:58:9
 returns-2 : tie.Need-returns-2
 returns-2 c = search (digit-ten, needs)
 
--- src/code_point.rt:60:6
 sub-result : tie.Need-sub-result
 sub-result c = search needs
 
--- src/code_point.rt:60:5
 cast-result-2 : tie.Need-cast-result-2
 cast-result-2 c = search needs
 
--- src/code_point.rt:51:1
 returns-3 : tie.Need-returns-3
 returns-3 c = search (digit-letter, needs)
 

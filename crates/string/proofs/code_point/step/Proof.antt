@@ -1,34 +1,26 @@
+-- `string::code_point::step` meets its contract: the product fits, and the sum is held below the cap.
+-- Assumes nothing.
 use borrow.Author.Needs.{needs}
 use native.Mathlib.Omega.{arith}
 use Rattle.string.proofs.Numbers.{product, digit-most, step-under, step-over}
 use Rattle.string.proofs.code_point.step.Statement.{statement}
 use Rattle.string.proofs.code_point.step.Tie as tie
-use Rattle.string.proofs.code_point.step.Reads as reads
-use Rattle.string.proofs.code_point.step.Lts as lts
-use Rattle.string.proofs.code_point.digit.Reads as digit-reads
-use Rattle.string.proofs.code_point.radix_of.Reads as radix-of-reads
 
--- src/code_point.rt:68:22
 radix-of-requires : tie.Need-radix-of-requires
 radix-of-requires c κs = search needs
 
--- src/code_point.rt:68:15
 mul-sum : tie.Need-mul-sum
 mul-sum c = omega (arith, product (c .before .args .base) (c .before .args .code) (c .radix-of .result) (c .before .pre) (c .radix-of .ensures))
 
--- src/code_point.rt:68:39
 digit-requires : tie.Need-digit-requires
 digit-requires c κs = search needs
 
--- src/code_point.rt:68:15
 add-sum : tie.Need-add-sum
 add-sum c = let a = c .before .before .args in omega (arith, product (a .base) (a .code) (c .before .radix-of .result) (c .before .before .pre) (c .before .radix-of .ensures), digit-most (a .b))
 
--- src/code_point.rt:70:9
 returns : tie.Need-returns
 returns c = let a = c .before .before .before .args in search (step-under (a .base) (a .code), needs)
 
--- src/code_point.rt:64:1
 returns-2 : tie.Need-returns-2
 returns-2 c = let a = c .before .before .before .args in search (step-over (a .base) (a .code) (c .before .before .radix-of .result) (c .before .digit .result), needs)
 

@@ -1,3 +1,5 @@
+-- `string::segment::escape` meets its contract: one law for the six letters, one for the angle.
+-- Assumes nothing.
 use borrow.Author.Needs.{needs}
 use native.Mathlib.Omega.{arith}
 use borrow.Author.Tests.{not-false}
@@ -6,68 +8,49 @@ use Rattle.string.proofs.Answers.{there}
 use Rattle.string.proofs.Escapes.{by-letter, by-angle, by-none, by-end, by-other}
 use Rattle.string.proofs.segment.escape.Statement.{statement}
 use Rattle.string.proofs.segment.escape.Tie as tie
-use Rattle.string.proofs.segment.escape.Reads as reads
-use Rattle.string.proofs.segment.escape.Lts as lts
-use Rattle.string.proofs.segment.angled.Reads as angled-reads
-use Rattle.text.proofs.byte.stands.Reads as stands-reads
 
--- src/segment.rt:55:9
 stands-requires : tie.Need-stands-requires
 stands-requires c κs = search needs
 
--- src/segment.rt:56:9
 returns : tie.Need-returns
 returns c = by-none _ _ (c .before .stands .ensures) (c .if1 .taken)
 
--- src/segment.rt:58:16
 add-next : tie.Need-add-next
 add-next c = omega (arith, there (c .before .stands .ensures) (not-false _ (c .if1 .left)) .0)
 
--- src/segment.rt:60:9
 returns-2 : tie.Need-returns-2
 returns-2 c = by-end _ _ (c .if2 .taken)
 
--- src/segment.rt:62:15
 add-end : tie.Need-add-end
 add-end c = search needs
 
--- src/segment.rt:63:11
 shared-slice-read-match : tie.Need-shared-slice-read-match
 shared-slice-read-match c = search needs
 
--- src/segment.rt:70:17
 angled-requires : tie.Need-angled-requires
 angled-requires c κs = search needs
 
--- src/segment.rt:52:1
 returns-3 : tie.Need-returns-3
 returns-3 c = by-letter _ _ (c .before .before .before .before .stands .ensures) (c .before .before .before .if1 .left) Letter.q (c .before .before .if2 .left) (c .match .keys1)
 
--- src/segment.rt:52:1
 returns-4 : tie.Need-returns-4
 returns-4 c = by-letter _ _ (c .before .before .before .before .stands .ensures) (c .before .before .before .if1 .left) Letter.g (c .before .before .if2 .left) (c .match .keys2)
 
--- src/segment.rt:52:1
 returns-5 : tie.Need-returns-5
 returns-5 c = by-letter _ _ (c .before .before .before .before .stands .ensures) (c .before .before .before .if1 .left) Letter.b (c .before .before .if2 .left) (c .match .keys3)
 
--- src/segment.rt:52:1
 returns-6 : tie.Need-returns-6
 returns-6 c = by-letter _ _ (c .before .before .before .before .stands .ensures) (c .before .before .before .if1 .left) Letter.t (c .before .before .if2 .left) (c .match .keys4)
 
--- src/segment.rt:52:1
 returns-7 : tie.Need-returns-7
 returns-7 c = by-letter _ _ (c .before .before .before .before .stands .ensures) (c .before .before .before .if1 .left) Letter.n (c .before .before .if2 .left) (c .match .keys5)
 
--- src/segment.rt:52:1
 returns-8 : tie.Need-returns-8
 returns-8 c = by-letter _ _ (c .before .before .before .before .stands .ensures) (c .before .before .before .if1 .left) Letter.r (c .before .before .if2 .left) (c .match .keys6)
 
--- src/segment.rt:52:1
 returns-9 : tie.Need-returns-9
 returns-9 c = let a = c .before .before .before .before .before .before .before .args in by-angle (a .text .now) (a .at) (c .before .before .before .before .before .stands .ensures) (c .before .before .before .before .if1 .left) (c .angled .result) (c .before .before .before .if2 .left) (c .before .match .keys7) (c .angled .ensures)
 
--- src/segment.rt:52:1
 returns-10 : tie.Need-returns-10
 returns-10 c = let a = c .before .before .before .before .before .before .args in by-other (a .text .now) (a .at) (c .match .rest .0 .0 .0 .0 .0 .0 .1, (c .match .rest .0 .0 .0 .0 .0 .1, (c .match .rest .0 .0 .0 .0 .1, (c .match .rest .0 .0 .0 .1, (c .match .rest .0 .0 .1, (c .match .rest .0 .1, (tt))))))) (c .match .rest .1)
 

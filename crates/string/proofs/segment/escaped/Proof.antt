@@ -1,3 +1,5 @@
+-- `string::segment::escaped` meets its contract: the items up to `i` are a row, and `bad` says whether one of them is bad.
+-- Assumes nothing.
 use borrow.Author.Needs.{needs}
 use mathlib.Core.Path.{refl}
 use Prim.Native.Nat.{_-_}
@@ -18,10 +20,6 @@ use Rattle.string.proofs.Segments.{rest-judged}
 use Rattle.string.proofs.Taken.{literal-at, no-literal}
 use Rattle.string.proofs.segment.escaped.Statement.{statement}
 use Rattle.string.proofs.segment.escaped.Tie as tie
-use Rattle.string.proofs.segment.escaped.Reads as reads
-use Rattle.string.proofs.segment.escaped.Lts as lts
-use Rattle.string.proofs.segment.item.Reads as item-reads
-use Rattle.text.proofs.byte.stands.Reads as stands-reads
 
 abbrev Inv-loop : tie.InvT-loop
 Inv-loop text at i₀ bad₀ i bad = Takes text (many item) at i × Says bad (Among text item (BadEscape text) at i)
@@ -29,45 +27,35 @@ Inv-loop text at i₀ bad₀ i bad = Takes text (many item) at i × Says bad (Am
 abbrev μ-loop : tie.MeasureT-loop
 μ-loop text at i₀ bad₀ i bad = length text - i
 
--- src/segment.rt:118:5
 loop-holds : tie.Need-loop-holds Inv-loop μ-loop
 loop-holds c = (stop refl, none-said _ item (BadEscape _) item-single item-strict _)
 
--- src/segment.rt:118:12
 stands-requires : tie.Need-stands-requires Inv-loop μ-loop
 stands-requires c κs = search needs
 
--- src/segment.rt:119:47
 item-requires : tie.Need-item-requires Inv-loop μ-loop
 item-requires c κs = search needs
 
--- src/segment.rt:119:27
 enum-known-end : tie.Need-enum-known-end Inv-loop μ-loop
 enum-known-end c = search needs
 
--- src/segment.rt:120:13
 enum-told : tie.Need-enum-told Inv-loop μ-loop
 enum-told c = search needs
 
--- src/segment.rt:120:13
 returns : tie.Need-returns Inv-loop μ-loop
 returns c = never-closes item quote item-single quote-item (c .before .before .before .before .before .loop .inv .0) (no-literal (BadEscape (c .before .before .before .before .before .before .before .args .text .now)) (c .enum-told .given .1) (c .before .before .item .ensures))
     (not-there (c .before .before .before .before .stands .ensures) (not-true _ (c .before .before .before .if1 .taken)))
 
--- src/segment.rt:118:5
 loop-less : tie.Need-loop-less Inv-loop μ-loop
 loop-less c = let y = literal-at (BadEscape (c .before .before .before .before .before .before .before .before .args .text .now)) (c .before .end .given .1) (c .before .before .before .item .ensures) in omega (arith, begins-within item refl (y .0 .takes), item-strict .less (y .0 .takes))
 
--- src/segment.rt:118:5
 loop-again : tie.Need-loop-again Inv-loop μ-loop
 loop-again c = let y = literal-at (BadEscape (c .before .before .before .before .before .before .before .before .args .text .now)) (c .before .end .given .1) (c .before .before .before .item .ensures) in let v = c .before .before .before .before .before .before .loop .inv in
     (snoc (v .0) (y .0 .takes), said _ item (BadEscape (c .before .before .before .before .before .before .before .before .args .text .now)) item-single item-strict (v .0) (y .0 .takes) (v .1) (y .1))
 
--- src/segment.rt:125:24
 add-t10 : tie.Need-add-t10 Inv-loop μ-loop
 add-t10 c = omega (arith, there (c .before .stands .ensures) (not-false _ (c .if1 .left)) .0)
 
--- src/segment.rt:113:1
 returns-2 : tie.Need-returns-2 Inv-loop μ-loop
 returns-2 c = let v = c .before .before .loop .inv in rest-judged _ (v .0) (there (c .before .stands .ensures) (not-false _ (c .if1 .left))) (v .1)
 

@@ -1,3 +1,5 @@
+-- `string::segment::plain` meets its contract: the items up to `i` are a row.
+-- Assumes nothing.
 use borrow.Author.Needs.{needs}
 use mathlib.Core.Path.{refl}
 use Prim.Native.Nat.{_-_}
@@ -14,10 +16,6 @@ use Rattle.string.proofs.Closed.{closes, never-closes}
 use Rattle.string.proofs.Items.{quote, quote-restricted, restricted-single, restricted-strict}
 use Rattle.string.proofs.segment.plain.Statement.{statement}
 use Rattle.string.proofs.segment.plain.Tie as tie
-use Rattle.string.proofs.segment.plain.Reads as reads
-use Rattle.string.proofs.segment.plain.Lts as lts
-use Rattle.string.proofs.segment.restricted.Reads as restricted-reads
-use Rattle.text.proofs.byte.stands.Reads as stands-reads
 
 abbrev Inv-loop : tie.InvT-loop
 Inv-loop text at i₀ i = Takes text (many restricted) at i
@@ -25,44 +23,34 @@ Inv-loop text at i₀ i = Takes text (many restricted) at i
 abbrev μ-loop : tie.MeasureT-loop
 μ-loop text at i₀ i = length text - i
 
--- src/segment.rt:103:5
 loop-holds : tie.Need-loop-holds Inv-loop μ-loop
 loop-holds c = stop refl
 
--- src/segment.rt:103:12
 stands-requires : tie.Need-stands-requires Inv-loop μ-loop
 stands-requires c κs = search needs
 
--- src/segment.rt:104:31
 restricted-requires : tie.Need-restricted-requires Inv-loop μ-loop
 restricted-requires c κs = search needs
 
--- src/segment.rt:104:23
 enum-known-next : tie.Need-enum-known-next Inv-loop μ-loop
 enum-known-next c = search needs
 
--- src/segment.rt:105:13
 enum-told : tie.Need-enum-told Inv-loop μ-loop
 enum-told c = search needs
 
--- src/segment.rt:105:13
 returns : tie.Need-returns Inv-loop μ-loop
 returns c = never-closes restricted quote restricted-single quote-restricted (c .before .before .before .before .before .loop .inv) (not-found (c .enum-told .given .1) (c .before .before .restricted .ensures))
     (not-there (c .before .before .before .before .stands .ensures) (not-true _ (c .before .before .before .if1 .taken)))
 
--- src/segment.rt:103:5
 loop-less : tie.Need-loop-less Inv-loop μ-loop
 loop-less c = omega (arith, begins-within restricted refl (at-end (c .before .next .given .1) (c .before .before .before .restricted .ensures) .takes), restricted-strict .less (at-end (c .before .next .given .1) (c .before .before .before .restricted .ensures) .takes))
 
--- src/segment.rt:103:5
 loop-again : tie.Need-loop-again Inv-loop μ-loop
 loop-again c = snoc (c .before .before .before .before .before .before .loop .inv) (at-end (c .before .next .given .1) (c .before .before .before .restricted .ensures) .takes)
 
--- src/segment.rt:109:15
 add-t8 : tie.Need-add-t8 Inv-loop μ-loop
 add-t8 c = omega (arith, there (c .before .stands .ensures) (not-false _ (c .if1 .left)) .0)
 
--- src/segment.rt:99:1
 returns-2 : tie.Need-returns-2 Inv-loop μ-loop
 returns-2 c = closes restricted quote restricted-single quote-restricted (c .before .before .loop .inv) (there (c .before .stands .ensures) (not-false _ (c .if1 .left)))
 

@@ -1,3 +1,5 @@
+-- `string::segment::restricted` meets its contract: a backslash or else a character.
+-- Assumes nothing.
 use borrow.Author.Needs.{needs}
 use native.Mathlib.Omega.{arith}
 use Rattle.text.proofs.Searches.{at-end, not-found}
@@ -5,40 +7,28 @@ use Rattle.string.proofs.Answers.{there, not-there}
 use Rattle.string.proofs.Escapes.{plain-character, plain-backslash, no-plain}
 use Rattle.string.proofs.segment.restricted.Statement.{statement}
 use Rattle.string.proofs.segment.restricted.Tie as tie
-use Rattle.string.proofs.segment.restricted.Reads as reads
-use Rattle.string.proofs.segment.restricted.Lts as lts
-use Rattle.string.proofs.segment.character.Reads as character-reads
-use Rattle.text.proofs.byte.stands.Reads as stands-reads
 
--- src/segment.rt:86:8
 stands-requires : tie.Need-stands-requires
 stands-requires c κs = search needs
 
--- src/segment.rt:87:26
 add-t5 : tie.Need-add-t5
 add-t5 c = omega (arith, there (c .before .stands .ensures) (c .if1 .taken) .0)
 
--- src/segment.rt:87:9
 returns : tie.Need-returns
 returns c = plain-backslash _ (there (c .before .stands .ensures) (c .if1 .taken))
 
--- src/segment.rt:89:26
 character-requires : tie.Need-character-requires
 character-requires c κs = search needs
 
--- src/segment.rt:89:19
 enum-known-end : tie.Need-enum-known-end
 enum-known-end c = search needs
 
--- src/segment.rt:90:9
 enum-told : tie.Need-enum-told
 enum-told c = search needs
 
--- src/segment.rt:90:9
 returns-2 : tie.Need-returns-2
 returns-2 c = no-plain _ (not-found (c .enum-told .given .1) (c .before .before .character .ensures)) (not-there (c .before .before .before .before .stands .ensures) (c .before .before .before .if1 .left))
 
--- src/segment.rt:83:1
 returns-3 : tie.Need-returns-3
 returns-3 c = plain-character _ (at-end (c .before .end .given .1) (c .before .before .before .character .ensures))
 

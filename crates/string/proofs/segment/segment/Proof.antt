@@ -1,3 +1,5 @@
+-- `string::segment::segment` meets its contract: the first byte behind the quote tells the kind.
+-- Assumes nothing.
 use borrow.Author.Needs.{needs}
 use native.Mathlib.Omega.{arith}
 use borrow.Author.Tests.{not-true, not-false}
@@ -6,61 +8,43 @@ use Rattle.string.proofs.Answers.{there, not-there}
 use Rattle.string.proofs.Segments.{no-segment, segment-escaped, segment-plain, segment-open}
 use Rattle.string.proofs.segment.segment.Statement.{statement}
 use Rattle.string.proofs.segment.segment.Tie as tie
-use Rattle.string.proofs.segment.segment.Reads as reads
-use Rattle.string.proofs.segment.segment.Lts as lts
-use Rattle.string.proofs.segment.escaped.Reads as escaped-reads
-use Rattle.string.proofs.segment.plain.Reads as plain-reads
-use Rattle.text.proofs.byte.stands.Reads as stands-reads
 
--- src/segment.rt:132:9
 stands-requires : tie.Need-stands-requires
 stands-requires c κs = search needs
 
--- src/segment.rt:133:9
 returns : tie.Need-returns
 returns c = no-segment _ (not-there (c .before .stands .ensures) (not-true _ (c .if1 .taken)))
 
--- src/segment.rt:135:21
 add-stands : tie.Need-add-stands
 add-stands c = omega (arith, (there (c .before .stands .ensures) (not-false _ (c .if1 .left))) .0)
 
--- src/segment.rt:135:8
 stands-requires-2 : tie.Need-stands-requires-2
 stands-requires-2 c κs = search needs
 
--- src/segment.rt:136:30
 add-escaped : tie.Need-add-escaped
 add-escaped c = omega (arith, there (c .before .stands2 .ensures) (c .if2 .taken) .0)
 
--- src/segment.rt:136:9
 escaped-requires : tie.Need-escaped-requires
 escaped-requires c κs = search needs
 
--- src/segment.rt:136:9
 returns-2 : tie.Need-returns-2
 returns-2 c = let a = c .before .before .before .before .before .before .args in segment-escaped (a .text .now) (a .at) (c .escaped .result) (there (c .before .before .before .before .stands .ensures) (not-false _ (c .before .before .before .if1 .left))) (there (c .before .before .stands2 .ensures) (c .before .if2 .taken)) (c .escaped .ensures)
 
--- src/segment.rt:138:38
 add-plain : tie.Need-add-plain
 add-plain c = omega (arith, (there (c .before .before .before .stands .ensures) (not-false _ (c .before .before .if1 .left))) .0)
 
--- src/segment.rt:138:26
 plain-requires : tie.Need-plain-requires
 plain-requires c κs = search needs
 
--- src/segment.rt:138:19
 enum-known-end : tie.Need-enum-known-end
 enum-known-end c = search needs
 
--- src/segment.rt:139:9
 enum-told : tie.Need-enum-told
 enum-told c = search needs
 
--- src/segment.rt:139:9
 returns-3 : tie.Need-returns-3
 returns-3 c = let a = c .before .before .before .before .before .before .before .before .args in segment-open (a .text .now) (a .at) (not-there (c .before .before .before .before .stands2 .ensures) (c .before .before .before .if2 .left)) (not-found (c .enum-told .given .1) (c .before .before .plain .ensures))
 
--- src/segment.rt:129:1
 returns-4 : tie.Need-returns-4
 returns-4 c = let a = c .before .before .before .before .before .before .before .before .before .args in segment-plain (a .text .now) (a .at) (c .before .end .given .0 .0) (there (c .before .before .before .before .before .before .before .stands .ensures) (not-false _ (c .before .before .before .before .before .before .if1 .left))) (not-there (c .before .before .before .before .before .stands2 .ensures) (c .before .before .before .before .if2 .left)) (at-end (c .before .end .given .1) (c .before .before .before .plain .ensures))
 

@@ -1,12 +1,11 @@
+-- `string::spelling::spells` meets its contract: the bytes before `k` are equal, and the answer is that of the first that differs or of them all.
+-- Assumes nothing.
 use borrow.Author.Needs.{needs}
 use Prim.Native.Nat.{_-_}
 use lib.ListN.{length}
 use Rattle.string.proofs.Words.{Matched, spells-back, spells-longer, spells-all, spells-other, spells-more, spells-none}
 use Rattle.string.proofs.spelling.spells.Statement.{statement}
 use Rattle.string.proofs.spelling.spells.Tie as tie
-use Rattle.string.proofs.spelling.spells.Reads as reads
-use Rattle.string.proofs.spelling.spells.Lts as lts
-use Rattle.text.proofs.byte.stands.Reads as stands-reads
 
 abbrev Inv-loop : tie.InvT-loop
 Inv-loop text at end bytes k₀ k = Matched text bytes at k
@@ -14,47 +13,36 @@ Inv-loop text at end bytes k₀ k = Matched text bytes at k
 abbrev μ-loop : tie.MeasureT-loop
 μ-loop text at end bytes k₀ k = length bytes - k
 
--- src/spelling.rt:24:9
 returns : tie.Need-returns Inv-loop μ-loop
 returns c = let a = c .before .before .before .args in search (spells-back (a .text .now) (a .bytes .now) (a .at) (a .end), needs)
 
--- src/spelling.rt:27:9
 returns-2 : tie.Need-returns-2 Inv-loop μ-loop
 returns-2 c = let a = c .before .before .before .before .args in search (spells-longer (a .text .now) (a .bytes .now) (a .at) (a .end), needs)
 
--- src/spelling.rt:30:5
 loop-holds : tie.Need-loop-holds Inv-loop μ-loop
 loop-holds c = spells-none _ _ _ (c .before .before .before .before .args .end)
 
--- src/spelling.rt:31:26
 add-stands : tie.Need-add-stands Inv-loop μ-loop
 add-stands c = search needs
 
--- src/spelling.rt:31:34
 shared-slice-read-stands : tie.Need-shared-slice-read-stands Inv-loop μ-loop
 shared-slice-read-stands c = search needs
 
--- src/spelling.rt:31:13
 stands-requires : tie.Need-stands-requires Inv-loop μ-loop
 stands-requires c κs = search needs
 
--- src/spelling.rt:32:13
 returns-3 : tie.Need-returns-3 Inv-loop μ-loop
 returns-3 c = let a = c .before .before .before .before .before .before .before .before .before .args in search (spells-other (a .text .now) (a .bytes .now) (a .at) (a .end), needs)
 
--- src/spelling.rt:34:9
 add-k : tie.Need-add-k Inv-loop μ-loop
 add-k c = search needs
 
--- src/spelling.rt:30:5
 loop-less : tie.Need-loop-less Inv-loop μ-loop
 loop-less c = search needs
 
--- src/spelling.rt:30:5
 loop-again : tie.Need-loop-again Inv-loop μ-loop
 loop-again c = let a = c .before .before .before .before .before .before .before .before .before .args in search (spells-more (a .text .now) (a .bytes .now) (a .at) (a .end), needs)
 
--- src/spelling.rt:20:1
 returns-4 : tie.Need-returns-4 Inv-loop μ-loop
 returns-4 c = let a = c .before .before .before .before .before .before .args in search (spells-all (a .text .now) (a .bytes .now) (a .at) (a .end), needs)
 

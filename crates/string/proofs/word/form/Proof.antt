@@ -1,3 +1,5 @@
+-- `string::word::form` meets its contract: the head words of collections first, then one comparison a word.
+-- Assumes nothing.
 use borrow.Author.Needs.{needs}
 use Rattle.string.specs.Parts.{collections}
 use Rattle.string.proofs.Answers.{refuted}
@@ -5,72 +7,52 @@ use Rattle.string.proofs.Taken.{head-at, head-none}
 use Rattle.string.proofs.Words.{no-head}
 use Rattle.string.proofs.word.form.Statement.{statement}
 use Rattle.string.proofs.word.form.Tie as tie
-use Rattle.string.proofs.word.form.Reads as reads
-use Rattle.string.proofs.word.form.Lts as lts
-use Rattle.string.proofs.spelling.spells.Reads as spells-reads
-use Rattle.string.proofs.word.collection.Reads as collection-reads
 
--- src/word.rt:70:32
 collection-requires : tie.Need-collection-requires
 collection-requires c κs = search needs
 
--- src/word.rt:70:27
 enum-known-h : tie.Need-enum-known-h
 enum-known-h c = search needs
 
--- src/word.rt:71:9
 returns : tie.Need-returns
 returns c = let a = c .before .before .before .before .before .args in head-at (a .text .now) collections (a .at) (a .end) (c .before .h .given .1) (c .before .before .before .collection .ensures)
 
--- src/word.rt:73:30
 slice-aggregate-spells : tie.Need-slice-aggregate-spells
 slice-aggregate-spells c = search needs
 
--- src/word.rt:73:8
 spells-requires : tie.Need-spells-requires
 spells-requires c κs = search needs
 
--- src/word.rt:74:9
 returns-2 : tie.Need-returns-2
 returns-2 c = c .before .spells .ensures .true-holds (c .if1 .taken)
 
--- src/word.rt:76:30
 slice-aggregate-spells-2 : tie.Need-slice-aggregate-spells-2
 slice-aggregate-spells-2 c = search needs
 
--- src/word.rt:76:8
 spells-requires-2 : tie.Need-spells-requires-2
 spells-requires-2 c κs = search needs
 
--- src/word.rt:77:9
 returns-3 : tie.Need-returns-3
 returns-3 c = c .before .spells2 .ensures .true-holds (c .if2 .taken)
 
--- src/word.rt:79:30
 slice-aggregate-spells-3 : tie.Need-slice-aggregate-spells-3
 slice-aggregate-spells-3 c = search needs
 
--- src/word.rt:79:8
 spells-requires-3 : tie.Need-spells-requires-3
 spells-requires-3 c κs = search needs
 
--- src/word.rt:80:9
 returns-4 : tie.Need-returns-4
 returns-4 c = c .before .spells3 .ensures .true-holds (c .if3 .taken)
 
--- src/word.rt:82:30
 slice-aggregate-spells-4 : tie.Need-slice-aggregate-spells-4
 slice-aggregate-spells-4 c = search needs
 
--- src/word.rt:82:8
 spells-requires-4 : tie.Need-spells-requires-4
 spells-requires-4 c κs = search needs
 
--- src/word.rt:83:9
 returns-5 : tie.Need-returns-5
 returns-5 c = c .before .spells4 .ensures .true-holds (c .if4 .taken)
 
--- src/word.rt:67:1
 returns-6 : tie.Need-returns-6
 returns-6 c = let a = c .before .before .before .before .before .before .before .before .before .before .before .before .before .before .before .args in
     no-head (a .text .now) (a .at) (a .end) (head-none (a .text .now) collections (a .at) (a .end) (c .before .before .before .before .before .before .before .before .before .before .before .before .before .collection .result) (c .before .before .before .before .before .before .before .before .before .before .before .before .match .keys2) (c .before .before .before .before .before .before .before .before .before .before .before .before .before .collection .ensures))

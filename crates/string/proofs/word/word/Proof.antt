@@ -1,12 +1,11 @@
+-- `string::word::word` meets its contract: the bytes up to `i` go on with the word.
+-- Assumes nothing.
 use borrow.Author.Needs.{needs}
 use Prim.Native.Nat.{_-_}
 use lib.ListN.{length}
 use Rattle.string.proofs.Words.{Passed, word-beyond, word-other, word-first, word-more, word-ends, word-all}
 use Rattle.string.proofs.word.word.Statement.{statement}
 use Rattle.string.proofs.word.word.Tie as tie
-use Rattle.string.proofs.word.word.Reads as reads
-use Rattle.string.proofs.word.word.Lts as lts
-use Rattle.text.proofs.class.in_set.Reads as in-set-reads
 
 abbrev Inv-loop : tie.InvT-loop
 Inv-loop text at i₀ i = Passed text at i
@@ -14,55 +13,42 @@ Inv-loop text at i₀ i = Passed text at i
 abbrev μ-loop : tie.MeasureT-loop
 μ-loop text at i₀ i = length text - i
 
--- src/word.rt:17:9
 returns : tie.Need-returns Inv-loop μ-loop
 returns c = search (word-beyond, needs)
 
--- src/word.rt:19:29
 shared-slice-read-in-set : tie.Need-shared-slice-read-in-set Inv-loop μ-loop
 shared-slice-read-in-set c = search needs
 
--- src/word.rt:19:9
 in-set-requires : tie.Need-in-set-requires Inv-loop μ-loop
 in-set-requires c κs = search needs
 
--- src/word.rt:20:9
 returns-2 : tie.Need-returns-2 Inv-loop μ-loop
 returns-2 c = search (word-other, needs)
 
--- src/word.rt:22:17
 add-i : tie.Need-add-i Inv-loop μ-loop
 add-i c = search needs
 
--- src/word.rt:23:5
 loop-holds : tie.Need-loop-holds Inv-loop μ-loop
 loop-holds c = search (word-first, needs)
 
--- src/word.rt:24:33
 shared-slice-read-in-set-2 : tie.Need-shared-slice-read-in-set-2 Inv-loop μ-loop
 shared-slice-read-in-set-2 c = search needs
 
--- src/word.rt:24:13
 in-set-requires-2 : tie.Need-in-set-requires-2 Inv-loop μ-loop
 in-set-requires-2 c κs = search needs
 
--- src/word.rt:25:13
 returns-3 : tie.Need-returns-3 Inv-loop μ-loop
 returns-3 c = search (word-ends, needs)
 
--- src/word.rt:27:9
 add-i-2 : tie.Need-add-i-2 Inv-loop μ-loop
 add-i-2 c = search needs
 
--- src/word.rt:23:5
 loop-less : tie.Need-loop-less Inv-loop μ-loop
 loop-less c = search needs
 
--- src/word.rt:23:5
 loop-again : tie.Need-loop-again Inv-loop μ-loop
 loop-again c = search (word-more, needs)
 
--- src/word.rt:13:1
 returns-4 : tie.Need-returns-4 Inv-loop μ-loop
 returns-4 c = search (word-all, needs)
 
