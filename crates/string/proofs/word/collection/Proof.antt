@@ -1,87 +1,87 @@
 -- `string::word::collection` meets its contract: one comparison a word.
 -- Assumes nothing.
-use borrow.Author.Needs.{needs}
+use mathlib.Core.Path.{refl}
 use Rattle.string.proofs.Answers.{refuted}
 use Rattle.string.proofs.word.collection.Statement.{statement}
 use Rattle.string.proofs.word.collection.Tie as tie
 
 slice-aggregate-spells : tie.Need-slice-aggregate-spells
-slice-aggregate-spells c = search needs
+slice-aggregate-spells c = refl
 
 spells-requires : tie.Need-spells-requires
-spells-requires c κs = search needs
+spells-requires c κs = tt
 
 returns : tie.Need-returns
 returns c = c .before .spells .ensures .true-holds (c .if1 .taken)
 
 slice-aggregate-spells-2 : tie.Need-slice-aggregate-spells-2
-slice-aggregate-spells-2 c = search needs
+slice-aggregate-spells-2 c = refl
 
 spells-requires-2 : tie.Need-spells-requires-2
-spells-requires-2 c κs = search needs
+spells-requires-2 c κs = tt
 
 returns-2 : tie.Need-returns-2
 returns-2 c = c .before .spells2 .ensures .true-holds (c .if2 .taken)
 
 slice-aggregate-spells-3 : tie.Need-slice-aggregate-spells-3
-slice-aggregate-spells-3 c = search needs
+slice-aggregate-spells-3 c = refl
 
 spells-requires-3 : tie.Need-spells-requires-3
-spells-requires-3 c κs = search needs
+spells-requires-3 c κs = tt
 
 returns-3 : tie.Need-returns-3
 returns-3 c = c .before .spells3 .ensures .true-holds (c .if3 .taken)
 
 slice-aggregate-spells-4 : tie.Need-slice-aggregate-spells-4
-slice-aggregate-spells-4 c = search needs
+slice-aggregate-spells-4 c = refl
 
 spells-requires-4 : tie.Need-spells-requires-4
-spells-requires-4 c κs = search needs
+spells-requires-4 c κs = tt
 
 returns-4 : tie.Need-returns-4
 returns-4 c = c .before .spells4 .ensures .true-holds (c .if4 .taken)
 
 slice-aggregate-spells-5 : tie.Need-slice-aggregate-spells-5
-slice-aggregate-spells-5 c = search needs
+slice-aggregate-spells-5 c = refl
 
 spells-requires-5 : tie.Need-spells-requires-5
-spells-requires-5 c κs = search needs
+spells-requires-5 c κs = tt
 
 returns-5 : tie.Need-returns-5
 returns-5 c = c .before .spells5 .ensures .true-holds (c .if5 .taken)
 
 slice-aggregate-spells-6 : tie.Need-slice-aggregate-spells-6
-slice-aggregate-spells-6 c = search needs
+slice-aggregate-spells-6 c = refl
 
 spells-requires-6 : tie.Need-spells-requires-6
-spells-requires-6 c κs = search needs
+spells-requires-6 c κs = tt
 
 returns-6 : tie.Need-returns-6
 returns-6 c = c .before .spells6 .ensures .true-holds (c .if6 .taken)
 
 slice-aggregate-spells-7 : tie.Need-slice-aggregate-spells-7
-slice-aggregate-spells-7 c = search needs
+slice-aggregate-spells-7 c = refl
 
 spells-requires-7 : tie.Need-spells-requires-7
-spells-requires-7 c κs = search needs
+spells-requires-7 c κs = tt
 
 returns-7 : tie.Need-returns-7
 returns-7 c = c .before .spells7 .ensures .true-holds (c .if7 .taken)
 
 slice-aggregate-spells-8 : tie.Need-slice-aggregate-spells-8
-slice-aggregate-spells-8 c = search needs
+slice-aggregate-spells-8 c = refl
 
 spells-requires-8 : tie.Need-spells-requires-8
-spells-requires-8 c κs = search needs
+spells-requires-8 c κs = tt
 
 returns-8 : tie.Need-returns-8
 returns-8 c = c .before .spells8 .ensures .true-holds (c .if8 .taken)
 
 slice-aggregate-spells-9 : tie.Need-slice-aggregate-spells-9
-slice-aggregate-spells-9 c = search needs
+slice-aggregate-spells-9 c = refl
 
 spells-requires-9 : tie.Need-spells-requires-9
-spells-requires-9 c κs = search needs
+spells-requires-9 c κs = tt
 
 returns-9 : tie.Need-returns-9
 returns-9 c = c .before .spells9 .ensures .true-holds (c .if9 .taken)

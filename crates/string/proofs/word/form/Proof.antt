@@ -1,6 +1,7 @@
 -- `string::word::form` meets its contract: the head words of collections first, then one comparison a word.
 -- Assumes nothing.
 use borrow.Author.Needs.{needs}
+use mathlib.Core.Path.{refl}
 use Rattle.string.specs.Parts.{collections}
 use Rattle.string.proofs.Answers.{refuted}
 use Rattle.string.proofs.Taken.{head-at, head-none}
@@ -9,7 +10,7 @@ use Rattle.string.proofs.word.form.Statement.{statement}
 use Rattle.string.proofs.word.form.Tie as tie
 
 collection-requires : tie.Need-collection-requires
-collection-requires c κs = search needs
+collection-requires c κs = tt
 
 enum-known-h : tie.Need-enum-known-h
 enum-known-h c = search needs
@@ -18,37 +19,37 @@ returns : tie.Need-returns
 returns c = let a = c .before .before .before .before .before .args in head-at (a .text .now) collections (a .at) (a .end) (c .before .h .given .1) (c .before .before .before .collection .ensures)
 
 slice-aggregate-spells : tie.Need-slice-aggregate-spells
-slice-aggregate-spells c = search needs
+slice-aggregate-spells c = refl
 
 spells-requires : tie.Need-spells-requires
-spells-requires c κs = search needs
+spells-requires c κs = tt
 
 returns-2 : tie.Need-returns-2
 returns-2 c = c .before .spells .ensures .true-holds (c .if1 .taken)
 
 slice-aggregate-spells-2 : tie.Need-slice-aggregate-spells-2
-slice-aggregate-spells-2 c = search needs
+slice-aggregate-spells-2 c = refl
 
 spells-requires-2 : tie.Need-spells-requires-2
-spells-requires-2 c κs = search needs
+spells-requires-2 c κs = tt
 
 returns-3 : tie.Need-returns-3
 returns-3 c = c .before .spells2 .ensures .true-holds (c .if2 .taken)
 
 slice-aggregate-spells-3 : tie.Need-slice-aggregate-spells-3
-slice-aggregate-spells-3 c = search needs
+slice-aggregate-spells-3 c = refl
 
 spells-requires-3 : tie.Need-spells-requires-3
-spells-requires-3 c κs = search needs
+spells-requires-3 c κs = tt
 
 returns-4 : tie.Need-returns-4
 returns-4 c = c .before .spells3 .ensures .true-holds (c .if3 .taken)
 
 slice-aggregate-spells-4 : tie.Need-slice-aggregate-spells-4
-slice-aggregate-spells-4 c = search needs
+slice-aggregate-spells-4 c = refl
 
 spells-requires-4 : tie.Need-spells-requires-4
-spells-requires-4 c κs = search needs
+spells-requires-4 c κs = tt
 
 returns-5 : tie.Need-returns-5
 returns-5 c = c .before .spells4 .ensures .true-holds (c .if4 .taken)
