@@ -23,7 +23,7 @@ use Rattle.lexicon.specs.Values.{Digits}
 use Rattle.lexicon.proofs.Spaces.{skips-same, landed, Ahead, ahead-apart}
 use Rattle.lexicon.proofs.Groups.{digits-cut, digits-at, to-row, of-row}
 use Rattle.lexicon.proofs.Numbers.{Numeral, SomeNumeral, clear, view, numeral-at, numeral-cut, numeral-same, valued, of-nonsigned, to-nonsigned, to-base, further-ahead}
-use Rattle.lexicon.proofs.Integers.{Start, decimal-blank, start-sign, start-same, to-integer, of-integer, some-cut}
+use Rattle.lexicon.proofs.Integers.{Start, decimal-blank, start-sign, start-same, start-of, to-integer, of-integer, some-cut}
 
 -- ---- a symbol with dividing space on both sides
 
@@ -74,7 +74,7 @@ pub caret-apart : Apart 0x5E
 unfolding never apart apartSpan
 caret-apart = record { no-blank = refl; no-word = refl }
 
-point-slash : apart (just 0x2E) (just 0x2F) ≡ true
+pub point-slash : apart (just 0x2E) (just 0x2F) ≡ true
 unfolding apart apartSpan
 point-slash = refl
 
@@ -107,6 +107,10 @@ module _ (text : List ℕ) where
   of-significand st (left (both t p)) = from-start st t (some-point p)
   of-significand st (right (both (both t n) (both s m))) =
       from-start st t (divided (of-nonsigned text n) (of-spaced text 0x2F slash-apart s) (of-nonsigned text m))
+
+  pub significand-start : {i j : ℕ} → Takes text significand i j → (g : ℕ) × Start text i g
+  significand-start (left (both t p)) = (_, start-of text t (significand-at (some-point p)))
+  significand-start (right (both (both t n) u)) = (_, start-of text t (numeral-at text (of-nonsigned text n .is)))
 
   to-point : (b : Base) {h j : ℕ} → Takes text (pointOfBase b) h j → Takes text nonsignedPoint h j
   to-point Two t = left t

@@ -26,7 +26,7 @@ pub record Clear (c : Class) : Type 0 where
   pub no-joint : never c joint ≡ true
   pub no-blank : never c blank ≡ true
 
-underscore-space : never (anyOf "_") sp ≡ true
+pub underscore-space : never (anyOf "_") sp ≡ true
 unfolding never apart apartSpan
 underscore-space = refl
 
@@ -73,11 +73,20 @@ pub record Further (text : List ℕ) (n : ℕ) (c : Class) (j : ℕ) : Type 0 wh
   pub joined : Takes text (opt joint) j from
   pub next : Takes text (unit n c) from end
 
+-- none does
+pub record Ended (text : List ℕ) (n : ℕ) (c : Class) (j : ℕ) : Type 0 where
+  pub stops : Further text n c j → ⊥
+
 module _ {text : List ℕ} {n : ℕ} {c : Class} where
   pub snoc-digits : {i j m e : ℕ} {ds : List ℕ} → Digits text n c i j ds → Takes text (opt joint) j m → Takes text (unit n c) m e → Digits text n c i e (ds ++ read text m n)
   snoc-digits (lastUnit u) t v = nextUnit u t (lastUnit v)
   snoc-digits {m = m} (nextUnit {i = i} {ds = ds} u s d) t v =
       rw append-assoc (nextUnit u s (snoc-digits d t v))
+
+  -- a row begins with a unit
+  pub digits-unit : {i j : ℕ} {ds : List ℕ} → Digits text n c i j ds → (e : ℕ) × Takes text (unit n c) i e
+  digits-unit (lastUnit u) = (_, u)
+  digits-unit (nextUnit u s d) = (_, u)
 
   pub digits-forward : {i j : ℕ} {ds : List ℕ} → Digits text n c i j ds → i + n ≤ j
   digits-forward (lastUnit u) = omega (arith, unit-end n c u)
@@ -125,12 +134,12 @@ module _ (text : List ℕ) (n : ℕ) (c : Class) (cl : Clear c) where
   digits-cut (nextUnit u s d) (nextUnit v t f) h = digits-cut d (row-from (next-same u v s d t f) f) h
 
   -- so a row that does not go on is the longest
-  pub digits-most : {i j k : ℕ} {ds es : List ℕ} → Row i j ds → (Further text (suc n) c j → ⊥) → Row i k es → k ≤ j
+  pub digits-most : {i j k : ℕ} {ds es : List ℕ} → Row i j ds → Ended text (suc n) c j → Row i k es → k ≤ j
   digits-most {j = j} {k = k} d f e = go (decLe k j)
     where
       go : Dec (k ≤ j) → k ≤ j
       go (yes h) = h
-      go (no h) = absurd (f (digits-cut d e (omega (arith, h))))
+      go (no h) = absurd (f .stops (digits-cut d e (omega (arith, h))))
 
 -- ---- the rule
 

@@ -38,6 +38,12 @@ module _ (text : List ℕ) where
   start-same (unsigned f p) (left (both (byte y e) t)) a = absurd (f y)
   start-same (unsigned f p) (right (nothing e)) a = sym e ∙ sym p
 
+  -- a sign that a number follows has such a place
+  pub start-of : {i h : ℕ} → Takes text sign i h → At text decimal h → Start text i h
+  start-of (left (both (byte y e) t)) a = behind y (landed decimal decimal-blank (starting e t) a)
+  start-of {i} (right (nothing e)) a =
+      unsigned (λ x. apart-no plusMinus decimal (getD text i 0) signs-digits (x .1) (subst (λ (k : ℕ). In decimal (getD text k 0)) (sym e) (a .1))) (sym e)
+
   pub start-sign : {i g : ℕ} → Start text i g → Takes text sign i g
   start-sign (behind x s) = left (both (byte x refl) (s .takes))
   start-sign (unsigned f p) = right (nothing (sym p))

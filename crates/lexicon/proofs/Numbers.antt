@@ -94,7 +94,7 @@ base-letter Eight = refl
 base-letter Ten = refl
 base-letter Sixteen = refl
 
-same-base : (b c : Base) {n : ℕ} → n ≡ letter b → n ≡ letter c → c ≡ b
+pub same-base : (b c : Base) {n : ℕ} → n ≡ letter b → n ≡ letter c → c ≡ b
 same-base b c p q = sym (base-letter c) ∙ ap base (sym q ∙ p) ∙ base-letter b
 
 -- 0, a letter, dividing space and digits; or decimal digits alone
@@ -119,10 +119,10 @@ module _ {text : List ℕ} where
 module _ (text : List ℕ) where
   -- ---- a mark's letter behind the digit 0 ends a decimal number
 
-  in-marks : (b : Base) (i : ℕ) → At text (just (letter b)) i → At text marks i
+  pub in-marks : (b : Base) (i : ℕ) → At text (just (letter b)) i → At text marks i
   in-marks b i a = (a .0, subst (In marks) (sym (just-is (letter b) (getD text i 0) (a .1))) (letter-mark b))
 
-  bare-short : (i k : ℕ) {ds : List ℕ} → Digits text 1 decimal i k ds → At text marks (i + 1) → k ≡ i + 1
+  pub bare-short : (i k : ℕ) {ds : List ℕ} → Digits text 1 decimal i k ds → At text marks (i + 1) → k ≡ i + 1
   bare-short i k (lastUnit u) a = unit-end 1 decimal u
   bare-short i k (nextUnit u t d) a = absurd (go t (unit-end 1 decimal u) (digits-at text 0 decimal (clear Ten) d))
     where
@@ -147,12 +147,12 @@ module _ (text : List ℕ) where
 
   -- ---- the two laws
 
-  digits-start : (b c : Base) {p g h j k : ℕ} {ds es : List ℕ} → Takes text (opt sp) p g → Digits text 1 (digits b) g j ds → Takes text (opt sp) p h → Digits text 1 (digits c) h k es → h ≡ g
+  pub digits-start : (b c : Base) {p g h j k : ℕ} {ds es : List ℕ} → Takes text (opt sp) p g → Digits text 1 (digits b) g j ds → Takes text (opt sp) p h → Digits text 1 (digits c) h k es → h ≡ g
   digits-start b c s d t e =
       skips-same (landed (digits c) (clear c .no-blank) t (digits-at text 0 (digits c) (clear c) e)) (landed (digits b) (clear b .no-blank) s (digits-at text 0 (digits b) (clear b) d))
 
   -- behind one mark the digits begin in one place and are of one base
-  aligned : (b c : Base) (i : ℕ) {g h j k : ℕ} {ds es : List ℕ} → At text (just (letter b)) (i + 1) → Takes text (opt sp) (i + 2) g → Digits text 1 (digits b) g j ds → At text (just (letter c)) (i + 1) → Takes text (opt sp) (i + 2) h → Digits text 1 (digits c) h k es → (c ≡ b) × Digits text 1 (digits b) g k es
+  pub aligned : (b c : Base) (i : ℕ) {g h j k : ℕ} {ds es : List ℕ} → At text (just (letter b)) (i + 1) → Takes text (opt sp) (i + 2) g → Digits text 1 (digits b) g j ds → At text (just (letter c)) (i + 1) → Takes text (opt sp) (i + 2) h → Digits text 1 (digits c) h k es → (c ≡ b) × Digits text 1 (digits b) g k es
   aligned b c i {g} {h} {j} {k} {ds} {es} x s d y t e =
       let p : c ≡ b = same-base b c (just-is (letter b) (getD text (i + 1) 0) (x .1)) (just-is (letter c) (getD text (i + 1) 0) (y .1)) in
       (p, subst (λ (o : Base). Digits text 1 (digits o) g k es) p (subst (λ (o : ℕ). Digits text 1 (digits c) o k es) (digits-start b c s d t e) e))

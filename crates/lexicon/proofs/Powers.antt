@@ -15,10 +15,10 @@ use Rattle.lexicon.specs.Bytes.{decimal, radix}
 use Rattle.lexicon.specs.Space.{blank, sp, Skips}
 use Rattle.lexicon.specs.Literals.{sign, plusMinus, integer, spaced, power}
 use Rattle.lexicon.specs.Values.{Number, value}
-use Rattle.lexicon.proofs.Spaces.{skips-same, Ahead}
+use Rattle.lexicon.proofs.Spaces.{Ahead}
 use Rattle.lexicon.proofs.Numbers.{Numeral, SomeNumeral, numeral, numeral-at, number-same, valued, of-nonsigned, to-nonsigned, to-base}
 use Rattle.lexicon.proofs.Integers.{decimal-blank}
-use Rattle.lexicon.proofs.Fractions.{Symbol, Apart, of-spaced, to-spaced, symbol-ahead, symbol-from, ahead-most, ends-same, behind-symbol, some, star-apart, caret-apart}
+use Rattle.lexicon.proofs.Fractions.{Symbol, Apart, of-spaced, to-spaced, symbol-ahead, ahead-most, behind-symbol, some, star-apart, caret-apart}
 
 -- an Integer's first byte
 abbrev begins : Class
@@ -43,15 +43,17 @@ pub record Found (text : List ℕ) (b i p : ℕ) : Type 0 where
   pub stands : At text (just b) place
   pub behind : Skips text (place + 1) p
 
+-- `^` and the exponent
+abbrev pub exponent : Rule
+exponent = spaced "^" then integer
+
 -- a power from i to j
 pub record Power (text : List ℕ) (i j : ℕ) : Type 0 where
   pub start : ℕ
   pub end : ℕ
-  pub next : ℕ
   pub star : Symbol text 0x2A i start
   pub base : SomeNumeral text start end
-  pub caret : Symbol text 0x5E end next
-  pub exponent : Takes text integer next j
+  pub behind : Takes text exponent end j
 
 -- one with a radix below 2
 pub record SmallPower (text : List ℕ) (i j : ℕ) : Type 0 where
@@ -61,39 +63,48 @@ pub record SmallPower (text : List ℕ) (i j : ℕ) : Type 0 where
   pub number-is : ℕ
   pub number : Number text start end number-is
   pub small : number-is < 2
-  pub behind : Takes text (spaced "^" then integer) end j
+  pub behind : Takes text exponent end j
 
 module _ (text : List ℕ) where
   pub symbol : {b i p : ℕ} → Found text b i p → Symbol text b i p
   symbol f = record { place = f .place; skipped = f .skipped; stands = f .stands; rest = f .behind .takes }
 
-  pub found-ahead : {b i p : ℕ} → Found text b i p → Ahead text (just b) i
-  found-ahead f = record { place = f .place; skipped = f .skipped; stands = f .stands }
-
   -- what follows begins where the search goes on
   pub found-same : (c : Class) {b i p k : ℕ} → never c blank ≡ true → Found text b i p → Symbol text b i k → At text c k → k ≡ p
   found-same c e f s x = behind-symbol text c e (f .skipped) (f .behind) s x
+
+  -- ---- the exponent
 
   integer-at : {i j : ℕ} → Takes text integer i j → At text begins i
   integer-at {i} (both (left (both (byte x e) s)) n) = (x .0, includes-in plusMinus begins (getD text i 0) signs-begin (x .1))
   integer-at {i} (both (right (nothing e)) n) =
       let a = numeral-at text (of-nonsigned text (starting (sym e) n) .is) in (a .0, includes-in decimal begins (getD text i 0) digits-begin (a .1))
 
+  caret-of : {i j : ℕ} → Takes text exponent i j → Ahead text (just 0x5E) i
+  caret-of (both s x) = symbol-ahead text (of-spaced text 0x5E caret-apart s)
+
+  exponent-from : {i q j : ℕ} → Found text 0x5E i q → Takes text exponent i j → Takes text integer q j
+  exponent-from f (both s x) = starting (found-same begins begins-blank f (of-spaced text 0x5E caret-apart s) (integer-at x)) x
+
+  pub no-caret : {i : ℕ} → (Ahead text (just 0x5E) i → ⊥) → Fails text exponent i
+  no-caret h = record { none = λ t. h (caret-of t) }
+
+  pub no-exponent : {i q : ℕ} → Found text 0x5E i q → Fails text integer q → Fails text exponent i
+  no-exponent f h = record { none = λ t. h .none (exponent-from f t) }
+
+  pub whole-exponent : {i q j : ℕ} → Found text 0x5E i q → Longest text integer q j → Longest text exponent i j
+  whole-exponent f l = record { takes = both (to-spaced text 0x5E (symbol f)) (l .takes); most = λ t. l .most (exponent-from f t) }
+
+  -- ---- the power
+
   pub of-power : {i j : ℕ} → Takes text power i j → Power text i j
-  of-power (both s (both n (both c x))) =
-      record { start = _; end = _; next = _; star = of-spaced text 0x2A star-apart s; base = of-nonsigned text n; caret = of-spaced text 0x5E caret-apart c; exponent = x }
+  of-power (both s (both n x)) = record { start = _; end = _; star = of-spaced text 0x2A star-apart s; base = of-nonsigned text n; behind = x }
 
   pub to-power : {i j : ℕ} → Power text i j → Takes text power i j
-  to-power p =
-      both (to-spaced text 0x2A (p .star)) (both (to-nonsigned text (p .base .of) (to-base text (p .base .is))) (both (to-spaced text 0x5E (p .caret)) (p .exponent)))
+  to-power p = both (to-spaced text 0x2A (p .star)) (both (to-nonsigned text (p .base .of) (to-base text (p .base .is))) (p .behind))
 
   pub power-ahead : {i j : ℕ} → Takes text power i j → Ahead text (just 0x2A) i
   power-ahead t = symbol-ahead text (of-power t .star)
-
-  caret-of : {i j : ℕ} → Takes text (spaced "^" then integer) i j → Ahead text (just 0x5E) i
-  caret-of (both s x) = symbol-ahead text (of-spaced text 0x5E caret-apart s)
-
-  -- ---- the ways out of the search
 
   pub no-star : {i : ℕ} → (Ahead text (just 0x2A) i → ⊥) → Fails text power i
   no-star h = record { none = λ t. h (power-ahead t) }
@@ -108,50 +119,40 @@ module _ (text : List ℕ) where
     no-radix h = record { none = λ t. let w = of-power t in h (w .end) (based w) }
 
     module _ {e : ℕ} (n : SomeNumeral text p e) (most : (k : ℕ) → SomeNumeral text p k → k ≤ e) where
-      pub no-caret : (Ahead text (just 0x5E) e → ⊥) → Fails text power i
-      no-caret h = record { none = λ t. go (of-power t) }
-        where
-          go : {j : ℕ} → Power text i j → ⊥
-          go w =
-              let x : w .end ≡ e = le-antisymm (most (w .end) (based w)) (ahead-most text 0x5E caret-apart (based w) (symbol-ahead text (w .caret)) n) in
-              h (subst (Ahead text (just 0x5E)) x (symbol-ahead text (w .caret)))
+      -- and that number is the longest
+      ended : {k : ℕ} → SomeNumeral text p k → Ahead text (just 0x5E) k → k ≡ e
+      ended m a = le-antisymm (most _ m) (ahead-most text 0x5E caret-apart m a n)
 
-      module _ {q : ℕ} (g : Found text 0x5E e q) where
-        ended : {j : ℕ} (w : Power text i j) → w .end ≡ e
-        ended w = ends-same text 0x5E 0x5E caret-apart caret-apart n (found-ahead g) (based w) (symbol-ahead text (w .caret))
+      behind-radix : {j : ℕ} → Power text i j → Takes text exponent e j
+      behind-radix w = starting (ended (based w) (caret-of (w .behind))) (w .behind)
 
-        exponents : {j : ℕ} → Power text i j → Takes text integer q j
-        exponents w =
-            starting (found-same begins begins-blank g (symbol-from text (ended w) (w .caret)) (integer-at (w .exponent))) (w .exponent)
+      pub no-power : Fails text exponent e → Fails text power i
+      no-power h = record { none = λ t. h .none (behind-radix (of-power t)) }
 
-        pub no-exponent : Fails text integer q → Fails text power i
-        no-exponent h = record { none = λ t. h .none (exponents (of-power t)) }
+      pub whole-power : {j : ℕ} → Longest text exponent e j → Longest text power i j
+      whole-power l =
+          record {
+            takes = to-power (record { start = p; end = e; star = symbol f; base = n; behind = l .takes });
+            most = λ t. l .most (behind-radix (of-power t));
+          }
 
-        pub whole-power : {j : ℕ} → Longest text integer q j → Longest text power i j
-        whole-power l =
-            record {
-              takes = to-power (record { start = p; end = e; next = q; star = symbol f; base = n; caret = symbol g; exponent = l .takes });
-              most = λ t. l .most (exponents (of-power t));
-            }
+      -- the radix of a power from i is the number found
+      pub radix-is : {j : ℕ} (w : SmallPower text i j) → value (radix (n .of)) (n .bytes) < 2
+      radix-is w =
+          let m : Numeral text (w .number .0) (w .start) (w .end) (w .number .1 .bytes) = numeral text (w .number .1) in
+          let x : w .start ≡ p = found-same decimal decimal-blank f (of-spaced text 0x2A star-apart (w .before)) (numeral-at text m) in
+          let y : w .end ≡ e = ended (subst (λ (k : ℕ). SomeNumeral text k (w .end)) x (some text m)) (caret-of (w .behind)) in
+          let z : Number text p e (w .number-is) = subst (λ (k : ℕ). Number text p k (w .number-is)) y (subst (λ (k : ℕ). Number text k (w .end) (w .number-is)) x (w .number)) in
+          subst (λ (k : ℕ). k < 2) (number-same text (n .is) z) (w .small)
 
-        -- the radix of every power from i is the number found
-        pub radix-is : {j : ℕ} (w : SmallPower text i j) → value (radix (n .of)) (n .bytes) < 2
-        radix-is w =
-            let m : Numeral text (w .number .0) (w .start) (w .end) (w .number .1 .bytes) = numeral text (w .number .1) in
-            let x : w .start ≡ p = found-same decimal decimal-blank f (of-spaced text 0x2A star-apart (w .before)) (numeral-at text m) in
-            let y : w .end ≡ e = ends-same text 0x5E 0x5E caret-apart caret-apart n (found-ahead g) (subst (λ (k : ℕ). SomeNumeral text k (w .end)) x (some text m)) (caret-of (w .behind)) in
-            let z : Number text p e (w .number-is) = subst (λ (k : ℕ). Number text p k (w .number-is)) y (subst (λ (k : ℕ). Number text k (w .end) (w .number-is)) x (w .number)) in
-            subst (λ (k : ℕ). k < 2) (number-same text (n .is) z) (w .small)
-
-        -- and the power found has it
-        pub small-power : {j : ℕ} → Longest text integer q j → value (radix (n .of)) (n .bytes) < 2 → SmallPower text i j
-        small-power l h =
-            record {
-              start = p;
-              end = e;
-              before = to-spaced text 0x2A (symbol f);
-              number-is = value (radix (n .of)) (n .bytes);
-              number = (n .of, valued text (n .is));
-              small = h;
-              behind = both (to-spaced text 0x5E (symbol g)) (l .takes);
-            }
+      pub small-power : {j : ℕ} → Longest text exponent e j → value (radix (n .of)) (n .bytes) < 2 → SmallPower text i j
+      small-power l h =
+          record {
+            start = p;
+            end = e;
+            before = to-spaced text 0x2A (symbol f);
+            number-is = value (radix (n .of)) (n .bytes);
+            number = (n .of, valued text (n .is));
+            small = h;
+            behind = l .takes;
+          }

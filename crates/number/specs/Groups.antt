@@ -9,7 +9,7 @@ use Rattle.lexicon.specs.declared.Found.{Found}
 use Rattle.lexicon.specs.Bytes.{members}
 use Rattle.lexicon.specs.Literals.{unit, joint}
 use Rattle.lexicon.specs.Values.{Digits}
-use Rattle.lexicon.proofs.Groups.{Further}
+use Rattle.lexicon.proofs.Groups.{Ended}
 use Rattle.number.specs.declared.groups.Groups as Groups
 use Rattle.number.specs.declared.groups.Groups.{Groups}
 use Rattle.number.specs.Tally.{tallies}
@@ -23,7 +23,7 @@ pub record Summed (text : List ℕ) (set : Set) (n i j s : ℕ) : Type 0 where
 -- the longest row of units from i
 pub record Row (text : List ℕ) (set : Set) (n i j s : ℕ) : Type 0 where
   pub row : Summed text set n i j s
-  pub ended : Further text n (members set) j → ⊥
+  pub ended : Ended text n (members set) j
 
 abbrev pub Grouped : List ℕ → Set → ℕ → ℕ → Groups → Type 0
 Grouped text set n i (Groups.the-variants.At j s) = Row text set n i j s
@@ -36,4 +36,4 @@ pub record Joins (text : List ℕ) (set : Set) (n i m : ℕ) : Type 0 where
 
 abbrev pub Joined : List ℕ → Set → ℕ → ℕ → Found → Type 0
 Joined text set n i (Found.the-variants.At m) = Joins text set n i m
-Joined text set n i Found.the-variants.Nothing = Further text n (members set) i → ⊥
+Joined text set n i Found.the-variants.Nothing = Ended text n (members set) i

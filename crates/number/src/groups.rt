@@ -35,3 +35,46 @@ fn unit(text: &[u8], at: usize, set: Set, width: usize) -> bool
     }
     true
 }
+
+// Where the next unit begins: here, behind one `_`, or behind the dividing space.
+fn joined(text: &[u8], at: usize, set: Set, width: usize) -> Found
+    requires { ⌜ (at ≤ length (now text)) × (1 ≤ width) × (width ≤ 8) × Clear (members set) ⌝ }
+    ensures { λ r. ⌜ Joined (now (text .entry)) set width at r ⌝ }
+{
+    if unit(text, at, set, width) {
+        return Found::At(at);
+    }
+    if at >= text.len() {
+        return Found::Nothing;
+    }
+    if text[at] == b'_' {
+        if unit(text, at + 1, set, width) {
+            return Found::At(at + 1);
+        }
+        return Found::Nothing;
+    }
+    let next = text::space::space(text, at);
+    if unit(text, next, set, width) {
+        return Found::At(next);
+    }
+    Found::Nothing
+}
+
+// The longest row of units from a place.
+pub(crate) fn longest_row(text: &[u8], at: usize, set: Set, width: usize) -> Groups
+    requires { ⌜ (at ≤ length (now text)) × (1 ≤ width) × (width ≤ 8) × Clear (members set) ⌝ }
+    ensures { λ r. ⌜ Grouped (now (text .entry)) set width at r ⌝ }
+{
+    if !unit(text, at, set, width) {
+        return Groups::Nothing;
+    }
+    let mut end = at + width;
+    let mut sum = tally_unit(text, at, width, set, 0);
+    loop {
+        let Found::At(next) = joined(text, end, set, width) else {
+            return Groups::At { end, sum };
+        };
+        sum = tally_unit(text, next, width, set, sum);
+        end = next + width;
+    }
+}

@@ -86,3 +86,11 @@ includes-in (s ∷ c) d b e i =
     ⊎-elim (λ x. in-some s d b (and-left (inSome s d) _ e) (low≤ s b x) (≤high s b x))
     (λ x. includes-in c d b (and-right (inSome s d) _ e) x)
     (or-cases (leb (s .low) b && leb b (s .high)) (has c b) i)
+
+-- ---- the spans one by one
+
+pub in-cons : (s : Span) (c : Class) (b : ℕ) → In (s ∷ c) b → In (s ∷ []) b ⊎ In c b
+unfolding has
+in-cons s c b i =
+    ⊎-elim (λ x. inl (or-left (leb (s .low) b && leb b (s .high)) false x)) (λ x. inr x)
+    (or-cases (leb (s .low) b && leb b (s .high)) (has c b) i)

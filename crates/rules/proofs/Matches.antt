@@ -1,11 +1,11 @@
 -- First laws of matching. Assumes nothing.
 use mathlib.Core.Path.{_≡_, refl, subst}
-use mathlib.Core.List.{List}
+use mathlib.Core.List.{List, [], _∷_}
 use Prim.Native.Nat.{ℕ, _+_, _≤_, _<_}
 use native.Mathlib.Omega.{arith}
 use lib.ListN.{length, getD}
 use Rattle.rules.specs.Class.{Class}
-use Rattle.rules.specs.Rule.{Rule, one, Takes, nothing, byte, both, left, right, stop, more, At}
+use Rattle.rules.specs.Rule.{Rule, one, row, Takes, nothing, byte, both, left, right, stop, more, At}
 
 module _ {text : List ℕ} where
   -- a match goes forward
@@ -44,3 +44,9 @@ module _ {text : List ℕ} where
 
   pub one-at : {c : Class} {i : ℕ} → At text c i → Takes text (one c) i (i + 1)
   one-at a = byte a refl
+
+  -- a row of bytes ends where its length says
+  pub row-end : (bs : List ℕ) {i j : ℕ} → Takes text (row bs) i j → j ≡ i + length bs
+  row-end [] (nothing e) = omega arith
+  row-end (b ∷ []) (byte a e) = omega arith
+  row-end (b ∷ c ∷ bs) (both (byte a e) t) = let x = row-end (c ∷ bs) t in omega arith

@@ -1,0 +1,335 @@
+-- Bits and Blobs: the digits behind a mark, the choice between the marks, and misplaced `=`. Assumes nothing.
+use mathlib.Core.Path.{_≡_, refl, sym, ap, subst, subst⁻¹, _∙_}
+use mathlib.Core.Logic.{_⊎_, inl, inr, ⊎-elim}
+use mathlib.Core.Bool.{Bool, true, false, not, cond, false≢true}
+use mathlib.Core.List.{List, [], _∷_}
+use Prim.Native.Nat.{ℕ, zero, suc, _+_, _≤_, _<_}
+use native.Mathlib.Decide.{ℕ-discrete}
+use native.Mathlib.Omega.{arith}
+use lib.Dec.{eqb}
+use lib.ListN.{length, getD}
+use borrow.Author.Tests.{eqb-true, eq-eqb, ne-eqb, not-true, not-false}
+use Rattle.rules.specs.Test.{Says}
+use Rattle.rules.specs.Class.{Class, In, just}
+use Rattle.rules.specs.Rule.{Rule, one, _then_, _or_, opt, row, lit, Takes, nothing, byte, both, left, right, Longest, Fails}
+use Rattle.rules.proofs.Bools.{clash, decide}
+use Rattle.rules.proofs.Classes.{apart, apartSpan, just-is}
+use Rattle.rules.proofs.Matches.{starting, ending, inside, forward, row-end}
+use Rattle.rules.proofs.Ways.{never, covers, covers-all}
+use Rattle.lexicon.specs.declared.Set.{Set}
+use Rattle.lexicon.specs.declared.Set.the-variants.{Binary, Octal, Hexadecimal, Base64}
+use Rattle.lexicon.specs.Bytes.{members, binary, octal, hexadecimal, base64}
+use Rattle.lexicon.specs.Space.{sp, Skips}
+use Rattle.lexicon.specs.Literals.{unit, groups, maybe, bits, blob}
+use Rattle.lexicon.specs.Values.{Digits}
+use Rattle.lexicon.specs.Bad.{Other, Misplaced, BadPadding}
+use Rattle.lexicon.specs.Bad as Bad
+use Rattle.lexicon.proofs.Spaces.{skips-same, landed}
+use Rattle.lexicon.proofs.Groups.{Clear, Ended, digits-most, digits-same, digits-at, digits-unit, digits-forward, to-row, of-row}
+use Rattle.number.specs.Tally.{paddedOf, tallyOf, tallies}
+use Rattle.number.specs.declared.groups.Groups.{Groups}
+use Rattle.number.specs.declared.groups.Groups.the-variants as Groups
+use Rattle.number.specs.Groups.{Row, Grouped}
+use Rattle.number.specs.Blob.{TailOf, digits-stand, none-stand}
+use Rattle.number.proofs.Units.{says-no}
+
+-- ---- the sets of digits begin no joint
+
+pub clear-binary : Clear binary
+unfolding never apart apartSpan
+clear-binary = record { no-joint = refl; no-blank = refl }
+
+pub clear-octal : Clear octal
+unfolding never apart apartSpan
+clear-octal = record { no-joint = refl; no-blank = refl }
+
+pub clear-hexadecimal : Clear hexadecimal
+unfolding never apart apartSpan
+clear-hexadecimal = record { no-joint = refl; no-blank = refl }
+
+pub clear-base64 : Clear base64
+unfolding never apart apartSpan
+clear-base64 = record { no-joint = refl; no-blank = refl }
+
+-- ---- the digits behind a mark
+
+module _ (text : List ℕ) (set : Set) (m : ℕ) (cl : Clear (members set)) where
+  -- a row behind dividing space begins where the space ends
+  row-start : {i g k j : ℕ} {ds : List ℕ} → Skips text i g → Takes text (opt sp) i k → Digits text (suc m) (members set) k j ds → k ≡ g
+  row-start s t d = skips-same (landed (members set) (cl .no-blank) t (digits-at text m (members set) cl d)) s
+
+  row-behind : {i g k j : ℕ} {ds : List ℕ} → Skips text i g → Takes text (opt sp) i k → Digits text (suc m) (members set) k j ds → Digits text (suc m) (members set) g j ds
+  row-behind {j = j} {ds = ds} s t d = subst (λ (x : ℕ). Digits text (suc m) (members set) x j ds) (row-start s t d) d
+
+  pub tail-longest : {i j s : ℕ} → TailOf text set (suc m) i j s → Longest text (maybe (suc m) (members set)) i j
+  tail-longest {i} (digits-stand {g} {j} s r) = record { takes = left (both (s .takes) (of-row text (suc m) (members set) (r .row .digits-are))); most = most }
+    where
+      most : {k : ℕ} → Takes text (maybe (suc m) (members set)) i k → k ≤ j
+      most (left (both t u)) =
+          digits-most text m (members set) cl (r .row .digits-are) (r .ended) (row-behind s t (to-row text (suc m) (members set) u .1))
+      most (right (nothing e)) = let a = forward (s .takes) in let b = digits-forward (r .row .digits-are) in omega arith
+  tail-longest {i} (none-stand {g} s f) = record { takes = right (nothing refl); most = most }
+    where
+      most : {k : ℕ} → Takes text (maybe (suc m) (members set)) i k → k ≤ i
+      most (left (both t u)) = absurd (f .none (digits-unit (row-behind s t (to-row text (suc m) (members set) u .1)) .1))
+      most (right (nothing e)) = omega arith
+
+-- ---- behind a mark of three bytes
+
+module _ (text : List ℕ) (ps : List ℕ) (r : Rule) where
+  pub behind-mark : {i j : ℕ} → Takes text (row ps) i (i + length ps) → Longest text r (i + length ps) j → Longest text (row ps then r) i j
+  behind-mark {i} {j} t l = record { takes = both t (l .takes); most = most }
+    where
+      most : {k : ℕ} → Takes text (row ps then r) i k → k ≤ j
+      most (both u v) = l .most (starting (row-end ps u) v)
+
+  pub no-mark : {i k : ℕ} (o : Bool) → Says o (Takes text (row ps) i (i + length ps)) → o ≡ false → Takes text (row ps then r) i k → ⊥
+  no-mark o s e (both u v) = clash (s .holds-true (ending (row-end ps u) u)) e
+
+-- a literal of a mark
+abbrev part : ℕ → ℕ → ℕ → Set → Rule
+part b c n set = row (0x30 ∷ b ∷ c ∷ []) then maybe n (members set)
+
+-- ---- one of three, where no match of the others reaches further
+
+module _ (text : List ℕ) (a b c : Rule) where
+  pub first-of : {i j : ℕ} → covers 4 a b ≡ true → covers 4 a c ≡ true → Longest text a i j → Longest text (a or b or c) i j
+  first-of {i} {j} p q l = record { takes = left (l .takes); most = most }
+    where
+      most : {k : ℕ} → Takes text (a or b or c) i k → k ≤ j
+      most (left t) = l .most t
+      most (right (left t)) = covers-all text 4 a b p (l .takes) t
+      most (right (right t)) = covers-all text 4 a c q (l .takes) t
+
+  pub second-of : {i j : ℕ} → covers 4 b a ≡ true → covers 4 b c ≡ true → Longest text b i j → Longest text (a or b or c) i j
+  second-of {i} {j} p q l = record { takes = right (left (l .takes)); most = most }
+    where
+      most : {k : ℕ} → Takes text (a or b or c) i k → k ≤ j
+      most (left t) = covers-all text 4 b a p (l .takes) t
+      most (right (left t)) = l .most t
+      most (right (right t)) = covers-all text 4 b c q (l .takes) t
+
+  pub third-of : {i j : ℕ} → covers 4 c a ≡ true → covers 4 c b ≡ true → Longest text c i j → Longest text (a or b or c) i j
+  third-of {i} {j} p q l = record { takes = right (right (l .takes)); most = most }
+    where
+      most : {k : ℕ} → Takes text (a or b or c) i k → k ≤ j
+      most (left t) = covers-all text 4 c a p (l .takes) t
+      most (right (left t)) = covers-all text 4 c b q (l .takes) t
+      most (right (right t)) = l .most t
+
+  pub none-of : {i : ℕ} → ((k : ℕ) → Takes text a i k → ⊥) → ((k : ℕ) → Takes text b i k → ⊥) → ((k : ℕ) → Takes text c i k → ⊥) → Fails text (a or b or c) i
+  none-of {i} f g h = record { none = go }
+    where
+      go : {k : ℕ} → Takes text (a or b or c) i k → ⊥
+      go {k} (left t) = f k t
+      go {k} (right (left t)) = g k t
+      go {k} (right (right t)) = h k t
+
+-- ---- `=` among base-64 characters
+
+module _ where
+  step : (s d : ℕ) → tallyOf Base64 s d ≡ paddedOf s d
+  unfolding tallyOf
+  step s d = refl
+
+  pad : (s d : ℕ) (ds : List ℕ) {t : ℕ} → paddedOf s d ≡ t → tallies Base64 s (d ∷ ds) ≡ tallies Base64 t ds
+  unfolding tallies
+  pad s d ds e = ap (λ (x : ℕ). tallies Base64 x ds) (step s d ∙ e)
+
+  equals : (s d : ℕ) → (s ≡ 0 → ⊥) → d ≡ 0x3D → paddedOf s d ≡ s
+  unfolding paddedOf
+  equals s d f e = rw (eq-eqb d 0x3D e, ne-eqb s 0 f)
+
+  others : (s d : ℕ) → (s ≡ 0 → ⊥) → (d ≡ 0x3D → ⊥) → paddedOf s d ≡ 2
+  unfolding paddedOf
+  others s d f e = rw (ne-eqb d 0x3D e, ne-eqb s 0 f)
+
+  starts : (d : ℕ) → d ≡ 0x3D → paddedOf 0 d ≡ 1
+  unfolding paddedOf
+  starts d e = rw (eq-eqb d 0x3D e)
+
+  goes-on : (d : ℕ) → (d ≡ 0x3D → ⊥) → paddedOf 0 d ≡ 0
+  unfolding paddedOf
+  goes-on d e = rw (ne-eqb d 0x3D e)
+
+  one-not : _≡_ {A = ℕ} 1 0 → ⊥
+  one-not e = omega (arith, e)
+
+  two-not : _≡_ {A = ℕ} 2 0 → ⊥
+  two-not e = omega (arith, e)
+
+  stays : (ds : List ℕ) → tallies Base64 2 ds ≡ 2
+  unfolding tallies
+  stays [] = refl
+  stays (d ∷ ds) = go (ℕ-discrete d 0x3D) (stays ds)
+    where
+      go : Dec (d ≡ 0x3D) → tallies Base64 2 ds ≡ 2 → tallies Base64 2 (d ∷ ds) ≡ 2
+      go (yes e) h = pad 2 d ds (equals 2 d two-not e) ∙ h
+      go (no e) h = pad 2 d ds (others 2 d two-not e) ∙ h
+
+  same-test : {a b : ℕ} (P : Type 0) → a ≡ b → Says (eqb b 2) P → Says (eqb a 2) P
+  same-test P e s = subst⁻¹ (λ (x : ℕ). Says (eqb x 2) P) e s
+
+  skipped : {d : ℕ} {ds : List ℕ} → d ≡ 0x3D → Other (d ∷ ds) → Other ds
+  skipped e (Bad.Other.now f) = absurd (f e)
+  skipped e (Bad.Other.later o) = o
+
+  -- behind a `=`
+  pub other-says : (ds : List ℕ) → Says (eqb (tallies Base64 1 ds) 2) (Other ds)
+  unfolding tallies
+  other-says [] = record { true-holds = λ e. absurd (false≢true e); holds-true = λ o. elim o [ ] }
+  other-says (d ∷ ds) = go (ℕ-discrete d 0x3D) (other-says ds)
+    where
+      go : Dec (d ≡ 0x3D) → Says (eqb (tallies Base64 1 ds) 2) (Other ds) → Says (eqb (tallies Base64 1 (d ∷ ds)) 2) (Other (d ∷ ds))
+      go (yes e) h =
+          same-test (Other (d ∷ ds)) (pad 1 d ds (equals 1 d one-not e))
+          (record { true-holds = λ x. Bad.Other.later (h .true-holds x); holds-true = λ o. h .holds-true (skipped e o) })
+      go (no e) h =
+          same-test (Other (d ∷ ds)) (pad 1 d ds (others 1 d one-not e) ∙ stays ds) (record { true-holds = λ x. Bad.Other.now e; holds-true = λ o. refl })
+
+  other : {ds : List ℕ} → Misplaced ds → Other ds
+  other (Bad.Misplaced.now o) = Bad.Other.later o
+  other (Bad.Misplaced.later m) = Bad.Other.later (other m)
+
+  at-first : {d : ℕ} {ds : List ℕ} → d ≡ 0x3D → Other ds → Misplaced (d ∷ ds)
+  at-first {ds = ds} e o = subst⁻¹ (λ (x : ℕ). Misplaced (x ∷ ds)) e (Bad.Misplaced.now o)
+
+  rest : {d : ℕ} {ds : List ℕ} → Misplaced (d ∷ ds) → Other ds
+  rest (Bad.Misplaced.now o) = o
+  rest (Bad.Misplaced.later m) = other m
+
+  further : {d : ℕ} {ds : List ℕ} → (d ≡ 0x3D → ⊥) → Misplaced (d ∷ ds) → Misplaced ds
+  further f (Bad.Misplaced.now o) = absurd (f refl)
+  further f (Bad.Misplaced.later m) = m
+
+  -- from the front
+  pub misplaced-says : (ds : List ℕ) → Says (eqb (tallies Base64 0 ds) 2) (Misplaced ds)
+  unfolding tallies
+  misplaced-says [] = record { true-holds = λ e. absurd (false≢true e); holds-true = λ o. elim o [ ] }
+  misplaced-says (d ∷ ds) = go (ℕ-discrete d 0x3D) (misplaced-says ds)
+    where
+      go : Dec (d ≡ 0x3D) → Says (eqb (tallies Base64 0 ds) 2) (Misplaced ds) → Says (eqb (tallies Base64 0 (d ∷ ds)) 2) (Misplaced (d ∷ ds))
+      go (yes e) h =
+          let o = other-says ds in
+          same-test (Misplaced (d ∷ ds)) (pad 0 d ds (starts d e))
+          (record { true-holds = λ x. at-first e (o .true-holds x); holds-true = λ m. o .holds-true (rest m) })
+      go (no e) h =
+          same-test (Misplaced (d ∷ ds)) (pad 0 d ds (goes-on d e))
+          (record { true-holds = λ x. Bad.Misplaced.later (h .true-holds x); holds-true = λ m. h .holds-true (further e m) })
+
+-- ---- bad padding
+
+module _ (text : List ℕ) where
+  -- the digits of a padded Blob stand behind its mark
+  padded-from : {i g j : ℕ} → Skips text (i + 3) g → BadPadding text i j → (ds : List ℕ) × Digits text 4 base64 g j ds × Misplaced ds
+  padded-from {i} {g} {j} s b = go (b .before)
+    where
+      go : Takes text (lit "0xy" then opt sp) i (b .start) → (ds : List ℕ) × Digits text 4 base64 g j ds × Misplaced ds
+      go (both t u) = (b .bytes, row-behind text Base64 3 clear-base64 s (starting (row-end (0x30 ∷ 0x78 ∷ 0x79 ∷ []) t) u) (b .digits-are), b .misplaced)
+
+  pub padding-says : {i j s : ℕ} → Takes text (lit "0xy") i (i + 3) → TailOf text Base64 4 (i + 3) j s → Says (eqb s 2) (BadPadding text i j)
+  padding-says {i} t (digits-stand {g} {j} {s} k r) =
+      let m = misplaced-says (r .row .bytes) in
+      subst⁻¹ (λ (x : ℕ). Says (eqb x 2) (BadPadding text i j)) (r .row .sum-is)
+      (record {
+        true-holds = λ x. record { start = g; before = both t (k .takes); bytes = r .row .bytes; digits-are = r .row .digits-are; misplaced = m .true-holds x };
+        holds-true = λ b. let w = padded-from k b in m .holds-true (subst Misplaced (digits-same text 3 base64 clear-base64 (w .1) (r .row .digits-are)) (w .2));
+      })
+  padding-says {i} t (none-stand k f) =
+      says-no _ (λ b. let w = padded-from k b in f .none (digits-unit (w .1) .1))
+
+  -- the other marks are none of base 64
+  pub no-padding : (b : ℕ) {i j : ℕ} → (b ≡ 0x79 → ⊥) → Takes text (row (0x30 ∷ 0x78 ∷ b ∷ [])) i (i + 3) → Says false (BadPadding text i j)
+  no-padding b {i} f (both (byte x e) (both (byte y g) (byte {i = m} z h))) = says-no _ (λ p. go (p .before))
+    where
+      go : {k : ℕ} → Takes text (lit "0xy" then opt sp) i k → ⊥
+      go (both (both (byte x′ e′) (both (byte y′ g′) (byte {i = n} z′ h′))) u) =
+          let q : n ≡ m = omega arith in
+          f (sym (just-is b (getD text m 0) (z .1)) ∙ just-is 0x79 (getD text m 0) (subst (λ (p : ℕ). In (just 0x79) (getD text p 0)) q (z′ .1)))
+
+-- ---- the marks
+
+module _ (text : List ℕ) where
+  -- a mark, byte by byte
+  pub mark-none-1 : (i b c : ℕ) (o : Bool) → Says o (Takes text (one (just 0x30)) i (i + 1)) → not o ≡ true → Says false (Takes text (row (0x30 ∷ b ∷ c ∷ [])) i (i + 3))
+  mark-none-1 i b c o s e = says-no _ (λ t. go t)
+    where
+      go : Takes text (row (0x30 ∷ b ∷ c ∷ [])) i (i + 3) → ⊥
+      go (both (byte x f) t) = clash (s .holds-true (byte x refl)) (not-true o e)
+
+  pub mark-none-2 : (i b c : ℕ) (o : Bool) → Says o (Takes text (one (just b)) (i + 1) (i + 1 + 1)) → not o ≡ true → Says false (Takes text (row (0x30 ∷ b ∷ c ∷ [])) i (i + 3))
+  mark-none-2 i b c o s e = says-no _ (λ t. go t)
+    where
+      go : Takes text (row (0x30 ∷ b ∷ c ∷ [])) i (i + 3) → ⊥
+      go (both (byte x f) (both (byte y g) t)) = clash (s .holds-true (starting f (byte y (ap (λ (k : ℕ). k + 1) (sym f))))) (not-true o e)
+
+  pub mark-says : (i b c : ℕ) (p q o : Bool) → Says p (Takes text (one (just 0x30)) i (i + 1)) → not p ≡ false → Says q (Takes text (one (just b)) (i + 1) (i + 1 + 1)) → not q ≡ false → Says o (Takes text (one (just c)) (i + 2) (i + 2 + 1)) → Says o (Takes text (row (0x30 ∷ b ∷ c ∷ [])) i (i + 3))
+  mark-says i b c p q o s d t e u =
+      record {
+        true-holds = λ x. both (s .true-holds (not-false p d)) (both (t .true-holds (not-false q e)) (third (u .true-holds x)));
+        holds-true = λ r. go r;
+      }
+    where
+      third : Takes text (one (just c)) (i + 2) (i + 2 + 1) → Takes text (one (just c)) (i + 1 + 1) (i + 3)
+      third z = let m : i + 2 ≡ i + 1 + 1 = omega arith in let n : i + 2 + 1 ≡ i + 3 = omega arith in starting m (ending n z)
+
+      go : Takes text (row (0x30 ∷ b ∷ c ∷ [])) i (i + 3) → o ≡ true
+      go (both (byte x f) (both (byte y g) (byte {i = k} z h))) =
+          let m : k ≡ i + 2 = omega arith in let n : i + 3 ≡ i + 2 + 1 = omega arith in u .holds-true (starting m (ending n (byte z h)))
+
+  pub mark-within : (i b c : ℕ) (o : Bool) → Says o (Takes text (row (0x30 ∷ b ∷ c ∷ [])) i (i + 3)) → o ≡ true → i + 3 ≤ length text
+  mark-within i b c o s e = go (s .true-holds e)
+    where
+      go : Takes text (row (0x30 ∷ b ∷ c ∷ [])) i (i + 3) → i + 3 ≤ length text
+      go (both (byte x f) (both (byte y g) (byte z h))) = let a = z .0 in omega arith
+
+  -- ---- the literals
+
+  abbrev Mark : ℕ → ℕ → ℕ → Type 0
+  Mark b c i = Takes text (row (0x30 ∷ b ∷ c ∷ [])) i (i + 3)
+
+  -- a mark's literal, from the mark and the digits behind it
+  whole : (b c m : ℕ) (set : Set) → Clear (members set) → {i j s : ℕ} → Mark b c i → TailOf text set (suc m) (i + 3) j s → Longest text (part b c (suc m) set) i j
+  whole b c m set cl t d = behind-mark text (0x30 ∷ b ∷ c ∷ []) (maybe (suc m) (members set)) t (tail-longest text set m cl d)
+
+  -- and none without it
+  lacks : (b c n : ℕ) (set : Set) {i : ℕ} (o : Bool) → Says o (Mark b c i) → o ≡ false → (k : ℕ) → Takes text (part b c n set) i k → ⊥
+  lacks b c n set o s e k t = no-mark text (0x30 ∷ b ∷ c ∷ []) (maybe n (members set)) o s e t
+
+  pub bits-binary : {i j s : ℕ} → Mark 0x62 0x62 i → TailOf text Binary 1 (i + 3) j s → Longest text bits i j
+  unfolding covers apart apartSpan
+  bits-binary t d = first-of text (part 0x62 0x62 1 Binary) (part 0x62 0x6F 1 Octal) (part 0x62 0x78 1 Hexadecimal) refl refl (whole 0x62 0x62 0 Binary clear-binary t d)
+
+  pub bits-octal : {i j s : ℕ} → Mark 0x62 0x6F i → TailOf text Octal 1 (i + 3) j s → Longest text bits i j
+  unfolding covers apart apartSpan
+  bits-octal t d = second-of text (part 0x62 0x62 1 Binary) (part 0x62 0x6F 1 Octal) (part 0x62 0x78 1 Hexadecimal) refl refl (whole 0x62 0x6F 0 Octal clear-octal t d)
+
+  pub bits-hexadecimal : {i j s : ℕ} → Mark 0x62 0x78 i → TailOf text Hexadecimal 1 (i + 3) j s → Longest text bits i j
+  unfolding covers apart apartSpan
+  bits-hexadecimal t d = third-of text (part 0x62 0x62 1 Binary) (part 0x62 0x6F 1 Octal) (part 0x62 0x78 1 Hexadecimal) refl refl (whole 0x62 0x78 0 Hexadecimal clear-hexadecimal t d)
+
+  pub blob-binary : {i j s : ℕ} → Mark 0x78 0x62 i → TailOf text Binary 8 (i + 3) j s → Longest text blob i j × Says false (BadPadding text i j)
+  unfolding covers apart apartSpan
+  blob-binary t d = (first-of text (part 0x78 0x62 8 Binary) (part 0x78 0x78 2 Hexadecimal) (part 0x78 0x79 4 Base64) refl refl (whole 0x78 0x62 7 Binary clear-binary t d), no-padding text 0x62 (λ e. omega (arith, e)) t)
+
+  pub blob-hexadecimal : {i j s : ℕ} → Mark 0x78 0x78 i → TailOf text Hexadecimal 2 (i + 3) j s → Longest text blob i j × Says false (BadPadding text i j)
+  unfolding covers apart apartSpan
+  blob-hexadecimal t d = (second-of text (part 0x78 0x62 8 Binary) (part 0x78 0x78 2 Hexadecimal) (part 0x78 0x79 4 Base64) refl refl (whole 0x78 0x78 1 Hexadecimal clear-hexadecimal t d), no-padding text 0x78 (λ e. omega (arith, e)) t)
+
+  pub blob-base64 : {i j s : ℕ} → Mark 0x78 0x79 i → TailOf text Base64 4 (i + 3) j s → Longest text blob i j × Says (eqb s 2) (BadPadding text i j)
+  unfolding covers apart apartSpan
+  blob-base64 t d = (third-of text (part 0x78 0x62 8 Binary) (part 0x78 0x78 2 Hexadecimal) (part 0x78 0x79 4 Base64) refl refl (whole 0x78 0x79 3 Base64 clear-base64 t d), padding-says text t d)
+
+  pub bits-none : {i : ℕ} (o p q : Bool) → Says o (Mark 0x62 0x62 i) → o ≡ false → Says p (Mark 0x62 0x6F i) → p ≡ false → Says q (Mark 0x62 0x78 i) → q ≡ false → Fails text bits i
+  bits-none o p q s d t e u f = none-of text (part 0x62 0x62 1 Binary) (part 0x62 0x6F 1 Octal) (part 0x62 0x78 1 Hexadecimal) (lacks 0x62 0x62 1 Binary o s d) (lacks 0x62 0x6F 1 Octal p t e) (lacks 0x62 0x78 1 Hexadecimal q u f)
+
+  pub blob-none : {i : ℕ} (o p q : Bool) → Says o (Mark 0x78 0x62 i) → o ≡ false → Says p (Mark 0x78 0x78 i) → p ≡ false → Says q (Mark 0x78 0x79 i) → q ≡ false → Fails text blob i
+  blob-none o p q s d t e u f = none-of text (part 0x78 0x62 8 Binary) (part 0x78 0x78 2 Hexadecimal) (part 0x78 0x79 4 Base64) (lacks 0x78 0x62 8 Binary o s d) (lacks 0x78 0x78 2 Hexadecimal p t e) (lacks 0x78 0x79 4 Base64 q u f)
+
+  -- ---- what the search for a row answered
+
+  pub tail-digits : {n i g j s : ℕ} (set : Set) (r : Groups) → Skips text i g → Grouped text set n g r → r ≡ Groups.At j s → TailOf text set n i j s
+  tail-digits {n} {g = g} set r k d e = digits-stand k (subst (λ (x : Groups). Grouped text set n g x) e d)
+
+  pub tail-none : {n i g : ℕ} (set : Set) (r : Groups) → Skips text i g → Grouped text set n g r → r ≡ Groups.Nothing → TailOf text set n i i 0
+  tail-none {n} {g = g} set r k d e = none-stand k (subst (λ (x : Groups). Grouped text set n g x) e d)

@@ -1,0 +1,142 @@
+// Fractions: a significand with a point or a slash, and an optional power.
+use crate::integer::Number;
+use crate::integer::digits;
+use crate::integer::integer;
+use crate::integer::number_at;
+use crate::integer::start;
+use lexicon::Base;
+use lexicon::Found;
+use lexicon::Literal;
+use text::byte::stands;
+use text::space::space;
+ghost use Prim.Native.Nat.{_≤_};
+ghost use lib.ListN.{length};
+ghost use Rattle.rules.specs.Rule.{_then_};
+ghost use Rattle.lexicon.specs.Found.{Finds, Judges};
+ghost use Rattle.lexicon.specs.Literals.{integer as integerOf, spaced, fraction as fractionOf, significand as significandOf, power as powerOf};
+ghost use Rattle.lexicon.proofs.Powers.{SmallPower};
+ghost use Rattle.number.specs.Fraction.{Pointed, Divided, ZeroRatio, BadFraction};
+
+// The digits behind a significand's point, of the base that stands before it.
+fn point(text: &[u8], at: usize, base: Base) -> Literal
+    requires { ⌜ at ≤ length (now text) ⌝ }
+    ensures { λ r. ⌜ Pointed (now (text .entry)) base at r ⌝ }
+{
+    let from = space(text, at);
+    let Number::At {
+        base: _,
+        end,
+        value: _,
+    } = digits(text, from, base)
+    else {
+        return Literal::Nothing;
+    };
+    Literal::At { end, bad: false }
+}
+
+// The denominator behind a significand's slash; 0 is bad.
+fn ratio(text: &[u8], at: usize) -> Literal
+    requires { ⌜ at ≤ length (now text) ⌝ }
+    ensures { λ r. ⌜ Divided (now (text .entry)) at r ⌝ }
+{
+    let from = space(text, at);
+    let Number::At {
+        base: _,
+        end,
+        value,
+    } = number_at(text, from)
+    else {
+        return Literal::Nothing;
+    };
+    Literal::At {
+        end,
+        bad: value == 0,
+    }
+}
+
+// The longest significand; one with denominator 0 is bad.
+fn significand(text: &[u8], at: usize) -> Literal
+    requires { ⌜ at ≤ length (now text) ⌝ }
+    ensures { λ r. ⌜ Judges (now (text .entry)) significandOf (ZeroRatio (now (text .entry))) at r ⌝ }
+{
+    let begin = start(text, at);
+    let Number::At {
+        base,
+        end,
+        value: _,
+    } = number_at(text, begin)
+    else {
+        return Literal::Nothing;
+    };
+    let sign = space(text, end);
+    if stands(text, sign, b'.') {
+        return point(text, sign + 1, base);
+    }
+    if stands(text, sign, b'/') {
+        return ratio(text, sign + 1);
+    }
+    Literal::Nothing
+}
+
+// The radix and the exponent of a power: `^` and an Integer behind the number.
+fn exponent(text: &[u8], at: usize) -> Found
+    requires { ⌜ at ≤ length (now text) ⌝ }
+    ensures { λ r. ⌜ Finds (now (text .entry)) (spaced "^" then integerOf) at r ⌝ }
+{
+    let sign = space(text, at);
+    if !stands(text, sign, b'^') {
+        return Found::Nothing;
+    }
+    let from = space(text, sign + 1);
+    integer(text, from)
+}
+
+// The power behind a significand; one with a radix below 2 is bad.
+fn power(text: &[u8], at: usize) -> Literal
+    requires { ⌜ at ≤ length (now text) ⌝ }
+    ensures { λ r. ⌜ Judges (now (text .entry)) powerOf (SmallPower (now (text .entry))) at r ⌝ }
+{
+    let sign = space(text, at);
+    if !stands(text, sign, b'*') {
+        return Literal::Nothing;
+    }
+    let from = space(text, sign + 1);
+    let Number::At {
+        base: _,
+        end,
+        value,
+    } = number_at(text, from)
+    else {
+        return Literal::Nothing;
+    };
+    let Found::At(last) = exponent(text, end) else {
+        return Literal::Nothing;
+    };
+    Literal::At {
+        end: last,
+        bad: value < 2,
+    }
+}
+
+// The Fraction at a place.
+pub fn fraction(text: &[u8], at: usize) -> Literal
+    ensures { λ r. ⌜ Judges (now (text .entry)) fractionOf (BadFraction (now (text .entry))) at r ⌝ }
+{
+    if at > text.len() {
+        return Literal::Nothing;
+    }
+    let Literal::At { end, bad } = significand(text, at) else {
+        return Literal::Nothing;
+    };
+    let Literal::At {
+        end: last,
+        bad: small,
+    } = power(text, end)
+    else {
+        return Literal::At { end, bad };
+    };
+    Literal::At {
+        end: last,
+        bad: bad || small,
+    }
+}
