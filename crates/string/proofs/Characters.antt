@@ -1,0 +1,163 @@
+-- A character inside quotes is a well-formed sequence of bytes, narrowed. Assumes nothing.
+use mathlib.Core.Path.{_≡_, refl, subst}
+use mathlib.Core.Logic.{inl, inr, ⊎-elim}
+use mathlib.Core.Bool.{Bool, true, false, _&&_, false≢true}
+use mathlib.Core.List.{List, [], _∷_}
+use Prim.Native.Nat.{ℕ, _+_, _≤_, _<_}
+use native.Mathlib.Decide.{decLe, ℕ-discrete}
+use native.Mathlib.Omega.{arith}
+use borrow.Author.Tests.{leb-true}
+use lib.Dec.{leb}
+use lib.ListN.{length, getD}
+use types.Run.{OneOf}
+use Rattle.rules.specs.Test.{Says}
+use Rattle.rules.specs.Class.{Class, _upto_, In, has, just}
+use Rattle.rules.specs.Rule.{Rule, one, Takes, byte, both, left, right, Longest, Fails}
+use Rattle.rules.proofs.Bools.{and-left, and-right, or-cases}
+use Rattle.rules.proofs.Classes.{apart, apartSpan}
+use Rattle.rules.proofs.Matches.{byte-at, byte-end, ending}
+use Rattle.rules.proofs.Ways.{nullable, never, never-takes, end-takes}
+use Rattle.lexicon.specs.Literals.{plainByte, unescaped}
+use Rattle.lexicon.specs.Utf8.{range, beyond, sequence}
+use Rattle.text.proofs.Ranges.{in-first, in-later, low-in, in-high, byte-is}
+use Rattle.text.proofs.Searches.{fails}
+use Rattle.string.proofs.Answers.{refuted}
+
+-- every byte of the class is from low to high
+unfoldable inside : ℕ → ℕ → Class → Bool
+inside low high [] = true
+inside low high (s ∷ c) = leb low (s .low) && (leb (s .high) high && inside low high c)
+
+inside-in : (low high : ℕ) (c : Class) (b : ℕ) → inside low high c ≡ true → In c b → (low ≤ b) × (b ≤ high)
+unfolding inside has
+inside-in low high [] b e i = absurd (false≢true i)
+inside-in low high (s ∷ c) b e i =
+    ⊎-elim
+    (λ x.
+    let l = leb-true (s .low) b (and-left (leb (s .low) b) _ x) in
+    let h = leb-true b (s .high) (and-right (leb (s .low) b) _ x) in
+    let m = leb-true low (s .low) (and-left (leb low (s .low)) _ e) in
+    let n = leb-true (s .high) high (and-left (leb (s .high) high) _ (and-right (leb low (s .low)) _ e)) in
+    (omega arith, omega arith))
+    (λ x. inside-in low high c b (and-right (leb (s .high) high) _ (and-right (leb low (s .low)) _ e)) x)
+    (or-cases (leb (s .low) b && leb b (s .high)) _ i)
+
+plain-ascii : inside 0x00 0x7F plainByte ≡ true
+unfolding inside
+plain-ascii = refl
+
+low-none : never (0x00 upto 0x1F ∷ []) unescaped ≡ true
+unfolding never apart apartSpan
+low-none = refl
+
+quote-none : never (just 0x22) unescaped ≡ true
+unfolding never apart apartSpan
+quote-none = refl
+
+backslash-none : never (just 0x5C) unescaped ≡ true
+unfolding never apart apartSpan
+backslash-none = refl
+
+grave-none : never (just 0x60) unescaped ≡ true
+unfolding never apart apartSpan
+grave-none = refl
+
+plain-C2 : never (just 0xC2) (one plainByte) ≡ true
+unfolding never apart apartSpan
+plain-C2 = refl
+
+beyond-C2 : never (just 0xC2) (beyond 0xC3) ≡ true
+unfolding never apart apartSpan
+beyond-C2 = refl
+
+-- a byte of ASCII that may stand
+plain-in : (b : ℕ) → b ≤ 0x7F → 0x20 ≤ b → (b ≡ 0x22 → ⊥) → (b ≡ 0x5C → ⊥) → (b ≡ 0x60 → ⊥) → In plainByte b
+plain-in b h l q w g = first (decLe b 0x21)
+  where
+    third : Dec (b ≤ 0x5F) → 0x5D ≤ b → In (0x5D upto 0x5F ∷ 0x61 upto 0x7F ∷ []) b
+    third (yes x) y = in-first 0x5D 0x5F _ b y x
+    third (no x) y = in-later 0x5D 0x5F _ b (in-first 0x61 0x7F [] b (omega (arith, x, g)) h)
+
+    second : Dec (b ≤ 0x5B) → 0x23 ≤ b → In (0x23 upto 0x5B ∷ 0x5D upto 0x5F ∷ 0x61 upto 0x7F ∷ []) b
+    second (yes x) y = in-first 0x23 0x5B _ b y x
+    second (no x) y = in-later 0x23 0x5B _ b (third (decLe b 0x5F) (omega (arith, x, w)))
+
+    first : Dec (b ≤ 0x21) → In plainByte b
+    first (yes x) = in-first 0x20 0x21 _ b l x
+    first (no x) = in-later 0x20 0x21 _ b (second (decLe b 0x5B) (omega (arith, x, q)))
+
+module _ {text : List ℕ} where
+  -- a match of a rule that takes a byte begins within the text
+  pub begins-within : (r : Rule) → nullable r ≡ false → {i j : ℕ} → Takes text r i j → i < length text
+  begins-within r n {i} t = go (decLe (length text) i)
+    where
+      go : Dec (length text ≤ i) → i < length text
+      go (yes h) = absurd (end-takes text r n h t)
+      go (no h) = omega (arith, h)
+
+  widen : (low high low′ high′ : ℕ) → low′ ≤ low → high ≤ high′ → {i j : ℕ} → Takes text (range low high) i j → Takes text (range low′ high′) i j
+  widen low high low′ high′ l h {i} (byte a e) =
+      let x = low-in low high (getD text i 0) (a .1) in
+      let y = in-high low high (getD text i 0) (a .1) in
+      byte (a .0, in-first low′ high′ [] (getD text i 0) (omega arith) (omega arith)) e
+
+  -- a character is a sequence
+  to-sequence : {i j : ℕ} → Takes text unescaped i j → Takes text sequence i j
+  to-sequence {i} (left (byte a e)) =
+      let x = inside-in 0x00 0x7F plainByte (getD text i 0) plain-ascii (a .1) in
+      left (byte (a .0, in-first 0x00 0x7F [] (getD text i 0) (x .0) (x .1)) e)
+  to-sequence (right (left (both t u))) =
+      right (left (both (widen 0xC2 0xC2 0xC2 0xDF (omega arith) (omega arith) t) (widen 0xA0 0xBF 0x80 0xBF (omega arith) (omega arith) u)))
+  to-sequence (right (right (left (both t u)))) = right (left (both (widen 0xC3 0xDF 0xC2 0xDF (omega arith) (omega arith) t) u))
+  to-sequence (right (right (right t))) = right (right t)
+
+  pub no-character : {i : ℕ} → Fails text sequence i → Fails text unescaped i
+  no-character f = record { none = λ t. f .none (to-sequence t) }
+
+  pub control : (i : ℕ) → i < length text → getD text i 0 < 0x20 → Fails text unescaped i
+  control i h l =
+      record { none = λ t. never-takes text (0x00 upto 0x1F ∷ []) unescaped low-none (h, in-first 0x00 0x1F [] (getD text i 0) (omega arith) (omega arith)) t }
+
+  pub barred : (i : ℕ) → i < length text → OneOf (0x22 ∷ 0x5C ∷ 0x60 ∷ []) (getD text i 0) → Fails text unescaped i
+  barred i h k =
+      ⊎-elim (λ e. fails quote-none (byte-is 0x22 i h e))
+      (λ k. ⊎-elim (λ e. fails backslash-none (byte-is 0x5C i h e)) (λ e. fails grave-none (byte-is 0x60 i h e)) k) k
+
+  -- behind C2 the second byte decides
+  second-byte : {i j : ℕ} → Takes text (one (just 0xC2)) i (i + 1) → Takes text unescaped i j → Takes text (range 0xA0 0xBF) (i + 1) j
+  second-byte a (left t) = absurd (never-takes text (just 0xC2) (one plainByte) plain-C2 (byte-at a) t)
+  second-byte {i} {j} a (right (left (both t u))) = subst (λ (x : ℕ). Takes text (range 0xA0 0xBF) x j) (byte-end t) u
+  second-byte a (right (right t)) = absurd (never-takes text (just 0xC2) (beyond 0xC3) beyond-C2 (byte-at a) t)
+
+  pub control-C2 : (i : ℕ) (o : Bool) → i < length text → getD text i 0 ≡ 0xC2 → Says o (Takes text (range 0xA0 0xBF) (i + 1) (i + 1 + 1)) → o ≡ false → Fails text unescaped i
+  control-C2 i o h e s f = record { none = λ t. go (second-byte (byte-is 0xC2 i h e) t) }
+    where
+      go : {j : ℕ} → Takes text (range 0xA0 0xBF) (i + 1) j → ⊥
+      go t = refuted s f (byte (byte-at t) refl)
+
+  -- a sequence of another kind is a character
+  of-sequence : {i j : ℕ} → 0x20 ≤ getD text i 0 → (OneOf (0x22 ∷ 0x5C ∷ 0x60 ∷ []) (getD text i 0) → ⊥) → (getD text i 0 ≡ 0xC2 → Takes text (range 0xA0 0xBF) (i + 1) (i + 2)) → Takes text sequence i j → Takes text unescaped i j
+  of-sequence {i} l n c (left (byte a e)) =
+      left (byte (a .0, plain-in (getD text i 0) (in-high 0x00 0x7F _ (a .1)) l (λ x. n (inl x)) (λ x. n (inr (inl x))) (λ x. n (inr (inr x)))) e)
+  of-sequence {i} {j} l n c (right (left (both {m = m} (byte a e) (byte b f)))) = go (ℕ-discrete (getD text i 0) 0xC2)
+    where
+      go : Dec (getD text i 0 ≡ 0xC2) → Takes text unescaped i j
+      go (yes x) =
+          let h : i + 2 ≡ j = omega arith in right (left (both (byte-is 0xC2 i (a .0) x) (ending h (c x))))
+      go (no x) =
+          let y = low-in 0xC2 0xDF (getD text i 0) (a .1) in
+          let z = in-high 0xC2 0xDF (getD text i 0) (a .1) in
+          right (right (left (both (byte (a .0, in-first 0xC3 0xDF [] (getD text i 0) (omega (arith, x)) z) e) (byte b f))))
+  of-sequence l n c (right (right t)) = right (right (right t))
+
+  longest-of : {i j : ℕ} → (Takes text sequence i j → Takes text unescaped i j) → Longest text sequence i j → Longest text unescaped i j
+  longest-of f l = record { takes = f (l .takes); most = λ t. l .most (to-sequence t) }
+
+  pub character-C2 : (i j : ℕ) (o : Bool) → Longest text sequence i j → getD text i 0 ≡ 0xC2 → Says o (Takes text (range 0xA0 0xBF) (i + 1) (i + 1 + 1)) → o ≡ true → Longest text unescaped i j
+  character-C2 i j o l e s f = longest-of (of-sequence (omega arith) none (λ x. ending (omega arith) (s .true-holds f))) l
+    where
+      none : OneOf (0x22 ∷ 0x5C ∷ 0x60 ∷ []) (getD text i 0) → ⊥
+      none k = ⊎-elim (λ x. omega arith) (λ k. ⊎-elim (λ x. omega arith) (λ x. omega arith) k) k
+
+  pub character-other : (i j : ℕ) → Longest text sequence i j → 0x20 ≤ getD text i 0 → (OneOf (0x22 ∷ 0x5C ∷ 0x60 ∷ []) (getD text i 0) → ⊥) → (OneOf (0xC2 ∷ []) (getD text i 0) → ⊥) → Longest text unescaped i j
+  character-other i j l h n m = longest-of (of-sequence h n (λ x. absurd (m x))) l

@@ -1,0 +1,13 @@
+-- The laws of Text literals.
+pub mod Answers
+pub mod Taken
+pub mod Among
+pub mod Closed
+pub mod Marks
+pub mod Codes
+pub mod Numbers
+pub mod Words
+pub mod Items
+pub mod Characters
+pub mod Escapes
+pub mod Segments

@@ -1,0 +1,228 @@
+-- Segments of a quoted text, and the text. Assumes nothing.
+use mathlib.Core.Path.{_≡_, refl, subst, sym, _∙_}
+use mathlib.Core.Logic.{_⊎_, inl, inr, ⊎-elim}
+use mathlib.Core.Bool.{Bool, true, false, _||_}
+use mathlib.Core.List.{List}
+use Prim.Native.Nat.{ℕ, _+_, _≤_}
+use native.Mathlib.Omega.{arith}
+use lib.ListN.{getD}
+use Rattle.rules.specs.Test.{Says}
+use Rattle.rules.specs.Class.{Class}
+use Rattle.rules.specs.Rule.{Rule, one, _then_, many, opt, lit, Takes, nothing, byte, both, left, right, stop, more, At, Longest, Fails, Among}
+use Rattle.rules.proofs.Bools.{or-cases, or-left, or-right}
+use Rattle.rules.proofs.Classes.{apart, apartSpan, apart-no}
+use Rattle.rules.proofs.Matches.{forward, starting, one-at}
+use Rattle.rules.proofs.Chains.{Single, join, snoc, reaches}
+use Rattle.rules.proofs.Ways.{never, never-takes}
+use Rattle.lexicon.specs.declared.Literal.{Literal}
+use Rattle.lexicon.specs.declared.Literal as Literal
+use Rattle.lexicon.specs.Found.{Judges}
+use Rattle.lexicon.specs.Space.{blank, sp, Skips}
+use Rattle.lexicon.specs.Literals.{unescaped, restricted, content, segment, quoted}
+use Rattle.lexicon.specs.Bad.{BadEscape, BadSegment, BadFurther, BadQuoted, inFirst, inFurther}
+use Rattle.lexicon.proofs.Spaces.{landed, skips-same}
+use Rattle.string.specs.Parts.{plainRest, item, escapedRest, BadRest}
+use Rattle.string.proofs.Answers.{says-no}
+use Rattle.string.proofs.Among.{Strict, place, found, kept, none-among, which}
+use Rattle.string.proofs.Closed.{closed-single, closes}
+use Rattle.string.proofs.Items.{quote, backslash, backslash-unescaped, quote-restricted, quote-item, restricted-single, item-single, strict-of}
+
+quote-backslash : apart quote backslash ≡ true
+unfolding apart apartSpan
+quote-backslash = refl
+
+quote-blank : never quote blank ≡ true
+unfolding never apart apartSpan
+quote-blank = refl
+
+abbrev pub further : Rule
+further = opt sp then segment
+
+module _ (text : List ℕ) where
+  move-at : (c : Class) {i j : ℕ} → i ≡ j → At text c i → At text c j
+  move-at c e a = subst (λ (x : ℕ). At text c x) e a
+
+  -- ---- the rest of a segment behind its opening quote
+
+  -- a first backslash makes it an escaped one
+  to-escaped : {m j : ℕ} → At text backslash m → Takes text (content then lit "\"") m j → Takes text escapedRest (m + 1) j
+  to-escaped b (both (left (left (both t u))) q) = absurd (never-takes text backslash unescaped backslash-unescaped b t)
+  to-escaped {m} b (both (left (right (nothing e))) (byte a f)) =
+      absurd (apart-no quote backslash (getD text m 0) quote-backslash (move-at quote (sym e) a .1) (b .1))
+  to-escaped b (both (right (both (byte a e) t)) q) = both (starting e t) q
+
+  of-escaped : {m j : ℕ} → At text backslash m → Takes text escapedRest (m + 1) j → Takes text (content then lit "\"") m j
+  of-escaped b (both t q) = both (right (both (byte b refl) t)) q
+
+  -- without one it is a plain one
+  to-plain : {m j : ℕ} → (At text backslash m → ⊥) → Takes text (content then lit "\"") m j → Takes text plainRest m j
+  to-plain n (both (left (left (both t u))) q) = both (more (left t) u) q
+  to-plain n (both (left (right (nothing e))) q) = both (stop e) q
+  to-plain n (both (right (both (byte a e) t)) q) = absurd (n a)
+
+  of-plain : {m j : ℕ} → (At text backslash m → ⊥) → Takes text plainRest m j → Takes text (content then lit "\"") m j
+  of-plain n (both (stop e) q) = both (left (right (nothing e))) q
+  of-plain n (both (more (left t) u) q) = both (left (left (both t u))) q
+  of-plain n (both (more (right (byte a e)) u) q) = absurd (n a)
+
+  -- a match tells which
+  which-rest : {m j : ℕ} → Takes text (content then lit "\"") m j → At text backslash m ⊎ (At text backslash m → ⊥)
+  which-rest {m} (both (left (left (both t u))) q) = inr (λ b. never-takes text backslash unescaped backslash-unescaped b t)
+  which-rest {m} (both (left (right (nothing e))) (byte a f)) =
+      inr (λ b. apart-no quote backslash (getD text m 0) quote-backslash (move-at quote (sym e) a .1) (b .1))
+  which-rest (both (right (both (byte a e) t)) q) = inl a
+
+  rest-same : {m j k : ℕ} → Takes text (content then lit "\"") m j → Takes text (content then lit "\"") m k → j ≡ k
+  rest-same t u =
+      ⊎-elim (λ b. closed-single item quote item-single quote-item .same (to-escaped b t) (to-escaped b u))
+      (λ n. closed-single restricted quote restricted-single quote-restricted .same (to-plain n t) (to-plain n u)) (which-rest t)
+
+  -- a row of items that has come to the closing quote
+  pub rest-judged : {i j : ℕ} {bad : Bool} → Takes text (many item) i j → At text quote j → Says bad (Among text item (BadEscape text) i j) → Judges text escapedRest (BadRest text) i (Literal.the-variants.At (j + 1) bad)
+  rest-judged {i} {j} {bad} t a y = (
+    closes item quote item-single quote-item t a,
+    record {
+      true-holds = λ e. record { end = j; content = y .true-holds e; behind = one-at a };
+      holds-true = λ b. back (b .content) (b .behind);
+    },
+  )
+    where
+      back : {e : ℕ} → Among text item (BadEscape text) i e → Takes text (lit "\"") e (j + 1) → bad ≡ true
+      back {e} c (byte b f) = let h : e ≡ j = omega arith in y .holds-true (place (Among text item (BadEscape text)) refl h c)
+
+  -- ---- a segment
+
+  pub segment-single : Single text segment
+  segment-single = record { same = go }
+    where
+      go : {i j k : ℕ} → Takes text segment i j → Takes text segment i k → j ≡ k
+      go (both (byte a e) t) (both (byte b f) u) = rest-same t (starting (f ∙ sym e) u)
+
+  segment-begins : {i j : ℕ} → Takes text segment i j → At text quote i
+  segment-begins (both (byte a e) t) = a
+
+  segment-rest : {i j : ℕ} → Takes text segment i j → Takes text (content then lit "\"") (i + 1) j
+  segment-rest (both (byte a e) t) = starting e t
+
+  pub no-segment : {i : ℕ} → (At text quote i → ⊥) → Fails text segment i
+  no-segment n = record { none = λ t. n (segment-begins t) }
+
+  bad-rest : {i j : ℕ} → BadSegment text i j → At text backslash (i + 1) × BadRest text (i + 2) j
+  bad-rest b = go (b .before) (b .content) (b .behind)
+    where
+      go : {i s e j : ℕ} → Takes text (lit "\"\\") i s → Among text item (BadEscape text) s e → Takes text (lit "\"") e j → At text backslash (i + 1) × BadRest text (i + 2) j
+      go {i} {s} {e} (both (byte a f) (byte b g)) c q =
+          let h : s ≡ i + 2 = omega arith in
+          (move-at backslash f b, record { end = e; content = subst (λ (x : ℕ). Among text item (BadEscape text) x e) h c; behind = q })
+
+  rest-bad : {i j : ℕ} → At text quote i → At text backslash (i + 1) → BadRest text (i + 2) j → BadSegment text i j
+  rest-bad {i} a b r =
+      let h : i + 2 ≡ i + 1 + 1 = omega arith in
+      record { start = i + 2; end = r .end; before = both (byte a refl) (byte b h); content = r .content; behind = r .behind }
+
+  -- the answer for the rest of an escaped one
+  pub segment-escaped : (i : ℕ) (r : Literal) → At text quote i → At text backslash (i + 1) → Judges text escapedRest (BadRest text) (i + 2) r → Judges text segment (BadSegment text) i r
+  segment-escaped i (Literal.the-variants.At j bad) a b y = (
+    record {
+      takes = both (byte a refl) (of-escaped b (starting (omega arith) (y .0 .takes)));
+      most = λ t. y .0 .most (starting (omega arith) (to-escaped b (segment-rest t)));
+    },
+    record { true-holds = λ e. rest-bad a b (y .1 .true-holds e); holds-true = λ s. y .1 .holds-true (bad-rest s .1) },
+  )
+  segment-escaped i Literal.the-variants.Nothing a b f =
+      record { none = λ t. f .none (starting (omega arith) (to-escaped b (segment-rest t))) }
+
+  -- and of a plain one
+  pub segment-plain : (i j : ℕ) → At text quote i → (At text backslash (i + 1) → ⊥) → Longest text plainRest (i + 1) j → Judges text segment (BadSegment text) i (Literal.the-variants.At j false)
+  segment-plain i j a n l = (
+    record { takes = both (byte a refl) (of-plain n (l .takes)); most = λ t. l .most (to-plain n (segment-rest t)) },
+    says-no (λ s. n (bad-rest s .0)),
+  )
+
+  pub segment-open : (i : ℕ) → (At text backslash (i + 1) → ⊥) → Fails text plainRest (i + 1) → Fails text segment i
+  segment-open i n f = record { none = λ t. f .none (to-plain n (segment-rest t)) }
+
+  -- ---- a further segment
+
+  -- dividing space before a segment ends where all of it ends
+  space-ends : {i u s k : ℕ} → Takes text (opt sp) i u → Takes text segment u k → Skips text i s → u ≡ s
+  space-ends p t y = skips-same (landed quote quote-blank p (segment-begins t)) y
+
+  further-rest : {i s k : ℕ} → Skips text i s → Takes text further i k → Takes text segment s k
+  further-rest y (both p t) = starting (space-ends p t y) t
+
+  pub further-single : Single text further
+  further-single = record { same = go }
+    where
+      go : {i j k : ℕ} → Takes text further i j → Takes text further i k → j ≡ k
+      go (both p t) u = segment-single .same t (further-rest (landed quote quote-blank p (segment-begins t)) u)
+
+  pub further-strict : Strict text further
+  further-strict = strict-of further refl
+
+  among-takes : {r : Rule} {P : ℕ → ℕ → Type 0} {i j : ℕ} → Among text r P i j → Takes text (many r) i j
+  among-takes a = join (a .before) (more (a .match) (a .behind))
+
+  bad-takes : {i j : ℕ} → BadSegment text i j → Takes text segment i j
+  bad-takes b = go (b .before) (among-takes (b .content)) (b .behind)
+    where
+      go : {i s e j : ℕ} → Takes text (lit "\"\\") i s → Takes text (many item) s e → Takes text (lit "\"") e j → Takes text segment i j
+      go (both q w) t z = both q (both (right (both w t)) z)
+
+  bad-further : {i s j : ℕ} → Skips text i s → BadFurther text i j → BadSegment text s j
+  bad-further {j = j} y b =
+      subst (λ (x : ℕ). BadSegment text x j) (space-ends (b .before) (bad-takes (b .bad)) y) (b .bad)
+
+  pub further-judged : (i s : ℕ) (r : Literal) → Skips text i s → Judges text segment (BadSegment text) s r → Judges text further (BadFurther text) i r
+  further-judged i s (Literal.the-variants.At j bad) p y = (
+    record { takes = both (p .takes) (y .0 .takes); most = λ t. y .0 .most (further-rest p t) },
+    record {
+      true-holds = λ e. record { start = s; before = p .takes; bad = y .1 .true-holds e };
+      holds-true = λ b. y .1 .holds-true (bad-further p b);
+    },
+  )
+  further-judged i s Literal.the-variants.Nothing p f = record { none = λ t. f .none (further-rest p t) }
+
+  -- ---- the text
+
+  pub no-quoted : {i : ℕ} → Fails text segment i → Fails text quoted i
+  no-quoted {i} f = record { none = go }
+    where
+      go : {k : ℕ} → Takes text quoted i k → ⊥
+      go (both t u) = f .none t
+
+  module _ {i m : ℕ} (first : Takes text segment i m) where
+    first-same : {k : ℕ} → Takes text segment i k → k ≡ m
+    first-same t = segment-single .same t first
+
+    pub quoted-ends : {j : ℕ} → Takes text (many further) m j → Fails text further j → Longest text quoted i j
+    quoted-ends {j} c f = record { takes = both first c; most = go }
+      where
+        go : {k : ℕ} → Takes text quoted i k → k ≤ j
+        go (both t u) = forward (reaches further-single c f (starting (first-same t) u))
+
+    -- nothing but the first segment
+    pub first-said : {b : Bool} → Says b (BadSegment text i m) → Says b (BadQuoted text i m)
+    first-said {b} y = record { true-holds = λ e. inFirst (y .true-holds e) (stop refl); holds-true = λ q. go q refl }
+      where
+        go : {k : ℕ} → BadQuoted text i k → k ≡ m → b ≡ true
+        go (inFirst s t) e = y .holds-true (place (BadSegment text) refl (first-same (bad-takes s)) s)
+        go (inFurther t a) e =
+            absurd (none-among text further (BadFurther text) further-single further-strict
+            (place (Among text further (BadFurther text)) (first-same t) e a))
+
+    -- one more segment
+    pub next-said : {j k : ℕ} {b c : Bool} → Takes text (many further) m j → Takes text further j k → Says b (BadQuoted text i j) → Says c (BadFurther text j k) → Says (b || c) (BadQuoted text i k)
+    next-said {j} {k} {b} {c} t s y z =
+        record { true-holds = λ e. ⊎-elim (λ x. more-bad (y .true-holds x) s) (λ x. inFurther first (found t s (z .true-holds x))) (or-cases b c e); holds-true = back }
+      where
+        more-bad : {j k : ℕ} → BadQuoted text i j → Takes text further j k → BadQuoted text i k
+        more-bad (inFirst x u) s = inFirst x (snoc u s)
+        more-bad (inFurther x a) s = inFurther x (kept a s)
+
+        back : BadQuoted text i k → (b || c) ≡ true
+        back (inFirst x u) = or-left b c (y .holds-true (inFirst (place (BadSegment text) refl (first-same (bad-takes x)) x) t))
+        back (inFurther x a) =
+            ⊎-elim (λ p. or-left b c (y .holds-true (inFurther first p))) (λ p. or-right b c (z .holds-true p))
+            (which text further (BadFurther text) further-single further-strict t s
+            (place (Among text further (BadFurther text)) (first-same x) refl a))

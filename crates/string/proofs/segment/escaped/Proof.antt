@@ -1,0 +1,77 @@
+-- `string::segment::escaped` meets its contract: the items up to `i` are a row, and `bad` says whether one of them is bad.
+-- Assumes nothing.
+use borrow.Author.Needs.{needs}
+use mathlib.Core.Path.{refl}
+use Prim.Native.Nat.{_-_}
+use native.Mathlib.Omega.{arith}
+use borrow.Author.Tests.{not-true, not-false}
+use lib.ListN.{length}
+use Rattle.rules.specs.Test.{Says}
+use Rattle.rules.specs.Rule.{many, Takes, stop, Among}
+use Rattle.rules.proofs.Chains.{snoc}
+use Rattle.lexicon.specs.Bad.{BadEscape}
+use Rattle.string.specs.Parts.{item}
+use Rattle.string.proofs.Answers.{there, not-there}
+use Rattle.string.proofs.Among.{none-said, said}
+use Rattle.string.proofs.Characters.{begins-within}
+use Rattle.string.proofs.Closed.{never-closes}
+use Rattle.string.proofs.Items.{quote, quote-item, item-single, item-strict}
+use Rattle.string.proofs.Segments.{rest-judged}
+use Rattle.string.proofs.Taken.{literal-at, no-literal}
+use Rattle.string.proofs.segment.escaped.Statement.{statement}
+use Rattle.string.proofs.segment.escaped.Tie as tie
+
+abbrev Inv-loop : tie.InvT-loop
+Inv-loop text at i₀ bad₀ i bad = Takes text (many item) at i × Says bad (Among text item (BadEscape text) at i)
+
+abbrev μ-loop : tie.MeasureT-loop
+μ-loop text at i₀ bad₀ i bad = length text - i
+
+loop-holds : tie.Need-loop-holds Inv-loop μ-loop
+loop-holds c = (stop refl, none-said _ item (BadEscape _) item-single item-strict _)
+
+stands-requires : tie.Need-stands-requires Inv-loop μ-loop
+stands-requires c κs = search needs
+
+item-requires : tie.Need-item-requires Inv-loop μ-loop
+item-requires c κs = search needs
+
+enum-known-end : tie.Need-enum-known-end Inv-loop μ-loop
+enum-known-end c = search needs
+
+enum-told : tie.Need-enum-told Inv-loop μ-loop
+enum-told c = search needs
+
+returns : tie.Need-returns Inv-loop μ-loop
+returns c = never-closes item quote item-single quote-item (c .before .before .before .before .before .loop .inv .0) (no-literal (BadEscape (c .before .before .before .before .before .before .before .args .text .now)) (c .enum-told .given .1) (c .before .before .item .ensures))
+    (not-there (c .before .before .before .before .stands .ensures) (not-true _ (c .before .before .before .if1 .taken)))
+
+loop-less : tie.Need-loop-less Inv-loop μ-loop
+loop-less c = let y = literal-at (BadEscape (c .before .before .before .before .before .before .before .before .args .text .now)) (c .before .end .given .1) (c .before .before .before .item .ensures) in omega (arith, begins-within item refl (y .0 .takes), item-strict .less (y .0 .takes))
+
+loop-again : tie.Need-loop-again Inv-loop μ-loop
+loop-again c = let y = literal-at (BadEscape (c .before .before .before .before .before .before .before .before .args .text .now)) (c .before .end .given .1) (c .before .before .before .item .ensures) in let v = c .before .before .before .before .before .before .loop .inv in
+    (snoc (v .0) (y .0 .takes), said _ item (BadEscape (c .before .before .before .before .before .before .before .before .args .text .now)) item-single item-strict (v .0) (y .0 .takes) (v .1) (y .1))
+
+add-t10 : tie.Need-add-t10 Inv-loop μ-loop
+add-t10 c = omega (arith, there (c .before .stands .ensures) (not-false _ (c .if1 .left)) .0)
+
+returns-2 : tie.Need-returns-2 Inv-loop μ-loop
+returns-2 c = let v = c .before .before .loop .inv in rest-judged _ (v .0) (there (c .before .stands .ensures) (not-false _ (c .if1 .left))) (v .1)
+
+pub escaped-spec : {M : Type 1} → statement M
+escaped-spec =
+    tie.close
+    (tie.spec
+    Inv-loop
+    μ-loop
+    loop-holds
+    stands-requires
+    item-requires
+    enum-known-end
+    enum-told
+    returns
+    loop-less
+    loop-again
+    add-t10
+    returns-2)

@@ -1,0 +1,72 @@
+-- `string::segment::plain` meets its contract: the items up to `i` are a row.
+-- Assumes nothing.
+use borrow.Author.Needs.{needs}
+use mathlib.Core.Path.{refl}
+use Prim.Native.Nat.{_-_}
+use native.Mathlib.Omega.{arith}
+use borrow.Author.Tests.{not-true, not-false}
+use lib.ListN.{length}
+use Rattle.rules.specs.Rule.{many, Takes, stop}
+use Rattle.rules.proofs.Chains.{snoc}
+use Rattle.lexicon.specs.Literals.{restricted}
+use Rattle.text.proofs.Searches.{at-end, not-found}
+use Rattle.string.proofs.Answers.{there, not-there}
+use Rattle.string.proofs.Characters.{begins-within}
+use Rattle.string.proofs.Closed.{closes, never-closes}
+use Rattle.string.proofs.Items.{quote, quote-restricted, restricted-single, restricted-strict}
+use Rattle.string.proofs.segment.plain.Statement.{statement}
+use Rattle.string.proofs.segment.plain.Tie as tie
+
+abbrev Inv-loop : tie.InvT-loop
+Inv-loop text at i₀ i = Takes text (many restricted) at i
+
+abbrev μ-loop : tie.MeasureT-loop
+μ-loop text at i₀ i = length text - i
+
+loop-holds : tie.Need-loop-holds Inv-loop μ-loop
+loop-holds c = stop refl
+
+stands-requires : tie.Need-stands-requires Inv-loop μ-loop
+stands-requires c κs = search needs
+
+restricted-requires : tie.Need-restricted-requires Inv-loop μ-loop
+restricted-requires c κs = search needs
+
+enum-known-next : tie.Need-enum-known-next Inv-loop μ-loop
+enum-known-next c = search needs
+
+enum-told : tie.Need-enum-told Inv-loop μ-loop
+enum-told c = search needs
+
+returns : tie.Need-returns Inv-loop μ-loop
+returns c = never-closes restricted quote restricted-single quote-restricted (c .before .before .before .before .before .loop .inv) (not-found (c .enum-told .given .1) (c .before .before .restricted .ensures))
+    (not-there (c .before .before .before .before .stands .ensures) (not-true _ (c .before .before .before .if1 .taken)))
+
+loop-less : tie.Need-loop-less Inv-loop μ-loop
+loop-less c = omega (arith, begins-within restricted refl (at-end (c .before .next .given .1) (c .before .before .before .restricted .ensures) .takes), restricted-strict .less (at-end (c .before .next .given .1) (c .before .before .before .restricted .ensures) .takes))
+
+loop-again : tie.Need-loop-again Inv-loop μ-loop
+loop-again c = snoc (c .before .before .before .before .before .before .loop .inv) (at-end (c .before .next .given .1) (c .before .before .before .restricted .ensures) .takes)
+
+add-t8 : tie.Need-add-t8 Inv-loop μ-loop
+add-t8 c = omega (arith, there (c .before .stands .ensures) (not-false _ (c .if1 .left)) .0)
+
+returns-2 : tie.Need-returns-2 Inv-loop μ-loop
+returns-2 c = closes restricted quote restricted-single quote-restricted (c .before .before .loop .inv) (there (c .before .stands .ensures) (not-false _ (c .if1 .left)))
+
+pub plain-spec : {M : Type 1} → statement M
+plain-spec =
+    tie.close
+    (tie.spec
+    Inv-loop
+    μ-loop
+    loop-holds
+    stands-requires
+    restricted-requires
+    enum-known-next
+    enum-told
+    returns
+    loop-less
+    loop-again
+    add-t8
+    returns-2)

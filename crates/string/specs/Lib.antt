@@ -1,0 +1,2 @@
+-- What the parts of a Text literal answer.
+pub mod Parts

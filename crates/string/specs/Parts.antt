@@ -1,0 +1,86 @@
+-- What the answers of the parts of a Text literal say. Assumes nothing.
+use mathlib.Core.Path.{_≡_}
+use mathlib.Core.List.{List, [], _∷_}
+use Prim.Native.Nat.{ℕ, _-_, min}
+use Rattle.rules.specs.Rule.{Rule, one, _then_, _or_, many, plus, lit, Takes, Fails, Among}
+use Rattle.lexicon.specs.declared.Base.{Base}
+use Rattle.lexicon.specs.declared.Head.{Head}
+use Rattle.lexicon.specs.declared.Head.the-variants.{Array, Set, Bag, Mix, IntervalSet, IntervalBag, TupleArray, Relation, TupleBag}
+use Rattle.lexicon.specs.declared.Form.{Form}
+use Rattle.lexicon.specs.declared.Form.the-variants.{Quoted, Word, HeadWord, CodePoint}
+use Rattle.lexicon.specs.Bytes.{digits, radix}
+use Rattle.lexicon.specs.Literals.{codePoint, unescaped, restricted, escape}
+use Rattle.lexicon.specs.Values.{read, value}
+use Rattle.lexicon.specs.Bad.{Scalar, BadCode, BadEscape}
+use Rattle.lexicon.specs.Token.{headWord}
+
+-- the least number beyond all code points
+abbrev pub cap : ℕ
+cap = 0x110000
+
+-- the digits of a number, one at least
+abbrev pub number : Base → Rule
+number b = plus (one (digits b))
+
+-- the rest of an escape by number, behind its opening angle
+abbrev pub angled : Rule
+angled = codePoint then lit ">"
+
+-- the rest of a segment behind its opening quote, and behind a backslash that makes it an escaped one
+abbrev pub plainRest : Rule
+plainRest = many restricted then lit "\""
+
+abbrev pub item : Rule
+item = unescaped or escape
+
+abbrev pub escapedRest : Rule
+escapedRest = many item then lit "\""
+
+-- the head words of collections
+abbrev pub collections : List Head
+collections = Array ∷ Set ∷ Bag ∷ Mix ∷ IntervalSet ∷ IntervalBag ∷ TupleArray ∷ Relation ∷ TupleBag ∷ []
+
+module _ (text : List ℕ) where
+  -- the number of the digits from i to j
+  abbrev pub numberAt : Base → ℕ → ℕ → ℕ
+  numberAt b i j = value (radix b) (read text i (j - i))
+
+  -- is no code point
+  abbrev pub BadNumber : Base → ℕ → ℕ → Type 0
+  BadNumber b i j = Scalar (numberAt b i j) → ⊥
+
+  pub record BadAngled (i j : ℕ) : Type 0 where
+    pub end : ℕ
+    pub code : BadCode text i end
+    pub behind : Takes text (lit ">") end j
+
+  -- the digits from i to j and no more, with their number, or a number that is no code point if it is beyond them all
+  pub record Counts (b : Base) (i j v : ℕ) : Type 0 where
+    pub all : Takes text (many (one (digits b))) i j
+    pub ends : Fails text (one (digits b)) j
+    pub code : v ≡ min cap (numberAt b i j)
+
+  -- one of the escapes in the rest of an escaped segment is bad
+  pub record BadRest (i j : ℕ) : Type 0 where
+    pub end : ℕ
+    pub content : Among text item (BadEscape text) i end
+    pub behind : Takes text (lit "\"") end j
+
+  -- none of these head words stands from i to j
+  abbrev pub NoneOf : List Head → ℕ → ℕ → Type 0
+  NoneOf [] i j = Unit {0}
+  NoneOf (h ∷ hs) i j = (Takes text (lit (headWord h)) i j → ⊥) × NoneOf hs i j
+
+  -- a head word stands there, or none of these does
+  abbrev pub TellsOf : List Head → ℕ → ℕ → Form → Type 0
+  TellsOf hs i j (HeadWord h) = Takes text (lit (headWord h)) i j
+  TellsOf hs i j Word = NoneOf hs i j
+  TellsOf hs i j Quoted = ⊥
+  TellsOf hs i j CodePoint = ⊥
+
+  -- which head word stands there, or that none does
+  abbrev pub Tells : ℕ → ℕ → Form → Type 0
+  Tells i j (HeadWord h) = Takes text (lit (headWord h)) i j
+  Tells i j Word = (h : Head) → Takes text (lit (headWord h)) i j → ⊥
+  Tells i j Quoted = ⊥
+  Tells i j CodePoint = ⊥

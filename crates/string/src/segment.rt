@@ -1,0 +1,142 @@
+// One segment of a quoted text. It is an escaped one only if a backslash stands first in it.
+use crate::code_point::code_point;
+use lexicon::Found;
+use lexicon::Literal;
+use text::byte::stands;
+use text::byte::within;
+use text::utf8::sequence;
+ghost use Rattle.lexicon.specs.Found.{Finds, Judges};
+ghost use Rattle.lexicon.specs.Literals as Literals;
+ghost use Rattle.lexicon.specs.Bad.{BadEscape, BadSegment};
+ghost use Rattle.string.specs.Parts as Parts;
+ghost use Rattle.string.specs.Parts.{BadAngled, BadRest};
+
+// A character that may stand inside quotes as it is, other than a backslash.
+fn character(text: &[u8], at: usize) -> Found
+    ensures { λ r. ⌜ Finds (now (text .entry)) Literals.unescaped at r ⌝ }
+{
+    let Found::At(end) = sequence(text, at) else {
+        return Found::Nothing;
+    };
+    let b = text[at];
+    if b < 0x20 {
+        return Found::Nothing;
+    }
+    match b {
+        b'"' | b'\\' | b'`' => Found::Nothing,
+        // U+0080 to U+009F may not stand.
+        0xC2 => {
+            if within(text, at + 1, 0xA0, 0xBF) {
+                return Found::At(end);
+            }
+            Found::Nothing
+        }
+        _ => Found::At(end),
+    }
+}
+
+// A code point by its number and the closing angle.
+fn angled(text: &[u8], at: usize) -> Literal
+    ensures { λ r. ⌜ Judges (now (text .entry)) Parts.angled (BadAngled (now (text .entry))) at r ⌝ }
+{
+    let Literal::At { end, bad } = code_point(text, at) else {
+        return Literal::Nothing;
+    };
+    if stands(text, end, b'>') {
+        return Literal::At { end: end + 1, bad };
+    }
+    Literal::Nothing
+}
+
+// A backslash, and a letter or a code point by its number.
+fn escape(text: &[u8], at: usize) -> Literal
+    ensures { λ r. ⌜ Judges (now (text .entry)) Literals.escape (BadEscape (now (text .entry))) at r ⌝ }
+{
+    if !stands(text, at, b'\\') {
+        return Literal::Nothing;
+    }
+    let next = at + 1;
+    if next >= text.len() {
+        return Literal::Nothing;
+    }
+    let end = at + 2;
+    match text[next] {
+        b'q' => Literal::At { end, bad: false },
+        b'g' => Literal::At { end, bad: false },
+        b'b' => Literal::At { end, bad: false },
+        b't' => Literal::At { end, bad: false },
+        b'n' => Literal::At { end, bad: false },
+        b'r' => Literal::At { end, bad: false },
+        b'<' => angled(text, end),
+        _ => Literal::Nothing,
+    }
+}
+
+// A character or an escape.
+fn item(text: &[u8], at: usize) -> Literal
+    ensures { λ r. ⌜ Judges (now (text .entry)) Parts.item (BadEscape (now (text .entry))) at r ⌝ }
+{
+    let Found::At(end) = character(text, at) else {
+        return escape(text, at);
+    };
+    Literal::At { end, bad: false }
+}
+
+// A character or a backslash.
+fn restricted(text: &[u8], at: usize) -> Found
+    ensures { λ r. ⌜ Finds (now (text .entry)) Literals.restricted at r ⌝ }
+{
+    if stands(text, at, b'\\') {
+        return Found::At(at + 1);
+    }
+    let Found::At(end) = character(text, at) else {
+        return Found::Nothing;
+    };
+    Found::At(end)
+}
+
+// Characters and backslashes up to the closing quote.
+fn plain(text: &[u8], at: usize) -> Found
+    ensures { λ r. ⌜ Finds (now (text .entry)) Parts.plainRest at r ⌝ }
+{
+    let mut i = at;
+    while !stands(text, i, b'"') {
+        let Found::At(next) = restricted(text, i) else {
+            return Found::Nothing;
+        };
+        i = next;
+    }
+    Found::At(i + 1)
+}
+
+// Characters and escapes up to the closing quote.
+fn escaped(text: &[u8], at: usize) -> Literal
+    ensures { λ r. ⌜ Judges (now (text .entry)) Parts.escapedRest (BadRest (now (text .entry))) at r ⌝ }
+{
+    let mut i = at;
+    let mut bad = false;
+    while !stands(text, i, b'"') {
+        let Literal::At { end, bad: worse } = item(text, i) else {
+            return Literal::Nothing;
+        };
+        i = end;
+        bad = bad | worse;
+    }
+    Literal::At { end: i + 1, bad }
+}
+
+// A segment.
+pub fn segment(text: &[u8], at: usize) -> Literal
+    ensures { λ r. ⌜ Judges (now (text .entry)) Literals.segment (BadSegment (now (text .entry))) at r ⌝ }
+{
+    if !stands(text, at, b'"') {
+        return Literal::Nothing;
+    }
+    if stands(text, at + 1, b'\\') {
+        return escaped(text, at + 2);
+    }
+    let Found::At(end) = plain(text, at + 1) else {
+        return Literal::Nothing;
+    };
+    Literal::At { end, bad: false }
+}

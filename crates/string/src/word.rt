@@ -1,0 +1,86 @@
+// Bare words, and which of the thirteen head words one is.
+use crate::spelling::spells;
+use lexicon::Form;
+use lexicon::Found;
+use lexicon::Head;
+use lexicon::Set;
+use text::class::in_set;
+ghost use Rattle.lexicon.specs.Found.{Finds};
+ghost use Rattle.lexicon.specs.Literals as Literals;
+ghost use Rattle.string.specs.Parts.{Tells, TellsOf, collections};
+
+// Where the word at the place ends.
+pub fn word(text: &[u8], at: usize) -> Found
+    ensures { λ r. ⌜ Finds (now (text .entry)) Literals.word at r ⌝ }
+{
+    if at >= text.len() {
+        return Found::Nothing;
+    }
+    if !in_set(text[at], Set::WordStart) {
+        return Found::Nothing;
+    }
+    let mut i = at + 1;
+    while i < text.len() {
+        if !in_set(text[i], Set::WordRest) {
+            return Found::At(i);
+        }
+        i += 1;
+    }
+    Found::At(i)
+}
+
+// Which head word of a collection stands from one place to the other, if any.
+fn collection(text: &[u8], at: usize, end: usize) -> Form
+    ensures { λ r. ⌜ TellsOf (now (text .entry)) collections at end r ⌝ }
+{
+    if spells(text, at, end, b"Array") {
+        return Form::HeadWord(Head::Array);
+    }
+    if spells(text, at, end, b"Set") {
+        return Form::HeadWord(Head::Set);
+    }
+    if spells(text, at, end, b"Bag") {
+        return Form::HeadWord(Head::Bag);
+    }
+    if spells(text, at, end, b"Mix") {
+        return Form::HeadWord(Head::Mix);
+    }
+    if spells(text, at, end, b"Interval_Set") {
+        return Form::HeadWord(Head::IntervalSet);
+    }
+    if spells(text, at, end, b"Interval_Bag") {
+        return Form::HeadWord(Head::IntervalBag);
+    }
+    if spells(text, at, end, b"Tuple_Array") {
+        return Form::HeadWord(Head::TupleArray);
+    }
+    if spells(text, at, end, b"Relation") {
+        return Form::HeadWord(Head::Relation);
+    }
+    if spells(text, at, end, b"Tuple_Bag") {
+        return Form::HeadWord(Head::TupleBag);
+    }
+    Form::Word
+}
+
+// Which head word stands from one place to the other, if any.
+pub fn form(text: &[u8], at: usize, end: usize) -> Form
+    ensures { λ r. ⌜ Tells (now (text .entry)) at end r ⌝ }
+{
+    if let Form::HeadWord(h) = collection(text, at, end) {
+        return Form::HeadWord(h);
+    }
+    if spells(text, at, end, b"Article") {
+        return Form::HeadWord(Head::Article);
+    }
+    if spells(text, at, end, b"Excuse") {
+        return Form::HeadWord(Head::Excuse);
+    }
+    if spells(text, at, end, b"Heading") {
+        return Form::HeadWord(Head::Heading);
+    }
+    if spells(text, at, end, b"Renaming") {
+        return Form::HeadWord(Head::Renaming);
+    }
+    Form::Word
+}
