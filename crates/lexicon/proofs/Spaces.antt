@@ -32,7 +32,7 @@ pub record Ahead (text : List ℕ) (c : Class) (i : ℕ) : Type 0 where
 module _ {text : List ℕ} where
   -- ---- a comment ends at the first grave accent behind its opening
 
-  byte-single : (c : Class) → Single text (one c)
+  pub byte-single : (c : Class) → Single text (one c)
   byte-single c = record { same = go }
     where
       go : {i j k : ℕ} → Takes text (one c) i j → Takes text (one c) i k → j ≡ k

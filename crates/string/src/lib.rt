@@ -2,5 +2,5 @@
 pub mod code_point;
 pub mod quoted;
 mod segment;
-mod spelling;
+pub mod spelling;
 pub mod word;

@@ -1,0 +1,4 @@
+-- Laws that the proofs of this crate share.
+pub mod Bytes
+pub mod Symbols
+pub mod Starts

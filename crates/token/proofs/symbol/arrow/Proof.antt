@@ -1,0 +1,31 @@
+use Rattle.token.proofs.Bytes.{there, not-there}
+use Rattle.token.proofs.Symbols.{right-arrow, dash-none}
+use borrow.Author.Needs.{needs}
+use Rattle.token.proofs.symbol.arrow.Statement.{statement}
+use Rattle.token.proofs.symbol.arrow.Tie as tie
+use Rattle.token.proofs.symbol.arrow.Reads as reads
+use Rattle.token.proofs.symbol.arrow.Lts as lts
+use Rattle.text.proofs.byte.stands.Reads as stands-reads
+
+-- src/symbol.rt:77:21
+add-stands : tie.Need-add-stands
+add-stands c = search needs
+
+-- src/symbol.rt:77:8
+stands-requires : tie.Need-stands-requires
+stands-requires c κs = search needs
+
+-- src/symbol.rt:80:18
+add-t6 : tie.Need-add-t6
+add-t6 c = search needs
+
+-- src/symbol.rt:78:9
+returns : tie.Need-returns
+returns c = right-arrow _ (c .before .before .before .pre) (there _ 0x3E _ (c .before .stands .result) (c .before .stands .ensures) (c .if1 .taken))
+
+-- src/symbol.rt:73:1
+returns-2 : tie.Need-returns-2
+returns-2 c = dash-none _ _ (c .before .before .before .pre) (not-there _ 0x3E _ (c .before .stands .result) (c .before .stands .ensures) (c .if1 .left))
+
+pub arrow-spec : {M : Type 1} → statement M
+arrow-spec = tie.close (tie.spec add-stands stands-requires add-t6 returns returns-2)

@@ -1,0 +1,42 @@
+-- What the searches at a token's first byte answer. Assumes nothing.
+use mathlib.Core.Path.{_≡_}
+use mathlib.Core.Bool.{Bool, false}
+use mathlib.Core.List.{List}
+use Prim.Native.Nat.{ℕ, _+_}
+use Rattle.rules.specs.Test.{Says}
+use Rattle.rules.specs.Rule.{Takes}
+use Rattle.lexicon.specs.declared.Sign.{Sign}
+use Rattle.lexicon.specs.declared.Kind.{Kind}
+use Rattle.lexicon.specs.declared.Kind.the-variants.{Colon}
+use Rattle.lexicon.specs.declared.Next.{Next}
+use Rattle.lexicon.specs.declared.Next.the-variants as Next
+use Rattle.lexicon.specs.Symbols.{symbol}
+use Rattle.lexicon.specs.Token.{aSymbol, Here, Is, Bad}
+use Rattle.token.specs.declared.symbol.Symbol.{Symbol}
+use Rattle.token.specs.declared.symbol.Symbol.the-variants as Symbol
+
+-- no symbol stands at i
+pub record NoSymbol (text : List ℕ) (i : ℕ) : Type 0 where
+  pub none : (s : Sign) {k : ℕ} → Takes text (symbol s) i k → ⊥
+
+abbrev pub Symboled : List ℕ → ℕ → Symbol → Type 0
+Symboled text i (Symbol.At s j) = Here text (aSymbol s) i j
+Symboled text i Symbol.Nothing = NoSymbol text i
+
+-- no token starts at i
+pub record NoneAt (text : List ℕ) (i : ℕ) : Type 0 where
+  pub none : (k : Kind) (j : ℕ) → Is text k i j → ⊥
+
+-- a token of kind k from i to j, and whether its value is bad
+pub record TokenAt (text : List ℕ) (k : Kind) (i j : ℕ) (b : Bool) : Type 0 where
+  pub is : Is text k i j
+  pub bad-is : Says b (Bad text k i j)
+
+-- the token that starts at i, or that none does
+abbrev pub StartsAt : List ℕ → ℕ → Next → Type 0
+StartsAt text i (Next.Token t) = (t .first ≡ i) × TokenAt text (t .kind) i (t .end) (t .bad)
+StartsAt text i (Next.End p) = ⊥
+StartsAt text i (Next.NoToken p) = (p ≡ i) × NoneAt text i
+
+abbrev pub colonAt : ℕ → Next
+colonAt i = Next.Token (record { kind = Colon; first = i; end = i + 1; bad = false })

@@ -1,0 +1,2 @@
+-- What the private functions of this crate answer.
+pub mod Answers

@@ -1,0 +1,2 @@
+// The token at a place of a text.
+mod symbol;
