@@ -11,7 +11,7 @@ use lib.ListN.{length, getD}
 use Rattle.rules.specs.Class.{Class, In}
 use Rattle.rules.specs.Rule.{Rule, empty, one, _then_, _or_, many, Takes, nothing, byte, both, left, right, stop, more, At}
 use Rattle.rules.proofs.Bools.{and-left, and-right, and-both, or-cases, or-left, or-right, decide, clash, not-both}
-use Rattle.rules.proofs.Classes.{apart, apart-no}
+use Rattle.rules.proofs.Classes.{apart, apart-no, includes, includes-in}
 use Rattle.rules.proofs.Matches.{forward}
 
 pub record Way : Type 0 where
@@ -178,3 +178,26 @@ module _ (text : List ℕ) where
       go (inl x) (inr y) h =
           ⊎-elim (λ q. absurd (not-both (nullable r) (x .1) q)) (λ q. absurd (none-through (ways s) i j q y))
           (or-cases (not (nullable r)) (none (ways s)) (and-left (not (nullable r) || none (ways s)) _ c))
+
+-- ---- the first byte of every match is of the class
+
+abbrev allIn : Class → List Way → Bool
+allIn c [] = true
+allIn c (w ∷ ws) = includes (w .class) c && allIn c ws
+
+unfoldable pub opens : Class → Rule → Bool
+opens c r = not (nullable r) && allIn c (ways r)
+
+module _ (text : List ℕ) where
+  all-in : (c : Class) (ws : List Way) (i j : ℕ) → allIn c ws ≡ true → Through text ws i j → At text c i
+  all-in c [] i j e t = absurd t
+  all-in c (w ∷ ws) i j e (inl t) = (t .0 .0, includes-in (w .class) c _ (and-left (includes (w .class) c) _ e) (t .0 .1))
+  all-in c (w ∷ ws) i j e (inr t) = all-in c ws i j (and-right (includes (w .class) c) _ e) t
+
+  pub opens-at : (c : Class) (r : Rule) {i j : ℕ} → opens c r ≡ true → Takes text r i j → At text c i
+  unfolding opens
+  opens-at c r {i} {j} e t = go (enter text t)
+    where
+      go : Entered text r i j → At text c i
+      go (inl x) = absurd (not-both (nullable r) (x .1) (and-left (not (nullable r)) _ e))
+      go (inr u) = all-in c (ways r) i j (and-right (not (nullable r)) _ e) u

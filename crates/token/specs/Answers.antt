@@ -1,19 +1,26 @@
 -- What the searches at a token's first byte answer. Assumes nothing.
 use mathlib.Core.Path.{_≡_}
-use mathlib.Core.Bool.{Bool, false}
-use mathlib.Core.List.{List}
+use mathlib.Core.Bool.{Bool, true, false}
+use mathlib.Core.List.{List, [], _∷_}
 use Prim.Native.Nat.{ℕ, _+_}
 use Rattle.rules.specs.Test.{Says}
-use Rattle.rules.specs.Rule.{Takes}
+use lib.ListN.{getD}
+use Rattle.rules.specs.Class.{has}
+use Rattle.rules.specs.Rule.{Takes, Fails}
 use Rattle.lexicon.specs.declared.Sign.{Sign}
 use Rattle.lexicon.specs.declared.Kind.{Kind}
 use Rattle.lexicon.specs.declared.Kind.the-variants.{Colon}
 use Rattle.lexicon.specs.declared.Next.{Next}
 use Rattle.lexicon.specs.declared.Next.the-variants as Next
 use Rattle.lexicon.specs.Symbols.{symbol}
-use Rattle.lexicon.specs.Token.{aSymbol, Here, Is, Bad}
+use Rattle.lexicon.specs.Bytes.{wordStart, decimal}
+use Rattle.lexicon.specs.Literals.{ignorance, boolean, later}
+use Rattle.lexicon.specs.Token.{Lexeme, anInteger, aFraction, aSymbol, rule, Here, Is, Bad}
+use Rattle.lexicon.proofs.Tokens.{oneOf}
 use Rattle.token.specs.declared.symbol.Symbol.{Symbol}
 use Rattle.token.specs.declared.symbol.Symbol.the-variants as Symbol
+use Rattle.token.specs.declared.zero.Fixed.{Fixed}
+use Rattle.token.specs.declared.zero.Fixed.the-variants as Fixed
 
 -- no symbol stands at i
 pub record NoSymbol (text : List ℕ) (i : ℕ) : Type 0 where
@@ -40,3 +47,26 @@ StartsAt text i (Next.NoToken p) = (p ≡ i) × NoneAt text i
 
 abbrev pub colonAt : ℕ → Next
 colonAt i = Next.Token (record { kind = Colon; first = i; end = i + 1; bad = false })
+
+-- no lexeme but an Integer or a Fraction stands at i
+pub record NumberOnly (text : List ℕ) (i : ℕ) : Type 0 where
+  pub others : (l : Lexeme) {k : ℕ} → Takes text (rule l) i k → oneOf (anInteger ∷ aFraction ∷ []) l ≡ true
+
+-- no literal of one spelling stands at i
+pub record Marked (text : List ℕ) (i : ℕ) : Type 0 where
+  pub no-ignorance : Fails text ignorance i
+  pub no-false : Fails text (boolean false) i
+  pub no-true : Fails text (boolean true) i
+  pub no-later : Fails text later i
+
+abbrev pub FixedAt : List ℕ → ℕ → Fixed → Type 0
+FixedAt text i (Fixed.At k j) = TokenAt text k i j false
+FixedAt text i Fixed.Nothing = Marked text i
+
+-- the byte at i begins no literal without a minus sign, and is no colon
+pub record NotOpening (text : List ℕ) (i : ℕ) : Type 0 where
+  pub no-quote : getD text i 0 ≡ 0x22 → ⊥
+  pub no-word : has wordStart (getD text i 0) ≡ false
+  pub no-digit : has decimal (getD text i 0) ≡ false
+  pub no-plus : getD text i 0 ≡ 0x2B → ⊥
+  pub no-colon : getD text i 0 ≡ 0x3A → ⊥

@@ -1,2 +1,5 @@
 // The token at a place of a text.
+mod literal;
+pub mod next;
 mod symbol;
+mod zero;

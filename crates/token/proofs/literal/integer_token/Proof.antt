@@ -1,0 +1,46 @@
+use borrow.Author.Needs.{needs}
+use Rattle.token.proofs.literal.integer_token.Statement.{statement}
+use Rattle.token.proofs.literal.integer_token.Tie as tie
+use Rattle.token.proofs.literal.integer_token.Reads as reads
+use Rattle.token.proofs.literal.integer_token.Lts as lts
+use Rattle.number.proofs.integer.integer.Reads as integer-reads
+
+-- src/literal.rt:53:26
+integer-requires : tie.Need-integer-requires
+integer-requires c κs = search needs
+
+-- src/literal.rt:53:19
+enum-known-end : tie.Need-enum-known-end
+enum-known-end c = search needs
+
+-- src/literal.rt:54:30
+enum-told : tie.Need-enum-told
+enum-told c = search needs
+
+-- src/literal.rt:54:9
+returns : tie.Need-returns
+returns c = ?
+
+-- src/literal.rt:56:13
+shared-slice-read-b : tie.Need-shared-slice-read-b
+shared-slice-read-b c = search needs
+
+-- src/literal.rt:49:1
+returns-2 : tie.Need-returns-2
+returns-2 c = ?
+
+-- src/literal.rt:49:1
+returns-3 : tie.Need-returns-3
+returns-3 c = ?
+
+pub integer-token-spec : {M : Type 1} → statement M
+integer-token-spec =
+    tie.close
+    (tie.spec
+    integer-requires
+    enum-known-end
+    enum-told
+    returns
+    shared-slice-read-b
+    returns-2
+    returns-3)

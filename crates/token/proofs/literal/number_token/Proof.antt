@@ -1,0 +1,36 @@
+use borrow.Author.Needs.{needs}
+use Rattle.token.proofs.literal.number_token.Statement.{statement}
+use Rattle.token.proofs.literal.number_token.Tie as tie
+use Rattle.token.proofs.literal.number_token.Reads as reads
+use Rattle.token.proofs.literal.number_token.Lts as lts
+use Rattle.number.proofs.fraction.fraction.Reads as fraction-reads
+use Rattle.token.proofs.literal.integer_token.Reads as integer-token-reads
+
+-- src/literal.rt:72:36
+fraction-requires : tie.Need-fraction-requires
+fraction-requires c κs = search needs
+
+-- src/literal.rt:72:23
+enum-known-end : tie.Need-enum-known-end
+enum-known-end c = search needs
+
+-- src/literal.rt:73:9
+enum-told : tie.Need-enum-told
+enum-told c = search needs
+
+-- src/literal.rt:73:9
+integer-token-requires : tie.Need-integer-token-requires
+integer-token-requires c κs = ?
+
+-- src/literal.rt:73:9
+returns : tie.Need-returns
+returns c = search needs
+
+-- src/literal.rt:68:1
+returns-2 : tie.Need-returns-2
+returns-2 c = ?
+
+pub number-token-spec : {M : Type 1} → statement M
+number-token-spec =
+    tie.close
+    (tie.spec fraction-requires enum-known-end enum-told integer-token-requires returns returns-2)

@@ -1,0 +1,29 @@
+use borrow.Author.Needs.{needs}
+use Rattle.token.proofs.literal.quoted_token.Statement.{statement}
+use Rattle.token.proofs.literal.quoted_token.Tie as tie
+use Rattle.token.proofs.literal.quoted_token.Reads as reads
+use Rattle.token.proofs.literal.quoted_token.Lts as lts
+use Rattle.string.proofs.quoted.quoted.Reads as quoted-reads
+
+-- src/literal.rt:20:36
+quoted-requires : tie.Need-quoted-requires
+quoted-requires c κs = search needs
+
+-- src/literal.rt:20:23
+enum-known-end : tie.Need-enum-known-end
+enum-known-end c = search needs
+
+-- src/literal.rt:21:9
+enum-told : tie.Need-enum-told
+enum-told c = search needs
+
+-- src/literal.rt:21:9
+returns : tie.Need-returns
+returns c = ?
+
+-- src/literal.rt:16:1
+returns-2 : tie.Need-returns-2
+returns-2 c = ?
+
+pub quoted-token-spec : {M : Type 1} → statement M
+quoted-token-spec = tie.close (tie.spec quoted-requires enum-known-end enum-told returns returns-2)

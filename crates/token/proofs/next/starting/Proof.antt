@@ -1,0 +1,102 @@
+use borrow.Author.Needs.{needs}
+use Rattle.token.proofs.next.starting.Statement.{statement}
+use Rattle.token.proofs.next.starting.Tie as tie
+use Rattle.token.proofs.next.starting.Reads as reads
+use Rattle.token.proofs.next.starting.Lts as lts
+use Rattle.text.proofs.class.in_set.Reads as in-set-reads
+use Rattle.token.proofs.literal.number_token.Reads as number-token-reads
+use Rattle.token.proofs.literal.quoted_token.Reads as quoted-token-reads
+use Rattle.token.proofs.literal.word_token.Reads as word-token-reads
+use Rattle.token.proofs.next.punctuation.Reads as punctuation-reads
+use Rattle.token.proofs.symbol.colons.Reads as colons-reads
+use Rattle.token.proofs.zero.zero.Reads as zero-reads
+
+-- src/next.rt:37:13
+shared-slice-read-b : tie.Need-shared-slice-read-b
+shared-slice-read-b c = search needs
+
+-- src/next.rt:39:9
+quoted-token-requires : tie.Need-quoted-token-requires
+quoted-token-requires c κs = ?
+
+-- src/next.rt:39:9
+returns : tie.Need-returns
+returns c = search needs
+
+-- src/next.rt:41:8
+in-set-requires : tie.Need-in-set-requires
+in-set-requires c κs = search needs
+
+-- src/next.rt:42:9
+word-token-requires : tie.Need-word-token-requires
+word-token-requires c κs = ?
+
+-- src/next.rt:42:9
+returns-2 : tie.Need-returns-2
+returns-2 c = search needs
+
+-- src/next.rt:45:9
+zero-requires : tie.Need-zero-requires
+zero-requires c κs = ?
+
+-- src/next.rt:45:9
+returns-3 : tie.Need-returns-3
+returns-3 c = search needs
+
+-- src/next.rt:47:8
+in-set-requires-2 : tie.Need-in-set-requires-2
+in-set-requires-2 c κs = search needs
+
+-- src/next.rt:48:9
+number-token-requires : tie.Need-number-token-requires
+number-token-requires c κs = ?
+
+-- src/next.rt:48:9
+returns-4 : tie.Need-returns-4
+returns-4 c = search needs
+
+-- src/next.rt:51:9
+number-token-requires-2 : tie.Need-number-token-requires-2
+number-token-requires-2 c κs = ?
+
+-- src/next.rt:51:9
+returns-5 : tie.Need-returns-5
+returns-5 c = search needs
+
+-- src/next.rt:54:9
+colons-requires : tie.Need-colons-requires
+colons-requires c κs = ?
+
+-- src/next.rt:54:9
+returns-6 : tie.Need-returns-6
+returns-6 c = search needs
+
+-- src/next.rt:56:5
+punctuation-requires : tie.Need-punctuation-requires
+punctuation-requires c κs = ?
+
+-- src/next.rt:33:1
+returns-7 : tie.Need-returns-7
+returns-7 c = search needs
+
+pub starting-spec : {M : Type 1} → statement M
+starting-spec =
+    tie.close
+    (tie.spec
+    shared-slice-read-b
+    quoted-token-requires
+    returns
+    in-set-requires
+    word-token-requires
+    returns-2
+    zero-requires
+    returns-3
+    in-set-requires-2
+    number-token-requires
+    returns-4
+    number-token-requires-2
+    returns-5
+    colons-requires
+    returns-6
+    punctuation-requires
+    returns-7)

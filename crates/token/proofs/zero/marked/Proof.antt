@@ -1,0 +1,81 @@
+use borrow.Author.Needs.{needs}
+use Rattle.token.proofs.zero.marked.Statement.{statement}
+use Rattle.token.proofs.zero.marked.Tie as tie
+use Rattle.token.proofs.zero.marked.Reads as reads
+use Rattle.token.proofs.zero.marked.Lts as lts
+use Rattle.number.proofs.blob.bits.Reads as bits-reads
+use Rattle.number.proofs.blob.blob.Reads as blob-reads
+use Rattle.string.proofs.code_point.code_point.Reads as code-point-reads
+use Rattle.token.proofs.literal.number_token.Reads as number-token-reads
+
+-- src/zero.rt:54:29
+bits-requires : tie.Need-bits-requires
+bits-requires c κs = search needs
+
+-- src/zero.rt:54:22
+enum-known-end : tie.Need-enum-known-end
+enum-known-end c = search needs
+
+-- src/zero.rt:55:9
+returns : tie.Need-returns
+returns c = ?
+
+enum-told : tie.Need-enum-told
+enum-told c = search needs
+
+-- src/zero.rt:62:39
+blob-requires : tie.Need-blob-requires
+blob-requires c κs = search needs
+
+-- src/zero.rt:62:26
+enum-known-end-2 : tie.Need-enum-known-end-2
+enum-known-end-2 c = search needs
+
+-- src/zero.rt:63:9
+returns-2 : tie.Need-returns-2
+returns-2 c = ?
+
+enum-told-2 : tie.Need-enum-told-2
+enum-told-2 c = search needs
+
+-- src/zero.rt:70:39
+code-point-requires : tie.Need-code-point-requires
+code-point-requires c κs = search needs
+
+-- src/zero.rt:70:26
+enum-known-end-3 : tie.Need-enum-known-end-3
+enum-known-end-3 c = search needs
+
+-- src/zero.rt:71:9
+returns-3 : tie.Need-returns-3
+returns-3 c = ?
+
+enum-told-3 : tie.Need-enum-told-3
+enum-told-3 c = search needs
+
+-- src/zero.rt:78:5
+number-token-requires : tie.Need-number-token-requires
+number-token-requires c κs = ?
+
+-- src/zero.rt:50:1
+returns-4 : tie.Need-returns-4
+returns-4 c = search needs
+
+pub marked-spec : {M : Type 1} → statement M
+marked-spec =
+    tie.close
+    (tie.spec
+    bits-requires
+    enum-known-end
+    returns
+    enum-told
+    blob-requires
+    enum-known-end-2
+    returns-2
+    enum-told-2
+    code-point-requires
+    enum-known-end-3
+    returns-3
+    enum-told-3
+    number-token-requires
+    returns-4)

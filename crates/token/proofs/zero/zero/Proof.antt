@@ -1,0 +1,35 @@
+use borrow.Author.Needs.{needs}
+use Rattle.token.proofs.zero.zero.Statement.{statement}
+use Rattle.token.proofs.zero.zero.Tie as tie
+use Rattle.token.proofs.zero.zero.Reads as reads
+use Rattle.token.proofs.zero.zero.Lts as lts
+use Rattle.token.proofs.zero.fixed_at.Reads as fixed-at-reads
+use Rattle.token.proofs.zero.marked.Reads as marked-reads
+
+-- src/zero.rt:86:38
+fixed-at-requires : tie.Need-fixed-at-requires
+fixed-at-requires c κs = search needs
+
+-- src/zero.rt:86:24
+enum-known-kind : tie.Need-enum-known-kind
+enum-known-kind c = search needs
+
+-- src/zero.rt:87:9
+returns : tie.Need-returns
+returns c = ?
+
+enum-told : tie.Need-enum-told
+enum-told c = search needs
+
+-- src/zero.rt:94:5
+marked-requires : tie.Need-marked-requires
+marked-requires c κs = ?
+
+-- src/zero.rt:82:1
+returns-2 : tie.Need-returns-2
+returns-2 c = search needs
+
+pub zero-spec : {M : Type 1} → statement M
+zero-spec =
+    tie.close
+    (tie.spec fixed-at-requires enum-known-kind returns enum-told marked-requires returns-2)

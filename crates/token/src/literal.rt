@@ -1,0 +1,81 @@
+// The tokens of quoted texts, words and numbers.
+use lexicon::{Form, Found, Kind, Literal, Next, Token};
+use number::fraction::fraction;
+use number::integer::integer;
+use string::quoted::quoted;
+use string::word::{form, word};
+ghost use Prim.Native.Nat.{_<_};
+ghost use lib.ListN.{length};
+ghost use Rattle.rules.specs.Class.{just};
+ghost use Rattle.rules.specs.Rule.{At, Fails};
+ghost use Rattle.lexicon.specs.Bytes.{wordStart};
+ghost use Rattle.lexicon.specs.Literals.{fraction as fractionOf};
+ghost use Rattle.token.specs.Answers.{StartsAt, NumberOnly};
+
+// At a quotation mark.
+pub(crate) fn quoted_token(text: &[u8], at: usize) -> Next
+    requires { ⌜ At (now text) (just 0x22) at ⌝ }
+    ensures { λ r. ⌜ StartsAt (now (text .entry)) at r ⌝ }
+{
+    let Literal::At { end, bad } = quoted(text, at) else {
+        return Next::NoToken(at);
+    };
+    Next::Token(Token {
+        kind: Kind::Text(Form::Quoted),
+        first: at,
+        end,
+        bad,
+    })
+}
+
+// At a byte that begins a word.
+pub(crate) fn word_token(text: &[u8], at: usize) -> Next
+    requires { ⌜ At (now text) wordStart at ⌝ }
+    ensures { λ r. ⌜ StartsAt (now (text .entry)) at r ⌝ }
+{
+    let Found::At(end) = word(text, at) else {
+        return Next::NoToken(at);
+    };
+    let written = form(text, at, end);
+    Next::Token(Token {
+        kind: Kind::Text(written),
+        first: at,
+        end,
+        bad: false,
+    })
+}
+
+// An Integer that no Fraction outreaches.
+fn integer_token(text: &[u8], at: usize) -> Next
+    requires { ⌜ (at < length (now text)) × NumberOnly (now text) at × Fails (now text) fractionOf at ⌝ }
+    ensures { λ r. ⌜ StartsAt (now (text .entry)) at r ⌝ }
+{
+    let Found::At(end) = integer(text, at) else {
+        return Next::NoToken(at);
+    };
+    let b = text[at];
+    Next::Token(Token {
+        kind: Kind::Integer {
+            signed: b == b'+' || b == b'-',
+        },
+        first: at,
+        end,
+        bad: false,
+    })
+}
+
+// Where none but a number can start.
+pub(crate) fn number_token(text: &[u8], at: usize) -> Next
+    requires { ⌜ (at < length (now text)) × NumberOnly (now text) at ⌝ }
+    ensures { λ r. ⌜ StartsAt (now (text .entry)) at r ⌝ }
+{
+    let Literal::At { end, bad } = fraction(text, at) else {
+        return integer_token(text, at);
+    };
+    Next::Token(Token {
+        kind: Kind::Fraction,
+        first: at,
+        end,
+        bad,
+    })
+}

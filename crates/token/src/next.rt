@@ -1,0 +1,68 @@
+// What comes next in a text: dividing space is passed over, then a token, the end, or a byte at which none starts.
+use crate::literal::{number_token, quoted_token, word_token};
+use crate::symbol::{colons, symbol_at, Symbol};
+use crate::zero::zero;
+use lexicon::{Kind, Next, Set, Token};
+use text::class::in_set;
+use text::space::space;
+ghost use Prim.Native.Nat.{_<_};
+ghost use lib.ListN.{length};
+ghost use Rattle.lexicon.specs.Token.{Comes};
+ghost use Rattle.token.specs.Answers.{StartsAt, NotOpening};
+
+// A symbol, or a number with a minus sign.
+fn punctuation(text: &[u8], at: usize) -> Next
+    requires { ⌜ (at < length (now text)) × NotOpening (now text) at ⌝ }
+    ensures { λ r. ⌜ StartsAt (now (text .entry)) at r ⌝ }
+{
+    if let Symbol::At { sign, end } = symbol_at(text, at) {
+        return Next::Token(Token {
+            kind: Kind::Symbol(sign),
+            first: at,
+            end,
+            bad: false,
+        });
+    }
+    if text[at] == b'-' {
+        return number_token(text, at);
+    }
+    Next::NoToken(at)
+}
+
+// The token that starts at a byte, told by that byte.
+fn starting(text: &[u8], at: usize) -> Next
+    requires { ⌜ at < length (now text) ⌝ }
+    ensures { λ r. ⌜ StartsAt (now (text .entry)) at r ⌝ }
+{
+    let b = text[at];
+    if b == b'"' {
+        return quoted_token(text, at);
+    }
+    if in_set(b, Set::WordStart) {
+        return word_token(text, at);
+    }
+    if b == b'0' {
+        return zero(text, at);
+    }
+    if in_set(b, Set::Decimal) {
+        return number_token(text, at);
+    }
+    if b == b'+' {
+        return number_token(text, at);
+    }
+    if b == b':' {
+        return colons(text, at);
+    }
+    punctuation(text, at)
+}
+
+// The token at or after a place.
+pub fn next(text: &[u8], at: usize) -> Next
+    ensures { λ r. ⌜ Comes (now (text .entry)) at r ⌝ }
+{
+    let first = space(text, at);
+    if first >= text.len() {
+        return Next::End(text.len());
+    }
+    starting(text, first)
+}

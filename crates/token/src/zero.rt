@@ -1,0 +1,95 @@
+// The tokens that begin with the digit 0.
+use crate::literal::number_token;
+use lexicon::{Form, Found, Kind, Literal, Next, Token};
+use number::blob::{bits, blob};
+use string::code_point::code_point;
+use string::spelling::spells;
+ghost use Rattle.rules.specs.Class.{just};
+ghost use Rattle.rules.specs.Rule.{At};
+ghost use Rattle.token.specs.Answers.{StartsAt, FixedAt, Marked};
+
+// A literal of one spelling and the place behind it.
+enum Fixed {
+    At { kind: Kind, end: usize },
+    Nothing,
+}
+
+// Ignorance, a Boolean or the later literal.
+fn fixed_at(text: &[u8], at: usize) -> Fixed
+    requires { ⌜ At (now text) (just 0x30) at ⌝ }
+    ensures { λ r. ⌜ FixedAt (now (text .entry)) at r ⌝ }
+{
+    if spells(text, at, at + 11, b"0sIGNORANCE") {
+        return Fixed::At {
+            kind: Kind::Ignorance,
+            end: at + 11,
+        };
+    }
+    if spells(text, at, at + 7, b"0bFALSE") {
+        return Fixed::At {
+            kind: Kind::Boolean(false),
+            end: at + 7,
+        };
+    }
+    if spells(text, at, at + 6, b"0bTRUE") {
+        return Fixed::At {
+            kind: Kind::Boolean(true),
+            end: at + 6,
+        };
+    }
+    if spells(text, at, at + 2, b"0L") {
+        return Fixed::At {
+            kind: Kind::Later,
+            end: at + 2,
+        };
+    }
+    Fixed::Nothing
+}
+
+// Bits, a Blob, a code point or a number.
+fn marked(text: &[u8], at: usize) -> Next
+    requires { ⌜ At (now text) (just 0x30) at × Marked (now text) at ⌝ }
+    ensures { λ r. ⌜ StartsAt (now (text .entry)) at r ⌝ }
+{
+    if let Found::At(end) = bits(text, at) {
+        return Next::Token(Token {
+            kind: Kind::Bits,
+            first: at,
+            end,
+            bad: false,
+        });
+    }
+    if let Literal::At { end, bad } = blob(text, at) {
+        return Next::Token(Token {
+            kind: Kind::Blob,
+            first: at,
+            end,
+            bad,
+        });
+    }
+    if let Literal::At { end, bad } = code_point(text, at) {
+        return Next::Token(Token {
+            kind: Kind::Text(Form::CodePoint),
+            first: at,
+            end,
+            bad,
+        });
+    }
+    number_token(text, at)
+}
+
+// The token at a digit 0.
+pub(crate) fn zero(text: &[u8], at: usize) -> Next
+    requires { ⌜ At (now text) (just 0x30) at ⌝ }
+    ensures { λ r. ⌜ StartsAt (now (text .entry)) at r ⌝ }
+{
+    if let Fixed::At { kind, end } = fixed_at(text, at) {
+        return Next::Token(Token {
+            kind,
+            first: at,
+            end,
+            bad: false,
+        });
+    }
+    marked(text, at)
+}
