@@ -6,3 +6,4 @@ pub mod Integers
 pub mod Fractions
 pub mod Powers
 pub mod Tokens
+pub mod Unique

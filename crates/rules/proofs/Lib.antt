@@ -4,3 +4,4 @@ pub mod Classes
 pub mod Chains
 pub mod Matches
 pub mod Ways
+pub mod Plain

@@ -1,6 +1,6 @@
 -- The first byte of a match, computed: the ways into a rule, each a class and what is then left of the rule.
--- Two tests are computed on them: that a rule never begins with a byte of a class, and that no match of one rule reaches
--- further than a match of another. Assumes nothing.
+-- Three tests are computed on them: that a rule never begins with a byte of a class, that no match of one rule reaches
+-- further than a match of another, and that no text is a match of both. Assumes nothing.
 use mathlib.Core.Path.{_≡_, refl, subst, sym}
 use mathlib.Core.Logic.{_⊎_, inl, inr, ⊎-elim}
 use mathlib.Core.Bool.{Bool, true, false, not, _&&_, _||_, cond, false≢true}
@@ -115,6 +115,12 @@ unfoldable pub covers : ℕ → Rule → Rule → Bool
 covers zero r s = false
 covers (suc n) r s = (not (nullable r) || none (ways s)) && allPairs (covers n) (ways r) (ways s)
 
+-- ---- no text is a match of both rules
+
+unfoldable pub differ : ℕ → Rule → Rule → Bool
+differ zero r s = false
+differ (suc n) r s = not (nullable r && nullable s) && allPairs (differ n) (ways r) (ways s)
+
 module _ (text : List ℕ) where
   none-in : (d : Class) (ws : List Way) (i j : ℕ) → noneIn d ws ≡ true → At text d i → Through text ws i j → ⊥
   none-in d [] i j e a t = t
@@ -142,26 +148,23 @@ module _ (text : List ℕ) where
       go ws (inl x) = clash (x .1) e
       go ws (inr t) = thru ws t
 
-  pair-covers :
-      (f : Rule → Rule → Bool) (w : Way) (vs : List Way) (i e j : ℕ) →
-      ((r s : Rule) → f r s ≡ true → Takes text r (i + 1) e → Takes text s (i + 1) j → j ≤ e) →
-      pairs f w vs ≡ true → At text (w .class) i → Takes text (w .rest) (i + 1) e → Through text vs i j → j ≤ e
-  pair-covers f w [] i e j h p a t u = absurd u
-  pair-covers f w (v ∷ vs) i e j h p a t (inl u) = go (apart (w .class) (v .class)) refl (and-left (elim (apart (w .class) (v .class)) [ true ↦ true | false ↦ f (w .rest) (v .rest) ]) (pairs f w vs) p)
-    where
-      go : (b : Bool) → apart (w .class) (v .class) ≡ b → elim b [ true ↦ true | false ↦ f (w .rest) (v .rest) ] ≡ true → j ≤ e
-      go true q x = absurd (apart-no (w .class) (v .class) _ q (a .1) (u .0 .1))
-      go false q x = h (w .rest) (v .rest) x t (u .1)
-  pair-covers f w (v ∷ vs) i e j h p a t (inr u) =
-      pair-covers f w vs i e j h (and-right (elim (apart (w .class) (v .class)) [ true ↦ true | false ↦ f (w .rest) (v .rest) ]) (pairs f w vs) p) a t u
+  -- what a test of every pair of ways tells: P, which the test of two rests tells
+  module _ (f : Rule → Rule → Bool) (i e j : ℕ) (P : Type 0)
+      (h : (r s : Rule) → f r s ≡ true → Takes text r (i + 1) e → Takes text s (i + 1) j → P) where
+    pair-tells : (w : Way) (vs : List Way) → pairs f w vs ≡ true → At text (w .class) i → Takes text (w .rest) (i + 1) e → Through text vs i j → P
+    pair-tells w [] p a t u = absurd u
+    pair-tells w (v ∷ vs) p a t (inl u) = go (apart (w .class) (v .class)) refl (and-left (elim (apart (w .class) (v .class)) [ true ↦ true | false ↦ f (w .rest) (v .rest) ]) (pairs f w vs) p)
+      where
+        go : (b : Bool) → apart (w .class) (v .class) ≡ b → elim b [ true ↦ true | false ↦ f (w .rest) (v .rest) ] ≡ true → P
+        go true q x = absurd (apart-no (w .class) (v .class) _ q (a .1) (u .0 .1))
+        go false q x = h (w .rest) (v .rest) x t (u .1)
+    pair-tells w (v ∷ vs) p a t (inr u) =
+        pair-tells w vs (and-right (elim (apart (w .class) (v .class)) [ true ↦ true | false ↦ f (w .rest) (v .rest) ]) (pairs f w vs) p) a t u
 
-  all-cover :
-      (f : Rule → Rule → Bool) (ws vs : List Way) (i e j : ℕ) →
-      ((r s : Rule) → f r s ≡ true → Takes text r (i + 1) e → Takes text s (i + 1) j → j ≤ e) →
-      allPairs f ws vs ≡ true → Through text ws i e → Through text vs i j → j ≤ e
-  all-cover f [] vs i e j h p t u = absurd t
-  all-cover f (w ∷ ws) vs i e j h p (inl t) u = pair-covers f w vs i e j h (and-left (pairs f w vs) _ p) (t .0) (t .1) u
-  all-cover f (w ∷ ws) vs i e j h p (inr t) u = all-cover f ws vs i e j h (and-right (pairs f w vs) _ p) t u
+    pairs-tell : (ws vs : List Way) → allPairs f ws vs ≡ true → Through text ws i e → Through text vs i j → P
+    pairs-tell [] vs p t u = absurd t
+    pairs-tell (w ∷ ws) vs p (inl t) u = pair-tells w vs (and-left (pairs f w vs) _ p) (t .0) (t .1) u
+    pairs-tell (w ∷ ws) vs p (inr t) u = pairs-tell ws vs (and-right (pairs f w vs) _ p) t u
 
   none-through : (vs : List Way) (i j : ℕ) → none vs ≡ true → Through text vs i j → ⊥
   none-through [] i j e t = t
@@ -174,10 +177,27 @@ module _ (text : List ℕ) where
     where
       go : Entered text r i e → Entered text s i j → ((r s : Rule) → covers n r s ≡ true → Takes text r (i + 1) e → Takes text s (i + 1) j → j ≤ e) → j ≤ e
       go x (inl y) h = omega (arith, y .0, forward t)
-      go (inr x) (inr y) h = all-cover (covers n) (ways r) (ways s) i e j h (and-right (not (nullable r) || none (ways s)) _ c) x y
+      go (inr x) (inr y) h = pairs-tell (covers n) i e j (j ≤ e) h (ways r) (ways s) (and-right (not (nullable r) || none (ways s)) _ c) x y
       go (inl x) (inr y) h =
           ⊎-elim (λ q. absurd (not-both (nullable r) (x .1) q)) (λ q. absurd (none-through (ways s) i j q y))
           (or-cases (not (nullable r)) (none (ways s)) (and-left (not (nullable r) || none (ways s)) _ c))
+
+  -- a match by one of the ways takes a byte
+  through-forward : (ws : List Way) (i j : ℕ) → Through text ws i j → i < j
+  through-forward [] i j t = absurd t
+  through-forward (w ∷ ws) i j (inl t) = omega (arith, forward (t .1))
+  through-forward (w ∷ ws) i j (inr t) = through-forward ws i j t
+
+  pub differ-no : (n : ℕ) (r s : Rule) {i j : ℕ} → differ n r s ≡ true → Takes text r i j → Takes text s i j → ⊥
+  unfolding differ
+  differ-no zero r s d t u = false≢true d
+  differ-no (suc n) r s {i} {j} d t u = go (enter text t) (enter text u) (λ r′ s′ d′ t′ u′. differ-no n r′ s′ d′ t′ u′)
+    where
+      go : Entered text r i j → Entered text s i j → ((r s : Rule) → differ n r s ≡ true → Takes text r (i + 1) j → Takes text s (i + 1) j → ⊥) → ⊥
+      go (inl x) (inl y) h = not-both (nullable r && nullable s) (and-both (nullable r) (nullable s) (x .1) (y .1)) (and-left (not (nullable r && nullable s)) _ d)
+      go (inl x) (inr y) h = omega (arith, x .0, through-forward (ways s) i j y)
+      go (inr x) (inl y) h = omega (arith, y .0, through-forward (ways r) i j x)
+      go (inr x) (inr y) h = pairs-tell (differ n) i j j ⊥ h (ways r) (ways s) (and-right (not (nullable r && nullable s)) _ d) x y
 
 -- ---- the first byte of every match is of the class
 

@@ -2,3 +2,4 @@
 pub mod Test
 pub mod Class
 pub mod Rule
+pub mod Plain
