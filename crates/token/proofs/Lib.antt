@@ -2,3 +2,4 @@
 pub mod Bytes
 pub mod Symbols
 pub mod Starts
+pub mod Dispatch

@@ -5,8 +5,8 @@ use mathlib.Core.List.{List, [], _∷_}
 use Prim.Native.Nat.{ℕ, _+_}
 use Rattle.rules.specs.Test.{Says}
 use lib.ListN.{getD}
-use Rattle.rules.specs.Class.{has}
-use Rattle.rules.specs.Rule.{Takes, Fails}
+use Rattle.rules.specs.Class.{has, just}
+use Rattle.rules.specs.Rule.{At, Takes, Fails}
 use Rattle.lexicon.specs.declared.Sign.{Sign}
 use Rattle.lexicon.specs.declared.Kind.{Kind}
 use Rattle.lexicon.specs.declared.Kind.the-variants.{Colon}
@@ -51,6 +51,7 @@ colonAt i = Next.Token (record { kind = Colon; first = i; end = i + 1; bad = fal
 -- no lexeme but an Integer or a Fraction stands at i
 pub record NumberOnly (text : List ℕ) (i : ℕ) : Type 0 where
   pub others : (l : Lexeme) {k : ℕ} → Takes text (rule l) i k → oneOf (anInteger ∷ aFraction ∷ []) l ≡ true
+  pub no-colon : At text (just 0x3A) i → ⊥
 
 -- no literal of one spelling stands at i
 pub record Marked (text : List ℕ) (i : ℕ) : Type 0 where

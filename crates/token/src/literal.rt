@@ -1,9 +1,15 @@
 // The tokens of quoted texts, words and numbers.
-use lexicon::{Form, Found, Kind, Literal, Next, Token};
+use lexicon::Form;
+use lexicon::Found;
+use lexicon::Kind;
+use lexicon::Literal;
+use lexicon::Next;
+use lexicon::Token;
 use number::fraction::fraction;
 use number::integer::integer;
 use string::quoted::quoted;
-use string::word::{form, word};
+use string::word::form;
+use string::word::word;
 ghost use Prim.Native.Nat.{_<_};
 ghost use lib.ListN.{length};
 ghost use Rattle.rules.specs.Class.{just};

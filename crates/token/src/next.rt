@@ -1,8 +1,15 @@
 // What comes next in a text: dividing space is passed over, then a token, the end, or a byte at which none starts.
-use crate::literal::{number_token, quoted_token, word_token};
-use crate::symbol::{colons, symbol_at, Symbol};
+use crate::literal::number_token;
+use crate::literal::quoted_token;
+use crate::literal::word_token;
+use crate::symbol::Symbol;
+use crate::symbol::colons;
+use crate::symbol::symbol_at;
 use crate::zero::zero;
-use lexicon::{Kind, Next, Set, Token};
+use lexicon::Kind;
+use lexicon::Next;
+use lexicon::Set;
+use lexicon::Token;
 use text::class::in_set;
 use text::space::space;
 ghost use Prim.Native.Nat.{_<_};

@@ -1,7 +1,13 @@
 // The tokens that begin with the digit 0.
 use crate::literal::number_token;
-use lexicon::{Form, Found, Kind, Literal, Next, Token};
-use number::blob::{bits, blob};
+use lexicon::Form;
+use lexicon::Found;
+use lexicon::Kind;
+use lexicon::Literal;
+use lexicon::Next;
+use lexicon::Token;
+use number::blob::bits;
+use number::blob::blob;
 use string::code_point::code_point;
 use string::spelling::spells;
 ghost use Rattle.rules.specs.Class.{just};

@@ -1,3 +1,6 @@
+use Rattle.token.proofs.Dispatch.{symbol-found, symbol-missing, minus-only, none-starts}
+use mathlib.Core.Path.{refl}
+use Rattle.token.proofs.Bytes.{read-at}
 use borrow.Author.Needs.{needs}
 use Rattle.token.proofs.next.punctuation.Statement.{statement}
 use Rattle.token.proofs.next.punctuation.Tie as tie
@@ -16,7 +19,7 @@ enum-known-sign c = search needs
 
 -- src/next.rt:19:9
 returns : tie.Need-returns
-returns c = ?
+returns c = (refl, symbol-found _ _ _ _ (c .before .before .before .symbol-at .result) (c .before .before .before .symbol-at .ensures) (c .before .sign .given .1))
 
 enum-told : tie.Need-enum-told
 enum-told c = search needs
@@ -27,7 +30,7 @@ shared-slice-read-if1 c = search needs
 
 -- src/next.rt:27:9
 number-token-requires : tie.Need-number-token-requires
-number-token-requires c κs = ?
+number-token-requires c κs = (c .before .before .before .before .before .before .pre .0, minus-only _ (read-at (c .before .before .before .before .before .before .args .text .now) 0x2D (c .before .before .before .before .before .before .args .at) (c .before .before .before .before .before .before .pre .0) (c .if1 .taken)) (symbol-missing _ _ (c .before .before .before .before .symbol-at .result) (c .before .before .before .before .symbol-at .ensures) (c .before .before .enum-told .given .1)))
 
 -- src/next.rt:27:9
 returns-2 : tie.Need-returns-2
@@ -35,7 +38,7 @@ returns-2 c = search needs
 
 -- src/next.rt:14:1
 returns-3 : tie.Need-returns-3
-returns-3 c = ?
+returns-3 c = (refl, none-starts _ (c .before .before .before .before .before .before .pre .0) (c .before .before .before .before .before .before .pre .1) (c .if1 .left) (symbol-missing _ _ (c .before .before .before .before .symbol-at .result) (c .before .before .before .before .symbol-at .ensures) (c .before .before .enum-told .given .1)))
 
 pub punctuation-spec : {M : Type 1} → statement M
 punctuation-spec =

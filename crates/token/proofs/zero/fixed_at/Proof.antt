@@ -1,3 +1,4 @@
+use Rattle.token.proofs.Dispatch.{ignorance-is, false-is, true-is, later-is, spelled-none}
 use borrow.Author.Needs.{needs}
 use Rattle.token.proofs.zero.fixed_at.Statement.{statement}
 use Rattle.token.proofs.zero.fixed_at.Tie as tie
@@ -23,7 +24,7 @@ add-t12 c = search needs
 
 -- src/zero.rt:23:9
 returns : tie.Need-returns
-returns c = ?
+returns c = ignorance-is _ (c .before .spells .ensures .true-holds (c .if1 .taken))
 
 -- src/zero.rt:28:25
 add-spells-2 : tie.Need-add-spells-2
@@ -43,7 +44,7 @@ add-t17 c = search needs
 
 -- src/zero.rt:29:9
 returns-2 : tie.Need-returns-2
-returns-2 c = ?
+returns-2 c = false-is _ (c .before .spells2 .ensures .true-holds (c .if2 .taken))
 
 -- src/zero.rt:34:25
 add-spells-3 : tie.Need-add-spells-3
@@ -63,7 +64,7 @@ add-t22 c = search needs
 
 -- src/zero.rt:35:9
 returns-3 : tie.Need-returns-3
-returns-3 c = ?
+returns-3 c = true-is _ (c .before .spells3 .ensures .true-holds (c .if3 .taken))
 
 -- src/zero.rt:40:25
 add-spells-4 : tie.Need-add-spells-4
@@ -83,11 +84,17 @@ add-t27 c = search needs
 
 -- src/zero.rt:41:9
 returns-4 : tie.Need-returns-4
-returns-4 c = ?
+returns-4 c = later-is _ (c .before .spells4 .ensures .true-holds (c .if4 .taken))
 
 -- src/zero.rt:18:1
 returns-5 : tie.Need-returns-5
-returns-5 c = ?
+returns-5 c =
+    record {
+      no-ignorance = spelled-none _ "0sIGNORANCE" _ (c .before .before .before .before .before .before .before .before .before .before .spells .result) (c .before .before .before .before .before .before .before .before .before .before .spells .ensures) (c .before .before .before .before .before .before .before .before .before .if1 .left);
+      no-false = spelled-none _ "0bFALSE" _ (c .before .before .before .before .before .before .before .spells2 .result) (c .before .before .before .before .before .before .before .spells2 .ensures) (c .before .before .before .before .before .before .if2 .left);
+      no-true = spelled-none _ "0bTRUE" _ (c .before .before .before .before .spells3 .result) (c .before .before .before .before .spells3 .ensures) (c .before .before .before .if3 .left);
+      no-later = spelled-none _ "0L" _ (c .before .spells4 .result) (c .before .spells4 .ensures) (c .if4 .left);
+    }
 
 pub fixed-at-spec : {M : Type 1} → statement M
 fixed-at-spec =

@@ -1,3 +1,5 @@
+use Rattle.token.proofs.Dispatch.{fixed-found, fixed-missing}
+use mathlib.Core.Path.{refl}
 use borrow.Author.Needs.{needs}
 use Rattle.token.proofs.zero.zero.Statement.{statement}
 use Rattle.token.proofs.zero.zero.Tie as tie
@@ -16,14 +18,14 @@ enum-known-kind c = search needs
 
 -- src/zero.rt:87:9
 returns : tie.Need-returns
-returns c = ?
+returns c = (refl, fixed-found _ _ _ _ (c .before .before .before .fixed-at .result) (c .before .before .before .fixed-at .ensures) (c .before .kind .given .1))
 
 enum-told : tie.Need-enum-told
 enum-told c = search needs
 
 -- src/zero.rt:94:5
 marked-requires : tie.Need-marked-requires
-marked-requires c κs = ?
+marked-requires c κs = (c .before .before .before .before .pre, fixed-missing _ _ (c .before .before .fixed-at .result) (c .before .before .fixed-at .ensures) (c .enum-told .given .1))
 
 -- src/zero.rt:82:1
 returns-2 : tie.Need-returns-2
