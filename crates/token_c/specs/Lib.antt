@@ -1,0 +1,2 @@
+-- The numbers by which C sees tokens.
+pub mod Numbers
