@@ -1,0 +1,67 @@
+//! Deterministic pseudo-random texts.
+
+mod damage;
+mod grammar;
+mod long;
+mod noise;
+mod random;
+
+pub use grammar::Made;
+pub use long::long_texts;
+
+use random::Random;
+
+/// `n` texts of three families in turn: noise, grammar-made, damaged.
+pub fn texts(seed: u64, n: usize) -> Vec<Vec<u8>> {
+    let mut random = Random::new(seed);
+    (0..n)
+        .map(|index| match index % 3 {
+            0 => noise::text(&mut random),
+            1 => grammar::text(&mut random, true).text,
+            _ => damage::text(&mut random),
+        })
+        .collect()
+}
+
+/// `n` texts of level 2, without bad values and newer forms.
+pub fn good_texts(seed: u64, n: usize) -> Vec<Made> {
+    let mut random = Random::new(seed);
+    (0..n).map(|_| grammar::text(&mut random, false)).collect()
+}
+
+#[cfg(test)]
+mod tests {
+    use super::{good_texts, texts};
+    use crate::answer::{Answer, NODES_MAX, NODE_WORDS, TEXT_MAX};
+    use crate::tree;
+
+    #[test]
+    fn the_same_seed_gives_the_same_texts() {
+        assert_eq!(texts(1, 300), texts(1, 300));
+        assert_ne!(texts(1, 300), texts(2, 300));
+    }
+
+    #[test]
+    fn good_texts_are_accepted_with_the_nodes_they_were_made_of() {
+        let mut table = [0; NODES_MAX * NODE_WORDS];
+        for made in good_texts(11, 4_000) {
+            let answer = tree::read(2, &made.text, &mut table);
+            let want = Answer::accepted(made.text.len(), made.nodes);
+            assert_eq!(answer, want, "{}", String::from_utf8_lossy(&made.text));
+        }
+    }
+
+    /// Every refusal a text alone can cause is met, and acceptance too.
+    #[test]
+    fn generated_texts_meet_every_answer() {
+        let mut met = [false; 12];
+        let mut table = [0; 120];
+        for text in texts(5, 6_000) {
+            assert!(text.len() <= TEXT_MAX);
+            met[tree::read(2, &text, &mut table).number as usize] = true;
+        }
+        for number in [0, 3, 4, 5, 6, 7, 8, 11] {
+            assert!(met[number], "{number}");
+        }
+    }
+}

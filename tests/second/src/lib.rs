@@ -1,0 +1,22 @@
+//! A second MUON reader for levels 1 and 2.
+//!
+//! It is written from the papers alone, so that an error in the verified
+//! reader's definitions is unlikely to be repeated here.  It favours the
+//! papers' own wording over speed: every token rule is tried at a place and
+//! the longest match is taken.
+//!
+//! `cargo test --offline` runs the papers' texts.  The comparison with the
+//! verified tokens needs the directory of `libtoken_c.a`:
+//! `MUON_LIB_DIR=... cargo run --release --offline --features staticlib
+//! --bin compare_tokens`.
+
+pub mod answer;
+pub mod front;
+pub mod generate;
+pub mod listing;
+pub mod samples;
+pub mod space;
+pub mod token;
+pub mod tree;
+pub mod utf8;
+pub mod value;

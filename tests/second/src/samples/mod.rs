@@ -1,0 +1,67 @@
+//! Texts with the answers the papers give for them.
+
+pub mod readings;
+pub mod scope;
+pub mod source;
+
+/// Kind, first byte, byte after the last, role, detail: a node without its
+/// parent's index.
+pub type Row = [u32; 5];
+
+/// An expected answer of the reader.
+#[derive(Clone, Copy, Debug)]
+pub enum Want {
+    /// Number, place, count.
+    Refused(u32, usize, usize),
+    /// Number of nodes, and the nodes themselves where they are given.
+    Accepted(usize, &'static [Row]),
+}
+
+/// A text and its answers at levels 1 and 2, with room enough.
+#[derive(Clone, Copy, Debug)]
+pub struct Sample {
+    pub text: &'static [u8],
+    pub one: Want,
+    pub two: Want,
+}
+
+const fn no(number: u32, place: usize) -> Want {
+    Want::Refused(number, place, 0)
+}
+
+const fn lacks(place: usize, needed: usize) -> Want {
+    Want::Refused(crate::answer::NO_ROOM, place, needed)
+}
+
+const fn count(nodes: usize) -> Want {
+    Want::Accepted(nodes, &[])
+}
+
+const fn ok(nodes: &'static [Row]) -> Want {
+    Want::Accepted(nodes.len(), nodes)
+}
+
+const fn both(text: &'static [u8], want: Want) -> Sample {
+    each(text, want, want)
+}
+
+const fn each(text: &'static [u8], one: Want, two: Want) -> Sample {
+    Sample { text, one, two }
+}
+
+/// All samples of all papers.
+pub fn all() -> Vec<Sample> {
+    let readings = readings::EXAMPLES.iter().flat_map(|(_, samples)| *samples);
+    let others = scope::EXAMPLES.iter().chain(source::EXAMPLES);
+    others.chain(readings).copied().collect()
+}
+
+/// A Lot of this even length with as many members `a` as fit.
+pub fn members(length: usize) -> Vec<u8> {
+    let mut text = vec![b'{'];
+    while text.len() + 1 < length {
+        text.extend(b"a,");
+    }
+    text.push(b'}');
+    text
+}

@@ -1,0 +1,68 @@
+//! The reader at levels 1 and 2.
+
+mod parse;
+
+use crate::answer::{Answer, LEVEL, NODES_MAX, NODE_WORDS, NOT_UTF8, TEXT_MAX, TOO_LONG};
+use crate::{front, token, utf8};
+
+/// A value and the values it holds, each with its role.
+#[derive(Clone, Debug)]
+struct Value {
+    kind: u32,
+    first: usize,
+    end: usize,
+    detail: u32,
+    /// A Text or a Nesting not in a group: it may name an attribute.
+    is_name: bool,
+    children: Vec<(u32, Value)>,
+}
+
+/// Reads `text`; a refusal leaves the table unchanged.
+pub fn read(level: u32, text: &[u8], table: &mut [u32]) -> Answer {
+    let root = match read_root(level, text) {
+        Ok(root) => root,
+        Err(refusal) => return refusal,
+    };
+    let mut words = Vec::new();
+    write_nodes(&root, 0, 0, &mut words);
+    let count = words.len() / NODE_WORDS;
+    let room = NODES_MAX.min(table.len() / NODE_WORDS);
+    if count > room {
+        return Answer::no_room(text.len(), count);
+    }
+    table[..words.len()].copy_from_slice(&words);
+    Answer::accepted(text.len(), count)
+}
+
+fn read_root(level: u32, text: &[u8]) -> Result<Value, Answer> {
+    if level != 1 && level != 2 {
+        return Err(Answer::refused(LEVEL, 0));
+    }
+    if text.len() > TEXT_MAX {
+        return Err(Answer::refused(TOO_LONG, 0));
+    }
+    let bad = utf8::first_bad(text);
+    if bad < text.len() {
+        return Err(Answer::refused(NOT_UTF8, bad));
+    }
+    parse::whole(level, &token::list(text, front::begin(text)))
+}
+
+/// Adds the six words of `value` and of all it holds, parent first.
+fn write_nodes(value: &Value, parent: u32, role: u32, words: &mut Vec<u32>) {
+    let index = (words.len() / NODE_WORDS) as u32;
+    words.extend([
+        value.kind,
+        value.first as u32,
+        value.end as u32,
+        parent,
+        role,
+        value.detail,
+    ]);
+    for (role, child) in &value.children {
+        write_nodes(child, index, *role, words);
+    }
+}
+
+#[cfg(test)]
+mod tests;

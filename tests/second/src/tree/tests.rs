@@ -1,0 +1,161 @@
+use super::read;
+use crate::answer::{Answer, NODES_MAX, NODE_WORDS};
+use crate::samples::{self, readings, Want};
+
+const WORDS: usize = NODES_MAX * NODE_WORDS + 7;
+/// What the lent table holds before a call.
+const UNTOUCHED: u32 = 0xA5A5_5A5A;
+
+/// Reads with a table of this many words and checks all that holds of every
+/// answer.
+fn checked(level: u32, text: &[u8], words: usize) -> (Answer, Vec<u32>) {
+    let mut table = vec![UNTOUCHED; words];
+    let answer = read(level, text, &mut table);
+    let written = match answer.number {
+        0 => answer.count * NODE_WORDS,
+        _ => 0,
+    };
+    assert!(table[written..].iter().all(|&word| word == UNTOUCHED));
+    table.truncate(written);
+    check_parents(&table);
+    (answer, table)
+}
+
+/// Every node but the root has an earlier parent, whose stretch holds it,
+/// and siblings stand in source order.
+fn check_parents(table: &[u32]) {
+    for (index, node) in table.chunks(NODE_WORDS).enumerate() {
+        if index == 0 {
+            assert_eq!((node[3], node[4]), (0, 0));
+            continue;
+        }
+        assert!((node[3] as usize) < index);
+        let parent = &table[node[3] as usize * NODE_WORDS..];
+        assert!(parent[1] < node[1] && node[2] < parent[2]);
+        assert_ne!(node[4], 0);
+        let before = &table[(index - 1) * NODE_WORDS..];
+        assert!(before[1] < node[1]);
+        // Parent first: whoever ends later than this one begins is above it.
+        if before[2] > node[1] {
+            assert_eq!(node[3] as usize, index - 1);
+        }
+    }
+}
+
+fn meets(level: u32, text: &[u8], words: usize, want: Want) {
+    let (answer, table) = checked(level, text, words);
+    let shown = format!("level {level}: {:?}", String::from_utf8_lossy(text));
+    match want {
+        Want::Refused(number, place, count) => {
+            let refusal = Answer {
+                number,
+                place,
+                count,
+            };
+            assert_eq!(answer, refusal, "{shown}");
+        }
+        Want::Accepted(count, rows) => {
+            assert_eq!(answer, Answer::accepted(text.len(), count), "{shown}");
+            if rows.is_empty() {
+                return;
+            }
+            let found: Vec<samples::Row> = table
+                .chunks(NODE_WORDS)
+                .map(|node| [node[0], node[1], node[2], node[4], node[5]])
+                .collect();
+            assert_eq!(found, rows, "{shown}");
+        }
+    }
+}
+
+fn meets_both(sample: &samples::Sample) {
+    meets(1, sample.text, WORDS, sample.one);
+    meets(2, sample.text, WORDS, sample.two);
+}
+
+#[test]
+fn texts_of_the_scope_paper() {
+    samples::scope::EXAMPLES.iter().for_each(meets_both);
+}
+
+#[test]
+fn examples_of_the_source() {
+    samples::source::EXAMPLES.iter().for_each(meets_both);
+}
+
+#[test]
+fn examples_of_the_readings() {
+    for (_, samples) in readings::EXAMPLES {
+        samples.iter().for_each(meets_both);
+    }
+}
+
+#[test]
+fn room() {
+    for &(text, words, want) in readings::ROOMS {
+        meets(2, text, words, want);
+    }
+    let most = samples::members(2048);
+    meets(1, &most, 100_000, Want::Accepted(1024, &[]));
+    let more = samples::members(2050);
+    meets(1, &more, 100_000, Want::Refused(8, 2050, 1025));
+    let full = samples::members(32_768);
+    meets(2, &full, 100_000, Want::Refused(8, 32_768, 16_384));
+}
+
+#[test]
+fn levels() {
+    for &(text, level, want) in readings::LEVELS {
+        meets(level, text, WORDS, want);
+    }
+    meets(u32::MAX, b"x", WORDS, Want::Refused(1, 0, 0));
+}
+
+#[test]
+fn level_then_length_then_utf8() {
+    meets(3, &[0xFF; 32_769], WORDS, Want::Refused(1, 0, 0));
+    meets(1, &[0xFF; 32_769], WORDS, Want::Refused(2, 0, 0));
+    meets(1, &[0xFF; 32_768], WORDS, Want::Refused(3, 0, 0));
+}
+
+/// The parents, which the papers' short notation leaves out.
+#[test]
+fn parents() {
+    let (_, table) = checked(2, b"{(x:y),[a..(Bag:{b:2})]}", WORDS);
+    let parents: Vec<u32> = table.chunks(NODE_WORDS).map(|node| node[3]).collect();
+    assert_eq!(parents, [0, 0, 1, 1, 0, 4, 4, 6, 6]);
+}
+
+/// The third demand: unless level 1 says "newer form", the levels agree; if
+/// it does, level 2 accepts or refuses there or later.
+#[test]
+fn levels_end_alike_or_level_1_says_newer_form() {
+    let generated = crate::generate::texts(7, 3_000);
+    let texts = samples::all().into_iter().map(|s| s.text.to_vec());
+    for text in texts.chain(generated) {
+        for words in [WORDS, 17] {
+            let one = checked(1, &text, words);
+            let two = checked(2, &text, words);
+            if one.0.number == 7 {
+                assert!(two.0.place >= one.0.place);
+            } else {
+                assert_eq!(one, two);
+            }
+        }
+    }
+}
+
+/// Deep groups and long look ahead cost no more than their length.
+#[test]
+fn long_texts_are_answered_quickly() {
+    let mut texts = crate::generate::long_texts();
+    texts.push(b"(Array".repeat(5_000));
+    texts.push(b"(a:".repeat(10_000));
+    texts.push([b"{".to_vec(), b"(a:b),".repeat(5_000), b"}".to_vec()].concat());
+    for text in texts {
+        let start = std::time::Instant::now();
+        checked(1, &text, WORDS);
+        checked(2, &text, WORDS);
+        assert!(start.elapsed() < std::time::Duration::from_secs(4));
+    }
+}
