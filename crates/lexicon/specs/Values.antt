@@ -33,6 +33,25 @@ valueFrom r v (d ∷ ds) = valueFrom r (v * r + digit d) ds
 abbrev pub value : ℕ → List ℕ → ℕ
 value r ds = valueFrom r 0 ds
 
+-- ---- characters
+
+-- the code point of a well-formed UTF-8 sequence
+abbrev pub scalar : List ℕ → ℕ
+scalar [] = 0
+scalar (a ∷ []) = a
+scalar (a ∷ b ∷ []) = (a - 0xC0) * 64 + (b - 0x80)
+scalar (a ∷ b ∷ c ∷ []) = ((a - 0xE0) * 64 + (b - 0x80)) * 64 + (c - 0x80)
+scalar (a ∷ b ∷ c ∷ d ∷ s) = (((a - 0xF0) * 64 + (b - 0x80)) * 64 + (c - 0x80)) * 64 + (d - 0x80)
+
+-- the character that a letter after a backslash stands for
+pub data Letter : ℕ → ℕ → Type 0 where
+  q : Letter 0x71 0x22
+  g : Letter 0x67 0x60
+  b : Letter 0x62 0x5C
+  t : Letter 0x74 0x09
+  n : Letter 0x6E 0x0A
+  r : Letter 0x72 0x0D
+
 module _ (text : List ℕ) where
   -- the bytes ds are those of the units from i to j, without what joins them
   pub data Digits (n : ℕ) (c : Class) : ℕ → ℕ → List ℕ → Type 0 where
@@ -68,25 +87,8 @@ module _ (text : List ℕ) where
     pub all-digits : Takes text (plus (one (digits base))) start j
     pub value-is : v ≡ value (radix base) (read text start (j - start))
 
-  -- the code point of a well-formed UTF-8 sequence
-  abbrev pub scalar : List ℕ → ℕ
-  scalar [] = 0
-  scalar (a ∷ []) = a
-  scalar (a ∷ b ∷ []) = (a - 0xC0) * 64 + (b - 0x80)
-  scalar (a ∷ b ∷ c ∷ []) = ((a - 0xE0) * 64 + (b - 0x80)) * 64 + (c - 0x80)
-  scalar (a ∷ b ∷ c ∷ d ∷ s) = (((a - 0xF0) * 64 + (b - 0x80)) * 64 + (c - 0x80)) * 64 + (d - 0x80)
-
   abbrev pub scalarAt : ℕ → ℕ → ℕ
   scalarAt i j = scalar (read text i (j - i))
-
-  -- the character that a letter after a backslash stands for
-  pub data Letter : ℕ → ℕ → Type 0 where
-    q : Letter 0x71 0x22
-    g : Letter 0x67 0x60
-    b : Letter 0x62 0x5C
-    t : Letter 0x74 0x09
-    n : Letter 0x6E 0x0A
-    r : Letter 0x72 0x0D
 
   -- a segment that does not begin with a backslash: each character is itself
   pub data Plain : ℕ → ℕ → ℕ → Type 0 where
