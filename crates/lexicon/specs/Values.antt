@@ -3,7 +3,7 @@ use mathlib.Core.Path.{_≡_}
 use mathlib.Core.Logic.{_⊎_}
 use mathlib.Core.Bool.{Bool, true, false, cond}
 use mathlib.Core.List.{List, [], _∷_, _++_}
-use Prim.Native.Nat.{ℕ, zero, suc, _+_, _-_, _*_}
+use Prim.Native.Nat.{ℕ, zero, suc, _+_, _-_, _*_, min}
 use lib.Dec.{leb, eqb}
 use lib.IntN.{ℤ, pos, negℤ}
 use lib.ListN.{getD}
@@ -32,6 +32,14 @@ valueFrom r v (d ∷ ds) = valueFrom r (v * r + digit d) ds
 
 abbrev pub value : ℕ → List ℕ → ℕ
 value r ds = valueFrom r 0 ds
+
+-- a number is counted up to a limit, the least number beyond all code points: what is asked of a number is asked of less
+abbrev pub limit : ℕ
+limit = 0x110000
+
+-- the number v with one digit more, up to the limit
+unfoldable pub limited : ℕ → ℕ → ℕ → ℕ
+limited r v d = min limit (v * r + digit d)
 
 module _ (text : List ℕ) where
   -- the bytes ds are those of the units from i to j, without what joins them
