@@ -24,7 +24,7 @@ use Rattle.lexicon.specs.Bytes.{digits, decimal, radix}
 use Rattle.lexicon.specs.Space.{Skips}
 use Rattle.lexicon.specs.Found.{Finds, Judges}
 use Rattle.lexicon.specs.Literals.{unit, integer, spaced, significand, power, fraction}
-use Rattle.lexicon.specs.Values.{Number, OfBase, value}
+use Rattle.lexicon.specs.Values.{Number, OfBase, value, limit}
 use Rattle.lexicon.specs.Bad.{ZeroDenominator, SmallRadix}
 use Rattle.lexicon.proofs.Spaces.{skips-same, Ahead, ahead-apart}
 use Rattle.lexicon.proofs.Groups.{digits-unit, digits-most}
@@ -32,7 +32,6 @@ use Rattle.lexicon.proofs.Numbers.{Numeral, SomeNumeral, clear, numeral, numera
 use Rattle.lexicon.proofs.Integers.{Start, of-integer, to-integer, decimal-blank}
 use Rattle.lexicon.proofs.Fractions.{Significand, pointed, divided, Symbol, of-spaced, to-spaced, symbol-ahead, symbol-from, stops, some, ends-same, ahead-most, of-significand, to-significand, significand-start, align-point, align-ratio, behind-symbol, significand-cut, point-apart, slash-apart, star-apart, point-slash}
 use Rattle.lexicon.proofs.Powers.{Found, SmallPower, exponent, symbol, no-caret, no-exponent, whole-exponent, no-star, no-radix, no-power, whole-power, radix-is, small-power, power-ahead}
-use Rattle.number.specs.Tally.{limit}
 use Rattle.number.specs.declared.integer.Number as Numbers
 use Rattle.number.specs.Number.{IsNumber, NoNumber, OfBase as OfBaseAnswer}
 use Rattle.number.specs.Fraction.{PointDigits, NoDigits, Pointed, Denominator, NoDenominator, Divided, ZeroRatio, BadFraction}

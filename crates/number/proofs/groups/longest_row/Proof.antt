@@ -1,7 +1,6 @@
 use Prim.Native.Nat.{_≤_, _-_, _+_}
 use native.Mathlib.Omega.{arith}
 use lib.ListN.{length}
-use Rattle.number.specs.Tally.{limit}
 use Rattle.number.specs.Groups.{Summed, Joins}
 use Rattle.number.proofs.Rows.{no-row, first-within, first-unit, joins, next-unit, unit-within, whole-row}
 use borrow.Author.Needs.{needs}
@@ -14,7 +13,7 @@ use Rattle.number.proofs.groups.unit.Reads as unit-reads
 use Rattle.number.proofs.tally.tally_unit.Reads as tally-unit-reads
 
 abbrev Inv-loop : tie.InvT-loop
-Inv-loop text at set width end₀ sum₀ end sum = (at ≤ end) × (end ≤ length text) × (sum ≤ limit) × Summed text set width at end sum
+Inv-loop text at set width end₀ sum₀ end sum = (at ≤ end) × (end ≤ length text) × Summed text set width at end sum
 
 abbrev μ-loop : tie.MeasureT-loop
 μ-loop text at set width end₀ sum₀ end sum = length text - end
@@ -46,14 +45,14 @@ add-end c = search needs
 tally-unit-requires : tie.Need-tally-unit-requires Inv-loop μ-loop
 tally-unit-requires c κs =
     let a = c .before .before .before .args in
-    (first-within (a .text .now) (a .set) (a .width) (a .at) (c .before .unit .result) (c .before .unit .ensures) (c .if1 .left) (search needs), search needs)
+    first-within (a .text .now) (a .set) (a .width) (a .at) (c .before .unit .result) (c .before .unit .ensures) (c .if1 .left) (search needs)
 
 -- src/groups.rt:73:5
 loop-holds : tie.Need-loop-holds Inv-loop μ-loop
 loop-holds c =
     let a = c .before .before .before .before .args in
     let h = first-within (a .text .now) (a .set) (a .width) (a .at) (c .before .before .unit .result) (c .before .before .unit .ensures) (c .before .if1 .left) (search needs) in
-    (omega arith, h, c .tally-unit .ensures .1, first-unit (a .text .now) (a .set) (a .width) (a .at) (c .before .before .unit .result) (c .tally-unit .result) (c .before .before .unit .ensures) (c .before .if1 .left) (c .tally-unit .ensures .0))
+    (omega arith, h, first-unit (a .text .now) (a .set) (a .width) (a .at) (c .before .before .unit .result) (c .tally-unit .result) (c .before .before .unit .ensures) (c .before .if1 .left) (c .tally-unit .ensures))
 
 -- src/groups.rt:74:31
 joined-requires : tie.Need-joined-requires Inv-loop μ-loop
@@ -71,11 +70,11 @@ enum-told c = search needs
 returns-2 : tie.Need-returns-2 Inv-loop μ-loop
 returns-2 c =
     let a = c .before .before .before .before .before .before .before .before .args in
-    whole-row (a .text .now) (a .set) (a .width) (a .at) _ _ (c .before .before .joined .result) (c .before .before .before .loop .inv .3) (c .before .before .joined .ensures) (c .enum-told .given .1)
+    whole-row (a .text .now) (a .set) (a .width) (a .at) _ _ (c .before .before .joined .result) (c .before .before .before .loop .inv .2) (c .before .before .joined .ensures) (c .enum-told .given .1)
 
 -- src/groups.rt:77:9
 tally-unit-requires-2 : tie.Need-tally-unit-requires-2 Inv-loop μ-loop
-tally-unit-requires-2 c κs = (within-next c .1, search needs)
+tally-unit-requires-2 c κs = within-next c .1
 
 -- src/groups.rt:78:15
 add-end-2 : tie.Need-add-end-2 Inv-loop μ-loop
@@ -90,7 +89,7 @@ loop-again : tie.Need-loop-again Inv-loop μ-loop
 loop-again c =
     let a = c .before .before .before .before .before .before .before .before .before .before .args in
     let w = within-next (c .before) in
-    (omega arith, w .1, c .tally-unit2 .ensures .1, next-unit (a .text .now) (a .set) (a .width) (a .at) (c .before .before .before .before .before .loop .end) (c .before .before .next .given .0 .0) (c .before .before .before .before .before .loop .sum) (c .tally-unit2 .result) (c .before .before .before .before .before .loop .inv .3) (found-next (c .before)) (c .tally-unit2 .ensures .0))
+    (omega arith, w .1, next-unit (a .text .now) (a .set) (a .width) (a .at) (c .before .before .before .before .before .loop .end) (c .before .before .next .given .0 .0) (c .before .before .before .before .before .loop .sum) (c .tally-unit2 .result) (c .before .before .before .before .before .loop .inv .2) (found-next (c .before)) (c .tally-unit2 .ensures))
 
 pub longest-row-spec : {M : Type 1} → statement M
 longest-row-spec =

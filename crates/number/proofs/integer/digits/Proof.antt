@@ -7,7 +7,6 @@ use Rattle.number.proofs.integer.digits.Tie as tie
 use Rattle.number.proofs.integer.digits.Reads as reads
 use Rattle.number.proofs.integer.digits.Lts as lts
 use Rattle.number.proofs.groups.longest_row.Reads as longest-row-reads
-use Rattle.number.proofs.integer.digit_set.Reads as digit-set-reads
 
 -- src/integer.rt:62:9
 digit-set-requires : tie.Need-digit-set-requires
