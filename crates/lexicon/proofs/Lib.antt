@@ -1,4 +1,5 @@
 -- The laws of the token rules.
+pub mod Answers
 pub mod Limits
 pub mod Spaces
 pub mod Groups

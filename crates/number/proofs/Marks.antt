@@ -1,17 +1,14 @@
 -- The marks of the bases, and the numbers behind them. Assumes nothing.
-use mathlib.Core.Path.{_≡_, refl, sym, ap, subst, subst⁻¹, _∙_}
+use mathlib.Core.Path.{_≡_, refl, sym, subst, subst⁻¹, _∙_}
 use mathlib.Core.Logic.{⊎-elim}
-use mathlib.Core.Bool.{Bool, true, false}
-use mathlib.Core.List.{List, [], _∷_}
-use Prim.Native.Nat.{ℕ, _+_, _-_, _*_, _≤_, _<_, min}
+use mathlib.Core.List.{List}
+use Prim.Native.Nat.{ℕ, _+_, _-_, _≤_, _<_, min}
 use native.Mathlib.Omega.{arith}
-use borrow.Author.Tests.{ne-eqb}
 use lib.ListN.{length, getD}
-use lib.Dec.{eqb}
 use Rattle.rules.specs.Class.{In, just, has}
-use Rattle.rules.specs.Rule.{Takes, nothing, Fails, At, opt}
-use Rattle.rules.proofs.Classes.{in-just, just-is, in-cons}
-use Rattle.rules.proofs.Matches.{forward, inside, starting}
+use Rattle.rules.specs.Rule.{Takes, Fails, At, opt}
+use Rattle.rules.proofs.Classes.{is-just, just-is, in-cons}
+use Rattle.rules.proofs.Matches.{forward, starting}
 use Rattle.lexicon.specs.declared.Base.{Base}
 use Rattle.lexicon.specs.declared.Base.the-variants.{Two, Eight, Ten, Sixteen}
 use Rattle.lexicon.specs.declared.Set.{Set}
@@ -22,8 +19,8 @@ use Rattle.lexicon.proofs.Integers.{Start, behind, unsigned}
 use Rattle.lexicon.specs.Values.{Digits, value, limit}
 use Rattle.lexicon.proofs.Limits.{limited-value}
 use Rattle.lexicon.proofs.Spaces.{skips-same, landed}
-use Rattle.lexicon.proofs.Groups.{Clear, Ended, digits-most, digits-forward, digits-unit, digits-at}
-use Rattle.lexicon.proofs.Numbers.{letter, Numeral, marked, bare, SomeNumeral, clear, in-marks, bare-short, aligned, same-base}
+use Rattle.lexicon.proofs.Groups.{Clear, digits-most, digits-forward, digits-unit, digits-at}
+use Rattle.lexicon.proofs.Numbers.{letter, Numeral, marked, bare, clear, in-marks, bare-short, aligned, same-base}
 use Rattle.number.specs.declared.integer.Mark.{Mark}
 use Rattle.number.specs.declared.integer.Mark.the-variants as Mark
 use Rattle.number.specs.declared.integer.Number.{Number}
@@ -40,8 +37,8 @@ module _ (text : List ℕ) (i : ℕ) where
   pub has-mark : (b : Base) → 2 ≤ length text - i → getD text i 0 ≡ 0x30 → getD text (i + 1) 0 ≡ letter b → HasMark text b i
   has-mark b h z l =
       record {
-        zero = (omega arith, subst (In (just 0x30)) (sym z) (in-just 0x30));
-        letter-is = (omega arith, subst (In (just (letter b))) (sym l) (in-just (letter b)));
+        zero = (omega arith, is-just 0x30 (getD text i 0) z);
+        letter-is = (omega arith, is-just (letter b) (getD text (i + 1) 0) l);
       }
 
   pub short-mark : length text - i < 2 → NoMark text i

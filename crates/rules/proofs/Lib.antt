@@ -3,4 +3,6 @@ pub mod Bools
 pub mod Classes
 pub mod Chains
 pub mod Matches
+pub mod Tests
 pub mod Ways
+pub mod Closed

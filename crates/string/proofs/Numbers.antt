@@ -23,8 +23,8 @@ use Rattle.lexicon.specs.Values.{read, limit, limited}
 use Rattle.lexicon.specs.Bad.{Scalar}
 use Rattle.lexicon.proofs.Limits.{limited-value, read-more}
 use Rattle.string.specs.Parts.{number, BadNumber, Counts}
-use Rattle.string.proofs.Answers.{says-no, says-yes}
-use Rattle.string.proofs.Closed.{byte-single}
+use Rattle.rules.proofs.Tests.{says-no, says-yes}
+use Rattle.lexicon.proofs.Spaces.{byte-single}
 
 -- the limit is no code point
 scalar-limit : (v : ℕ) → Scalar v → Scalar (min limit v)

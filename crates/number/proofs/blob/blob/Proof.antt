@@ -1,5 +1,7 @@
 use native.Mathlib.Omega.{arith}
-use Rattle.number.proofs.Blobs.{mark-within, clear-binary, clear-hexadecimal, clear-base64, blob-binary, blob-hexadecimal, blob-base64, blob-none}
+use Rattle.lexicon.specs.declared.Base.the-variants.{Two, Sixteen}
+use Rattle.lexicon.proofs.Numbers.{clear}
+use Rattle.number.proofs.Blobs.{mark-within, clear-base64, blob-binary, blob-hexadecimal, blob-base64, blob-none}
 use borrow.Author.Needs.{needs}
 use Rattle.number.proofs.blob.blob.Statement.{statement}
 use Rattle.number.proofs.blob.blob.Tie as tie
@@ -18,7 +20,7 @@ add-tail-at c = omega (arith, mark-within _ _ _ _ (c .before .marked .result) (c
 
 -- src/blob.rt:73:13
 tail-at-requires : tie.Need-tail-at-requires
-tail-at-requires c κs = (mark-within _ _ _ _ (c .before .marked .result) (c .before .marked .ensures) (c .if1 .taken), omega arith, omega arith, clear-binary)
+tail-at-requires c κs = (mark-within _ _ _ _ (c .before .marked .result) (c .before .marked .ensures) (c .if1 .taken), omega arith, omega arith, clear Two)
 
 -- src/blob.rt:74:9
 returns : tie.Need-returns
@@ -34,7 +36,7 @@ add-tail-at-2 c = omega (arith, mark-within _ _ _ _ (c .before .marked2 .result)
 
 -- src/blob.rt:77:13
 tail-at-requires-2 : tie.Need-tail-at-requires-2
-tail-at-requires-2 c κs = (mark-within _ _ _ _ (c .before .marked2 .result) (c .before .marked2 .ensures) (c .if2 .taken), omega arith, omega arith, clear-hexadecimal)
+tail-at-requires-2 c κs = (mark-within _ _ _ _ (c .before .marked2 .result) (c .before .marked2 .ensures) (c .if2 .taken), omega arith, omega arith, clear Sixteen)
 
 -- src/blob.rt:78:9
 returns-2 : tie.Need-returns-2

@@ -1,6 +1,7 @@
+use Rattle.lexicon.proofs.Answers.{found-at, found-none}
 use native.Mathlib.Omega.{arith}
 use borrow.Author.Tests.{not-false}
-use Rattle.number.proofs.Fractions.{power-none, power-no-radix, power-no-exponent, power-whole, found, found-at, found-none, sign-within, skip-within, number-within}
+use Rattle.number.proofs.Fractions.{power-none, power-no-radix, power-no-exponent, power-whole, found, sign-within, skip-within, number-within}
 use Rattle.number.proofs.Integers.{number-found, number-missing}
 use borrow.Author.Needs.{needs}
 use Rattle.number.proofs.fraction.power.Statement.{statement}
@@ -64,12 +65,12 @@ enum-told-2 c = search needs
 -- src/fraction.rt:87:9
 returns-3 : tie.Need-returns-3
 returns-3 c =
-    power-no-exponent _ (found _ 0x2A _ _ _ (c .before .before .before .before .before .before .before .before .before .stands .result) (c .before .before .before .before .before .before .before .before .before .before .space .ensures) (c .before .before .before .before .before .before .before .before .before .stands .ensures) (not-false _ (c .before .before .before .before .before .before .before .before .if1 .left)) (c .before .before .before .before .before .before .before .space2 .ensures)) (number-found _ _ _ _ _ (c .before .before .before .before .before .before .number-at .result) (c .before .before .before .before .before .before .number-at .ensures) (c .before .before .before .before .end .given .1)) (found-none _ _ _ (c .before .before .exponent .result) (c .before .before .exponent .ensures) (c .enum-told2 .given .1))
+    power-no-exponent _ (found _ 0x2A _ _ _ (c .before .before .before .before .before .before .before .before .before .stands .result) (c .before .before .before .before .before .before .before .before .before .before .space .ensures) (c .before .before .before .before .before .before .before .before .before .stands .ensures) (not-false _ (c .before .before .before .before .before .before .before .before .if1 .left)) (c .before .before .before .before .before .before .before .space2 .ensures)) (number-found _ _ _ _ _ (c .before .before .before .before .before .before .number-at .result) (c .before .before .before .before .before .before .number-at .ensures) (c .before .before .before .before .end .given .1)) (found-none (c .enum-told2 .given .1) (c .before .before .exponent .ensures))
 
 -- src/fraction.rt:74:1
 returns-4 : tie.Need-returns-4
 returns-4 c =
-    power-whole _ (found _ 0x2A _ _ _ (c .before .before .before .before .before .before .before .before .before .before .stands .result) (c .before .before .before .before .before .before .before .before .before .before .before .space .ensures) (c .before .before .before .before .before .before .before .before .before .before .stands .ensures) (not-false _ (c .before .before .before .before .before .before .before .before .before .if1 .left)) (c .before .before .before .before .before .before .before .before .space2 .ensures)) (number-found _ _ _ _ _ (c .before .before .before .before .before .before .before .number-at .result) (c .before .before .before .before .before .before .before .number-at .ensures) (c .before .before .before .before .before .end .given .1)) (found-at _ _ _ _ (c .before .before .before .exponent .result) (c .before .before .before .exponent .ensures) (c .before .last .given .1))
+    power-whole _ (found _ 0x2A _ _ _ (c .before .before .before .before .before .before .before .before .before .before .stands .result) (c .before .before .before .before .before .before .before .before .before .before .before .space .ensures) (c .before .before .before .before .before .before .before .before .before .before .stands .ensures) (not-false _ (c .before .before .before .before .before .before .before .before .before .if1 .left)) (c .before .before .before .before .before .before .before .before .space2 .ensures)) (number-found _ _ _ _ _ (c .before .before .before .before .before .before .before .number-at .result) (c .before .before .before .before .before .before .before .number-at .ensures) (c .before .before .before .before .before .end .given .1)) (found-at (c .before .last .given .1) (c .before .before .before .exponent .ensures))
 
 pub power-spec : {M : Type 1} → statement M
 power-spec =

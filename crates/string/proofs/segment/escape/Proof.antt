@@ -4,7 +4,7 @@ use borrow.Author.Needs.{needs}
 use native.Mathlib.Omega.{arith}
 use borrow.Author.Tests.{not-false}
 use Rattle.lexicon.specs.Values.{Letter}
-use Rattle.string.proofs.Answers.{there}
+use Rattle.rules.proofs.Tests.{there}
 use Rattle.string.proofs.Escapes.{by-letter, by-angle, by-none, by-end, by-other}
 use Rattle.string.proofs.segment.escape.Statement.{statement}
 use Rattle.string.proofs.segment.escape.Tie as tie
