@@ -1,3 +1,4 @@
+use native.Mathlib.Omega.{arith}
 use Rattle.rules.proofs.Matches.{inside}
 use Rattle.number.proofs.Joints.{joins-here, joins-line, joins-space, ends-text, ends-line, ends-space}
 use borrow.Author.Needs.{needs}
@@ -50,7 +51,7 @@ space-requires c κs = search needs
 
 -- src/groups.rt:57:8
 unit-requires-3 : tie.Need-unit-requires-3
-unit-requires-3 c κs = (inside (c .space .ensures .takes) (search needs), search needs)
+unit-requires-3 c κs = (omega (arith, inside (c .space .ensures .takes) (search needs)), search needs)
 
 -- src/groups.rt:58:9
 returns-5 : tie.Need-returns-5
