@@ -1,4 +1,6 @@
 -- The laws of the token rules.
+pub mod Answers
+pub mod Limits
 pub mod Spaces
 pub mod Groups
 pub mod Numbers

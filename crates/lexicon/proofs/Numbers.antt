@@ -83,6 +83,10 @@ underscore-words : includes (anyOf "_") wordRest ≡ true
 unfolding includes inSome
 underscore-words = refl
 
+-- a letter is no digit
+pub letter-no-digit : (b : Base) → In decimal (letter b) → ⊥
+letter-no-digit b d = apart-no marks decimal (letter b) marks-digits (letter-mark b) d
+
 -- a letter tells its base
 base : ℕ → Base
 base n = cond (eqb n 0x62) Two (cond (eqb n 0x6F) Eight (cond (eqb n 0x64) Ten Sixteen))

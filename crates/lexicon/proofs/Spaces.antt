@@ -1,26 +1,27 @@
 -- Dividing space ends in one place only, and what stands there decides what may follow. Assumes nothing.
 use mathlib.Core.Path.{_≡_, refl, subst, sym, _∙_}
 use mathlib.Core.Bool.{true}
-use mathlib.Core.List.{List, [], _∷_}
-use Prim.Native.Nat.{ℕ, _+_, _≤_, _<_}
+use mathlib.Core.List.{List}
+use Prim.Native.Nat.{ℕ, _<_}
 use native.Mathlib.Nat.{le-antisymm}
 use native.Mathlib.Omega.{arith}
-use lib.ListN.{length, getD}
-use Rattle.rules.specs.Class.{Class, In, has}
-use Rattle.rules.specs.Rule.{Rule, one, _then_, _or_, many, plus, opt, At, Takes, nothing, byte, both, left, right, stop, more, Longest, Fails}
+use lib.ListN.{getD}
+use Rattle.rules.specs.Class.{Class, In}
+use Rattle.rules.specs.Rule.{one, _then_, many, opt, At, Takes, nothing, byte, both, left, right, Fails}
 use Rattle.rules.proofs.Classes.{apart, apartSpan, apart-no}
 use Rattle.rules.proofs.Matches.{forward, starting}
 use Rattle.rules.proofs.Chains.{Single, reaches, snoc, many-of-opt, opt-of-many}
-use Rattle.rules.proofs.Ways.{never, never-takes}
+use Rattle.rules.proofs.Ways.{never, begins-none}
+use Rattle.rules.proofs.Closed.{closed-single}
 use Rattle.lexicon.specs.Bytes.{dividing}
-use Rattle.lexicon.specs.Space.{grave, notGrave, comment, blank, sp, Skips}
+use Rattle.lexicon.specs.Space.{grave, notGrave, blank, sp, Skips}
 
 dividing-grave : apart dividing grave ≡ true
 unfolding apart apartSpan
 dividing-grave = refl
 
-grave-not : apart grave notGrave ≡ true
-unfolding apart apartSpan
+grave-not : never grave (one notGrave) ≡ true
+unfolding never apart apartSpan
 grave-not = refl
 
 -- a byte of the class stands first behind the dividing space at i
@@ -38,19 +39,8 @@ module _ {text : List ℕ} where
       go : {i j k : ℕ} → Takes text (one c) i j → Takes text (one c) i k → j ≡ k
       go (byte a e) (byte b f) = omega arith
 
-  closer-fails : {i j : ℕ} → Takes text (one grave) i j → Fails text (one notGrave) i
-  closer-fails {i} (byte a e) = record { none = go }
-    where
-      go : {k : ℕ} → Takes text (one notGrave) i k → ⊥
-      go (byte b f) = apart-no grave notGrave (getD text i 0) grave-not (a .1) (b .1)
-
-  -- two matches of a body and its closer from one place end in one place
-  body-same : {i j k m n : ℕ} → Takes text (many (one notGrave)) i j → Takes text (one grave) j m → Takes text (many (one notGrave)) i k → Takes text (one grave) k n → m ≡ n
-  body-same c g d h =
-      ends (forward (reaches (byte-single notGrave) c (closer-fails g) d)) (forward (reaches (byte-single notGrave) d (closer-fails h) c)) g h
-    where
-      ends : {j k m n : ℕ} → k ≤ j → j ≤ k → Takes text (one grave) j m → Takes text (one grave) k n → m ≡ n
-      ends p q (byte a e) (byte b f) = omega arith
+  body-single : Single text (many (one notGrave) then one grave)
+  body-single = closed-single (one notGrave) grave (byte-single notGrave) grave-not
 
   pub blank-single : Single text blank
   blank-single = record { same = go }
@@ -59,7 +49,7 @@ module _ {text : List ℕ} where
       go (left (byte a e)) (left (byte b f)) = omega arith
       go {i} (left (byte a e)) (right (both (byte b f) u)) = absurd (apart-no dividing grave (getD text i 0) dividing-grave (a .1) (b .1))
       go {i} (right (both (byte b f) u)) (left (byte a e)) = absurd (apart-no dividing grave (getD text i 0) dividing-grave (a .1) (b .1))
-      go (right (both (byte a e) (both c g))) (right (both (byte b f) (both d h))) = body-same c g (starting (f ∙ sym e) d) h
+      go (right (both (byte a e) c)) (right (both (byte b f) d)) = body-single .same c (starting (f ∙ sym e) d)
 
   -- every blank takes a byte at least
   pub blank-forward : {i j : ℕ} → Takes text blank i j → i < j
@@ -84,7 +74,7 @@ module _ {text : List ℕ} where
 
   -- space that is followed by a byte which begins none has ended
   pub landed : (c : Class) {i u : ℕ} → never c blank ≡ true → Takes text (opt sp) i u → At text c u → Skips text i u
-  landed c e p a = skips (many-of-opt p) (record { none = λ b. never-takes text c blank e a b })
+  landed c e p a = skips (many-of-opt p) (begins-none text c blank e a)
 
   pub landed-here : (c : Class) {i : ℕ} → never c blank ≡ true → At text c i → Skips text i i
   landed-here c e a = landed c e (right (nothing refl)) a

@@ -70,6 +70,17 @@ sum (s ∷ ss) b = weight s * bit (has (members s) b) + sum ss b
 abbrev pub classOf : ℕ → ℕ
 classOf = sum sets
 
+-- how many digits a set of digits has; 0 for another set
+abbrev pub size : Set → ℕ
+size Binary = 2
+size Octal = 8
+size Decimal = 10
+size Hexadecimal = 16
+size Base64 = 0
+size WordStart = 0
+size WordRest = 0
+size Dividing = 0
+
 -- the digits of a base, and their number
 abbrev pub digitSet : Base → Set
 digitSet Two = Binary
@@ -81,7 +92,4 @@ abbrev pub digits : Base → Class
 digits b = members (digitSet b)
 
 abbrev pub radix : Base → ℕ
-radix Two = 2
-radix Eight = 8
-radix Ten = 10
-radix Sixteen = 16
+radix b = size (digitSet b)

@@ -3,7 +3,7 @@ use mathlib.Core.Path.{_≡_}
 use mathlib.Core.Logic.{_⊎_}
 use mathlib.Core.Bool.{Bool, true, false, cond}
 use mathlib.Core.List.{List, [], _∷_, _++_}
-use Prim.Native.Nat.{ℕ, zero, suc, _+_, _-_, _*_}
+use Prim.Native.Nat.{ℕ, zero, suc, _+_, _-_, _*_, min}
 use lib.Dec.{leb, eqb}
 use lib.IntN.{ℤ, pos, negℤ}
 use lib.ListN.{getD}
@@ -33,6 +33,14 @@ valueFrom r v (d ∷ ds) = valueFrom r (v * r + digit d) ds
 abbrev pub value : ℕ → List ℕ → ℕ
 value r ds = valueFrom r 0 ds
 
+-- a number is counted up to a limit, the least number beyond all code points: what is asked of a number is asked of less
+abbrev pub limit : ℕ
+limit = 0x110000
+
+-- the number v with one digit more, up to the limit
+unfoldable pub limited : ℕ → ℕ → ℕ → ℕ
+limited r v d = min limit (v * r + digit d)
+
 -- ---- characters
 
 -- the code point of a well-formed UTF-8 sequence
@@ -45,12 +53,12 @@ scalar (a ∷ b ∷ c ∷ d ∷ s) = (((a - 0xF0) * 64 + (b - 0x80)) * 64 + (c -
 
 -- the character that a letter after a backslash stands for
 pub data Letter : ℕ → ℕ → Type 0 where
-  q : Letter 0x71 0x22
-  g : Letter 0x67 0x60
-  b : Letter 0x62 0x5C
-  t : Letter 0x74 0x09
-  n : Letter 0x6E 0x0A
-  r : Letter 0x72 0x0D
+  quotationMark : Letter 0x71 0x22
+  graveAccent : Letter 0x67 0x60
+  reverseSolidus : Letter 0x62 0x5C
+  tab : Letter 0x74 0x09
+  lineFeed : Letter 0x6E 0x0A
+  carriageReturn : Letter 0x72 0x0D
 
 module _ (text : List ℕ) where
   -- the bytes ds are those of the units from i to j, without what joins them

@@ -1,51 +1,40 @@
 -- Bits and Blobs: the digits behind a mark, the choice between the marks, and misplaced `=`. Assumes nothing.
 use mathlib.Core.Path.{_≡_, refl, sym, ap, subst, subst⁻¹, _∙_}
-use mathlib.Core.Logic.{_⊎_, inl, inr, ⊎-elim}
-use mathlib.Core.Bool.{Bool, true, false, not, cond, false≢true}
+use mathlib.Core.Bool.{Bool, true, false, not, false≢true}
 use mathlib.Core.List.{List, [], _∷_}
-use Prim.Native.Nat.{ℕ, zero, suc, _+_, _≤_, _<_}
+use Prim.Native.Nat.{ℕ, suc, _+_, _≤_}
 use native.Mathlib.Decide.{ℕ-discrete}
 use native.Mathlib.Omega.{arith}
 use lib.Dec.{eqb}
 use lib.ListN.{length, getD}
-use borrow.Author.Tests.{eqb-true, eq-eqb, ne-eqb, not-true, not-false}
+use borrow.Author.Tests.{not-true, not-false}
 use Rattle.rules.specs.Test.{Says}
-use Rattle.rules.specs.Class.{Class, In, just}
+use Rattle.rules.specs.Class.{In, just}
 use Rattle.rules.specs.Rule.{Rule, one, _then_, _or_, opt, row, lit, Takes, nothing, byte, both, left, right, Longest, Fails}
-use Rattle.rules.proofs.Bools.{clash, decide}
 use Rattle.rules.proofs.Classes.{apart, apartSpan, just-is}
-use Rattle.rules.proofs.Matches.{starting, ending, inside, forward, row-end}
+use Rattle.rules.proofs.Matches.{starting, ending, forward, row-end, move-at}
+use Rattle.rules.proofs.Tests.{says-no, refuted, not-there}
 use Rattle.rules.proofs.Ways.{never, covers, covers-all}
+use Rattle.lexicon.specs.declared.Base.the-variants.{Two, Eight, Sixteen}
 use Rattle.lexicon.specs.declared.Set.{Set}
 use Rattle.lexicon.specs.declared.Set.the-variants.{Binary, Octal, Hexadecimal, Base64}
-use Rattle.lexicon.specs.Bytes.{members, binary, octal, hexadecimal, base64}
+use Rattle.lexicon.specs.Bytes.{members, base64}
 use Rattle.lexicon.specs.Space.{sp, Skips}
-use Rattle.lexicon.specs.Literals.{unit, groups, maybe, bits, blob}
+use Rattle.lexicon.specs.Literals.{maybe, bits, blob}
 use Rattle.lexicon.specs.Values.{Digits}
 use Rattle.lexicon.specs.Bad.{Other, Misplaced, BadPadding}
 use Rattle.lexicon.specs.Bad as Bad
 use Rattle.lexicon.proofs.Spaces.{skips-same, landed}
-use Rattle.lexicon.proofs.Groups.{Clear, Ended, digits-most, digits-same, digits-at, digits-unit, digits-forward, to-row, of-row}
+use Rattle.lexicon.proofs.Groups.{Clear, digits-most, digits-same, digits-at, digits-unit, digits-forward, to-row, of-row}
+use Rattle.lexicon.proofs.Numbers.{clear}
 use Rattle.number.specs.Tally.{paddedOf, tallyOf, tallies}
 use Rattle.number.specs.declared.groups.Groups.{Groups}
 use Rattle.number.specs.declared.groups.Groups.the-variants as Groups
-use Rattle.number.specs.Groups.{Row, Grouped}
+use Rattle.number.specs.Groups.{Grouped}
 use Rattle.number.specs.Blob.{TailOf, digits-stand, none-stand}
-use Rattle.number.proofs.Units.{says-no}
+use Rattle.number.proofs.Sums.{first-pad, later-pad, no-pad, misplaced}
 
--- ---- the sets of digits begin no joint
-
-pub clear-binary : Clear binary
-unfolding never apart apartSpan
-clear-binary = record { no-joint = refl; no-blank = refl }
-
-pub clear-octal : Clear octal
-unfolding never apart apartSpan
-clear-octal = record { no-joint = refl; no-blank = refl }
-
-pub clear-hexadecimal : Clear hexadecimal
-unfolding never apart apartSpan
-clear-hexadecimal = record { no-joint = refl; no-blank = refl }
+-- ---- no base-64 character begins a joint
 
 pub clear-base64 : Clear base64
 unfolding never apart apartSpan
@@ -84,7 +73,7 @@ module _ (text : List ℕ) (ps : List ℕ) (r : Rule) where
       most (both u v) = l .most (starting (row-end ps u) v)
 
   pub no-mark : {i k : ℕ} (o : Bool) → Says o (Takes text (row ps) i (i + length ps)) → o ≡ false → Takes text (row ps then r) i k → ⊥
-  no-mark o s e (both u v) = clash (s .holds-true (ending (row-end ps u) u)) e
+  no-mark o s e (both u v) = refuted s e (ending (row-end ps u) u)
 
 -- a literal of a mark
 abbrev part : ℕ → ℕ → ℕ → Set → Rule
@@ -136,22 +125,6 @@ module _ where
   unfolding tallies
   pad s d ds e = ap (λ (x : ℕ). tallies Base64 x ds) (step s d ∙ e)
 
-  equals : (s d : ℕ) → (s ≡ 0 → ⊥) → d ≡ 0x3D → paddedOf s d ≡ s
-  unfolding paddedOf
-  equals s d f e = rw (eq-eqb d 0x3D e, ne-eqb s 0 f)
-
-  others : (s d : ℕ) → (s ≡ 0 → ⊥) → (d ≡ 0x3D → ⊥) → paddedOf s d ≡ 2
-  unfolding paddedOf
-  others s d f e = rw (ne-eqb d 0x3D e, ne-eqb s 0 f)
-
-  starts : (d : ℕ) → d ≡ 0x3D → paddedOf 0 d ≡ 1
-  unfolding paddedOf
-  starts d e = rw (eq-eqb d 0x3D e)
-
-  goes-on : (d : ℕ) → (d ≡ 0x3D → ⊥) → paddedOf 0 d ≡ 0
-  unfolding paddedOf
-  goes-on d e = rw (ne-eqb d 0x3D e)
-
   one-not : _≡_ {A = ℕ} 1 0 → ⊥
   one-not e = omega (arith, e)
 
@@ -164,8 +137,8 @@ module _ where
   stays (d ∷ ds) = go (ℕ-discrete d 0x3D) (stays ds)
     where
       go : Dec (d ≡ 0x3D) → tallies Base64 2 ds ≡ 2 → tallies Base64 2 (d ∷ ds) ≡ 2
-      go (yes e) h = pad 2 d ds (equals 2 d two-not e) ∙ h
-      go (no e) h = pad 2 d ds (others 2 d two-not e) ∙ h
+      go (yes e) h = pad 2 d ds (sym (later-pad 2 d e two-not)) ∙ h
+      go (no e) h = pad 2 d ds (sym (misplaced 2 d e two-not)) ∙ h
 
   same-test : {a b : ℕ} (P : Type 0) → a ≡ b → Says (eqb b 2) P → Says (eqb a 2) P
   same-test P e s = subst⁻¹ (λ (x : ℕ). Says (eqb x 2) P) e s
@@ -182,10 +155,10 @@ module _ where
     where
       go : Dec (d ≡ 0x3D) → Says (eqb (tallies Base64 1 ds) 2) (Other ds) → Says (eqb (tallies Base64 1 (d ∷ ds)) 2) (Other (d ∷ ds))
       go (yes e) h =
-          same-test (Other (d ∷ ds)) (pad 1 d ds (equals 1 d one-not e))
+          same-test (Other (d ∷ ds)) (pad 1 d ds (sym (later-pad 1 d e one-not)))
           (record { true-holds = λ x. Bad.Other.later (h .true-holds x); holds-true = λ o. h .holds-true (skipped e o) })
       go (no e) h =
-          same-test (Other (d ∷ ds)) (pad 1 d ds (others 1 d one-not e) ∙ stays ds) (record { true-holds = λ x. Bad.Other.now e; holds-true = λ o. refl })
+          same-test (Other (d ∷ ds)) (pad 1 d ds (sym (misplaced 1 d e one-not)) ∙ stays ds) (record { true-holds = λ x. Bad.Other.now e; holds-true = λ o. refl })
 
   other : {ds : List ℕ} → Misplaced ds → Other ds
   other (Bad.Misplaced.now o) = Bad.Other.later o
@@ -211,10 +184,10 @@ module _ where
       go : Dec (d ≡ 0x3D) → Says (eqb (tallies Base64 0 ds) 2) (Misplaced ds) → Says (eqb (tallies Base64 0 (d ∷ ds)) 2) (Misplaced (d ∷ ds))
       go (yes e) h =
           let o = other-says ds in
-          same-test (Misplaced (d ∷ ds)) (pad 0 d ds (starts d e))
+          same-test (Misplaced (d ∷ ds)) (pad 0 d ds (sym (first-pad 0 d e refl)))
           (record { true-holds = λ x. at-first e (o .true-holds x); holds-true = λ m. o .holds-true (rest m) })
       go (no e) h =
-          same-test (Misplaced (d ∷ ds)) (pad 0 d ds (goes-on d e))
+          same-test (Misplaced (d ∷ ds)) (pad 0 d ds (sym (no-pad 0 d e refl)))
           (record { true-holds = λ x. Bad.Misplaced.later (h .true-holds x); holds-true = λ m. h .holds-true (further e m) })
 
 -- ---- bad padding
@@ -236,11 +209,11 @@ module _ (text : List ℕ) where
         holds-true = λ b. let w = padded-from k b in m .holds-true (subst Misplaced (digits-same text 3 base64 clear-base64 (w .1) (r .row .digits-are)) (w .2));
       })
   padding-says {i} t (none-stand k f) =
-      says-no _ (λ b. let w = padded-from k b in f .none (digits-unit (w .1) .1))
+      says-no (λ b. let w = padded-from k b in f .none (digits-unit (w .1) .1))
 
   -- the other marks are none of base 64
   pub no-padding : (b : ℕ) {i j : ℕ} → (b ≡ 0x79 → ⊥) → Takes text (row (0x30 ∷ 0x78 ∷ b ∷ [])) i (i + 3) → Says false (BadPadding text i j)
-  no-padding b {i} f (both (byte x e) (both (byte y g) (byte {i = m} z h))) = says-no _ (λ p. go (p .before))
+  no-padding b {i} f (both (byte x e) (both (byte y g) (byte {i = m} z h))) = says-no (λ p. go (p .before))
     where
       go : {k : ℕ} → Takes text (lit "0xy" then opt sp) i k → ⊥
       go (both (both (byte x′ e′) (both (byte y′ g′) (byte {i = n} z′ h′))) u) =
@@ -252,16 +225,16 @@ module _ (text : List ℕ) where
 module _ (text : List ℕ) where
   -- a mark, byte by byte
   pub mark-none-1 : (i b c : ℕ) (o : Bool) → Says o (Takes text (one (just 0x30)) i (i + 1)) → not o ≡ true → Says false (Takes text (row (0x30 ∷ b ∷ c ∷ [])) i (i + 3))
-  mark-none-1 i b c o s e = says-no _ (λ t. go t)
+  mark-none-1 i b c o s e = says-no (λ t. go t)
     where
       go : Takes text (row (0x30 ∷ b ∷ c ∷ [])) i (i + 3) → ⊥
-      go (both (byte x f) t) = clash (s .holds-true (byte x refl)) (not-true o e)
+      go (both (byte x f) t) = not-there s (not-true o e) x
 
   pub mark-none-2 : (i b c : ℕ) (o : Bool) → Says o (Takes text (one (just b)) (i + 1) (i + 1 + 1)) → not o ≡ true → Says false (Takes text (row (0x30 ∷ b ∷ c ∷ [])) i (i + 3))
-  mark-none-2 i b c o s e = says-no _ (λ t. go t)
+  mark-none-2 i b c o s e = says-no (λ t. go t)
     where
       go : Takes text (row (0x30 ∷ b ∷ c ∷ [])) i (i + 3) → ⊥
-      go (both (byte x f) (both (byte y g) t)) = clash (s .holds-true (starting f (byte y (ap (λ (k : ℕ). k + 1) (sym f))))) (not-true o e)
+      go (both (byte x f) (both (byte y g) t)) = not-there s (not-true o e) (move-at text (just b) f y)
 
   pub mark-says : (i b c : ℕ) (p q o : Bool) → Says p (Takes text (one (just 0x30)) i (i + 1)) → not p ≡ false → Says q (Takes text (one (just b)) (i + 1) (i + 1 + 1)) → not q ≡ false → Says o (Takes text (one (just c)) (i + 2) (i + 2 + 1)) → Says o (Takes text (row (0x30 ∷ b ∷ c ∷ [])) i (i + 3))
   mark-says i b c p q o s d t e u =
@@ -298,23 +271,23 @@ module _ (text : List ℕ) where
 
   pub bits-binary : {i j s : ℕ} → Mark 0x62 0x62 i → TailOf text Binary 1 (i + 3) j s → Longest text bits i j
   unfolding covers apart apartSpan
-  bits-binary t d = first-of text (part 0x62 0x62 1 Binary) (part 0x62 0x6F 1 Octal) (part 0x62 0x78 1 Hexadecimal) refl refl (whole 0x62 0x62 0 Binary clear-binary t d)
+  bits-binary t d = first-of text (part 0x62 0x62 1 Binary) (part 0x62 0x6F 1 Octal) (part 0x62 0x78 1 Hexadecimal) refl refl (whole 0x62 0x62 0 Binary (clear Two) t d)
 
   pub bits-octal : {i j s : ℕ} → Mark 0x62 0x6F i → TailOf text Octal 1 (i + 3) j s → Longest text bits i j
   unfolding covers apart apartSpan
-  bits-octal t d = second-of text (part 0x62 0x62 1 Binary) (part 0x62 0x6F 1 Octal) (part 0x62 0x78 1 Hexadecimal) refl refl (whole 0x62 0x6F 0 Octal clear-octal t d)
+  bits-octal t d = second-of text (part 0x62 0x62 1 Binary) (part 0x62 0x6F 1 Octal) (part 0x62 0x78 1 Hexadecimal) refl refl (whole 0x62 0x6F 0 Octal (clear Eight) t d)
 
   pub bits-hexadecimal : {i j s : ℕ} → Mark 0x62 0x78 i → TailOf text Hexadecimal 1 (i + 3) j s → Longest text bits i j
   unfolding covers apart apartSpan
-  bits-hexadecimal t d = third-of text (part 0x62 0x62 1 Binary) (part 0x62 0x6F 1 Octal) (part 0x62 0x78 1 Hexadecimal) refl refl (whole 0x62 0x78 0 Hexadecimal clear-hexadecimal t d)
+  bits-hexadecimal t d = third-of text (part 0x62 0x62 1 Binary) (part 0x62 0x6F 1 Octal) (part 0x62 0x78 1 Hexadecimal) refl refl (whole 0x62 0x78 0 Hexadecimal (clear Sixteen) t d)
 
   pub blob-binary : {i j s : ℕ} → Mark 0x78 0x62 i → TailOf text Binary 8 (i + 3) j s → Longest text blob i j × Says false (BadPadding text i j)
   unfolding covers apart apartSpan
-  blob-binary t d = (first-of text (part 0x78 0x62 8 Binary) (part 0x78 0x78 2 Hexadecimal) (part 0x78 0x79 4 Base64) refl refl (whole 0x78 0x62 7 Binary clear-binary t d), no-padding text 0x62 (λ e. omega (arith, e)) t)
+  blob-binary t d = (first-of text (part 0x78 0x62 8 Binary) (part 0x78 0x78 2 Hexadecimal) (part 0x78 0x79 4 Base64) refl refl (whole 0x78 0x62 7 Binary (clear Two) t d), no-padding text 0x62 (λ e. omega (arith, e)) t)
 
   pub blob-hexadecimal : {i j s : ℕ} → Mark 0x78 0x78 i → TailOf text Hexadecimal 2 (i + 3) j s → Longest text blob i j × Says false (BadPadding text i j)
   unfolding covers apart apartSpan
-  blob-hexadecimal t d = (second-of text (part 0x78 0x62 8 Binary) (part 0x78 0x78 2 Hexadecimal) (part 0x78 0x79 4 Base64) refl refl (whole 0x78 0x78 1 Hexadecimal clear-hexadecimal t d), no-padding text 0x78 (λ e. omega (arith, e)) t)
+  blob-hexadecimal t d = (second-of text (part 0x78 0x62 8 Binary) (part 0x78 0x78 2 Hexadecimal) (part 0x78 0x79 4 Base64) refl refl (whole 0x78 0x78 1 Hexadecimal (clear Sixteen) t d), no-padding text 0x78 (λ e. omega (arith, e)) t)
 
   pub blob-base64 : {i j s : ℕ} → Mark 0x78 0x79 i → TailOf text Base64 4 (i + 3) j s → Longest text blob i j × Says (eqb s 2) (BadPadding text i j)
   unfolding covers apart apartSpan

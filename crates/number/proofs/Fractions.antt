@@ -3,19 +3,19 @@ use mathlib.Core.Path.{_≡_, refl, sym, ap, subst, subst⁻¹, _∙_}
 use mathlib.Core.Logic.{_⊎_, inl, inr, ⊎-elim}
 use mathlib.Core.Bool.{Bool, true, false, not, _||_}
 use mathlib.Core.List.{List}
-use Prim.Native.Nat.{ℕ, _+_, _≤_, _<_, min}
+use Prim.Native.Nat.{ℕ, _+_, _≤_, _<_}
 use native.Mathlib.Decide.{decLe}
 use native.Mathlib.Nat.{le-antisymm, le-of-lt}
 use native.Mathlib.Omega.{arith}
-use lib.Dec.{eqb, ltb}
-use lib.ListN.{length, getD}
-use borrow.Author.Tests.{ltb-true, lt-ltb, eqb-true, eq-eqb, not-true, not-false}
+use lib.Dec.{ltb}
+use lib.ListN.{length}
+use borrow.Author.Tests.{ltb-true, lt-ltb, eqb-true, eq-eqb, not-true}
 use Rattle.rules.specs.Test.{Says}
 use Rattle.rules.specs.Class.{just}
-use Rattle.rules.specs.Rule.{Rule, one, _then_, opt, At, Takes, nothing, both, left, right, Longest, Fails}
-use Rattle.rules.proofs.Bools.{clash, or-cases, or-left, or-right}
-use Rattle.rules.proofs.Matches.{byte-at, one-at, starting, forward, inside}
-use Rattle.rules.proofs.Ways.{end-takes}
+use Rattle.rules.specs.Rule.{one, _then_, opt, At, Takes, nothing, both, left, right, Longest, Fails}
+use Rattle.rules.proofs.Bools.{or-cases, or-left, or-right}
+use Rattle.rules.proofs.Matches.{starting, forward, inside, move-at, fails-first}
+use Rattle.rules.proofs.Tests.{says-no, there, not-there}
 use Rattle.lexicon.specs.declared.Base.{Base}
 use Rattle.lexicon.specs.declared.Found as Answer
 use Rattle.lexicon.specs.declared.Literal.{Literal}
@@ -23,21 +23,19 @@ use Rattle.lexicon.specs.declared.Literal.the-variants as Literal
 use Rattle.lexicon.specs.Bytes.{digits, decimal, radix}
 use Rattle.lexicon.specs.Space.{Skips}
 use Rattle.lexicon.specs.Found.{Finds, Judges}
-use Rattle.lexicon.specs.Literals.{unit, integer, spaced, significand, power, fraction}
+use Rattle.lexicon.specs.Literals.{integer, spaced, significand, power, fraction}
 use Rattle.lexicon.specs.Values.{Number, OfBase, value}
-use Rattle.lexicon.specs.Bad.{ZeroDenominator, SmallRadix}
 use Rattle.lexicon.proofs.Spaces.{skips-same, Ahead, ahead-apart}
 use Rattle.lexicon.proofs.Groups.{digits-unit, digits-most}
-use Rattle.lexicon.proofs.Numbers.{Numeral, SomeNumeral, clear, numeral, numeral-at, number-same, valued, to-nonsigned, to-base}
+use Rattle.lexicon.proofs.Numbers.{SomeNumeral, clear, numeral, numeral-at, number-same, valued, to-nonsigned, to-base}
 use Rattle.lexicon.proofs.Integers.{Start, of-integer, to-integer, decimal-blank}
 use Rattle.lexicon.proofs.Fractions.{Significand, pointed, divided, Symbol, of-spaced, to-spaced, symbol-ahead, symbol-from, stops, some, ends-same, ahead-most, of-significand, to-significand, significand-start, align-point, align-ratio, behind-symbol, significand-cut, point-apart, slash-apart, star-apart, point-slash}
-use Rattle.lexicon.proofs.Powers.{Found, SmallPower, exponent, symbol, no-caret, no-exponent, whole-exponent, no-star, no-radix, no-power, whole-power, radix-is, small-power, power-ahead}
-use Rattle.number.specs.Tally.{limit}
+use Rattle.lexicon.proofs.Powers.{Found, SmallPower, exponent, no-caret, no-exponent, whole-exponent, no-star, no-radix, no-power, whole-power, radix-is, small-power, power-ahead}
+use Rattle.text.proofs.Searches.{fails-end}
 use Rattle.number.specs.declared.integer.Number as Numbers
 use Rattle.number.specs.Number.{IsNumber, NoNumber, OfBase as OfBaseAnswer}
 use Rattle.number.specs.Fraction.{PointDigits, NoDigits, Pointed, Denominator, NoDenominator, Divided, ZeroRatio, BadFraction}
 use Rattle.number.proofs.Integers.{some-number}
-use Rattle.number.proofs.Units.{says-no}
 
 module _ (text : List ℕ) where
   -- ---- a symbol behind dividing space
@@ -46,11 +44,11 @@ module _ (text : List ℕ) where
   Byte b m = Takes text (one (just b)) m (m + 1)
 
   pub found : (b i m p : ℕ) (o : Bool) → Skips text i m → Says o (Byte b m) → o ≡ true → Skips text (m + 1) p → Found text b i p
-  found b i m p o s t e r = record { place = m; skipped = s; stands = byte-at (t .true-holds e); behind = r }
+  found b i m p o s t e r = record { place = m; skipped = s; stands = there t e; behind = r }
 
   pub not-ahead : (b i m : ℕ) (o : Bool) → Skips text i m → Says o (Byte b m) → o ≡ false → Ahead text (just b) i → ⊥
   not-ahead b i m o s t e a =
-      clash (t .holds-true (one-at (subst (λ (x : ℕ). At text (just b) x) (skips-same (a .skipped) s) (a .stands)))) e
+      not-there t e (move-at text (just b) (skips-same (a .skipped) s) (a .stands))
 
   -- ---- the exponent
 
@@ -127,7 +125,7 @@ module _ (text : List ℕ) where
             takes = to-significand text st (pointed (n .is) (record { place = m; skipped = s; stands = x; rest = d .skipped .takes }) (d .row .row .digits-are));
             most = λ t. digits-most text 0 (digits b) (clear b) (d .row .row .digits-are) (d .row .ended) (align-point text (n .is) s x (d .skipped) (of-significand text st t) .1);
           },
-          says-no _ no-zero,
+          says-no no-zero,
         )
 
       -- behind a slash
@@ -247,13 +245,10 @@ module _ (text : List ℕ) where
       let w = fraction-power (l .0) (l .1) (p .0) (p .1) in (w .0, subst (λ (x : Bool). Says x (BadFraction text i k)) (ap (λ (x : Bool). x || q) e) (w .1))
 
   pub fraction-beyond : (i : ℕ) → length text < i → Fails text fraction i
-  fraction-beyond i h = record { none = λ t. end-takes text fraction refl (le-of-lt h) t }
+  fraction-beyond i h = fails-end refl (le-of-lt h)
 
   pub fraction-none : {i : ℕ} → Fails text significand i → Fails text fraction i
-  fraction-none {i} f = record { none = go }
-    where
-      go : {k : ℕ} → Takes text fraction i k → ⊥
-      go (both t u) = f .none t
+  fraction-none f = fails-first f
 
   -- ---- what the searches answered
 
@@ -266,24 +261,12 @@ module _ (text : List ℕ) where
 
   pub point-answer : {b : Base} {i g e v m : ℕ} (o : Bool) → Start text i g → IsNumber text b g e v → Skips text e m → Says o (Byte 0x2E m) → o ≡ true → (r : Literal) → Pointed text b (m + 1) r → Judges text significand (ZeroRatio text) i r
   point-answer {i = i} o st n s x y (Literal.At j z) d =
-      let w = point-whole st n s (byte-at (x .true-holds y)) (d .1) in (w .0, subst⁻¹ (λ (q : Bool). Says q (ZeroRatio text i j)) (d .0) (w .1))
-  point-answer o st n s x y Literal.Nothing d = point-none st n s (byte-at (x .true-holds y)) d
+      let w = point-whole st n s (there x y) (d .1) in (w .0, subst⁻¹ (λ (q : Bool). Says q (ZeroRatio text i j)) (d .0) (w .1))
+  point-answer o st n s x y Literal.Nothing d = point-none st n s (there x y) d
 
   pub ratio-answer : {b : Base} {i g e v m : ℕ} (o : Bool) → Start text i g → IsNumber text b g e v → Skips text e m → Says o (Byte 0x2F m) → o ≡ true → (r : Literal) → Divided text (m + 1) r → Judges text significand (ZeroRatio text) i r
-  ratio-answer o st n s x y (Literal.At j z) d = ratio-whole st n s (byte-at (x .true-holds y)) d
-  ratio-answer o st n s x y Literal.Nothing d = ratio-none st n s (byte-at (x .true-holds y)) d
-
-  pub judged-at : (r : Rule) (B : ℕ → ℕ → Type 0) (i j : ℕ) (b : Bool) (a : Literal) → Judges text r B i a → a ≡ Literal.At j b → Longest text r i j × Says b (B i j)
-  judged-at r B i j b a d e = subst (λ (x : Literal). Judges text r B i x) e d
-
-  pub judged-none : (r : Rule) (B : ℕ → ℕ → Type 0) (i : ℕ) (a : Literal) → Judges text r B i a → a ≡ Literal.Nothing → Fails text r i
-  judged-none r B i a d e = subst (λ (x : Literal). Judges text r B i x) e d
-
-  pub found-at : (r : Rule) (i j : ℕ) (a : Answer.Found) → Finds text r i a → a ≡ Answer.the-variants.At j → Longest text r i j
-  found-at r i j a d e = subst (λ (x : Answer.Found). Finds text r i x) e d
-
-  pub found-none : (r : Rule) (i : ℕ) (a : Answer.Found) → Finds text r i a → a ≡ Answer.the-variants.Nothing → Fails text r i
-  found-none r i a d e = subst (λ (x : Answer.Found). Finds text r i x) e d
+  ratio-answer o st n s x y (Literal.At j z) d = ratio-whole st n s (there x y) d
+  ratio-answer o st n s x y Literal.Nothing d = ratio-none st n s (there x y) d
 
   -- ---- bounds
 
@@ -291,7 +274,7 @@ module _ (text : List ℕ) where
   skip-within s h = inside (s .takes) h
 
   pub sign-within : (b m : ℕ) (o : Bool) → Says o (Byte b m) → o ≡ true → m + 1 ≤ length text
-  sign-within b m o s e = let a = byte-at (s .true-holds e) .0 in omega arith
+  sign-within b m o s e = let a = there s e .0 in omega arith
 
   pub number-within : {b : Base} {i j v : ℕ} → IsNumber text b i j v → i ≤ length text → j ≤ length text
   number-within n h = inside (to-base text (n .is)) h

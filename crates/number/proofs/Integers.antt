@@ -1,15 +1,15 @@
 -- The Integer's longest match, by its number's. Assumes nothing.
 use mathlib.Core.Path.{_≡_, refl, subst}
 use mathlib.Core.List.{List}
-use Prim.Native.Nat.{ℕ, _≤_, _<_}
+use Prim.Native.Nat.{ℕ, _<_}
 use native.Mathlib.Nat.{le-of-lt}
 use lib.ListN.{length}
 use Rattle.rules.specs.Rule.{Longest, Fails}
-use Rattle.rules.proofs.Ways.{end-takes}
 use Rattle.lexicon.specs.declared.Base.{Base}
 use Rattle.lexicon.specs.Literals.{integer}
 use Rattle.lexicon.proofs.Numbers.{SomeNumeral}
 use Rattle.lexicon.proofs.Integers.{Start, of-integer, to-integer}
+use Rattle.text.proofs.Searches.{fails-end}
 use Rattle.number.specs.declared.integer.Number.{Number}
 use Rattle.number.specs.declared.integer.Number.the-variants as Number
 use Rattle.number.specs.Number.{IsNumber, NoNumber, Numbered}
@@ -26,7 +26,7 @@ module _ (text : List ℕ) where
   number-missing i r n e = subst (λ (x : Number). Numbered text i x) e n
 
   pub integer-beyond : (i : ℕ) → length text < i → Fails text integer i
-  integer-beyond i h = record { none = λ t. end-takes text integer refl (le-of-lt h) t }
+  integer-beyond i h = fails-end refl (le-of-lt h)
 
   pub integer-longest : {b : Base} {i g j v : ℕ} → Start text i g → IsNumber text b g j v → Longest text integer i j
   integer-longest s n = record { takes = to-integer text s (some-number n); most = λ t. n .most (of-integer text s t) }

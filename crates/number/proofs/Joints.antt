@@ -1,16 +1,16 @@
 -- The next unit, by what stands between. Assumes nothing.
-use mathlib.Core.Path.{_≡_, refl, subst, sym}
+use mathlib.Core.Path.{_≡_, refl, sym}
 use mathlib.Core.Bool.{Bool, true, false}
 use mathlib.Core.List.{List}
 use Prim.Native.Nat.{ℕ, _+_, _≤_, _<_}
 use native.Mathlib.Nat.{add-zero}
 use lib.ListN.{length, getD}
 use Rattle.rules.specs.Test.{Says}
-use Rattle.rules.specs.Class.{Class, In, just, anyOf}
-use Rattle.rules.specs.Rule.{opt, At, Takes, nothing, byte, both, left, right}
-use Rattle.rules.proofs.Bools.{clash}
-use Rattle.rules.proofs.Classes.{in-just, just-is}
-use Rattle.rules.proofs.Matches.{starting, ending}
+use Rattle.rules.specs.Class.{anyOf}
+use Rattle.rules.specs.Rule.{opt, At, Takes, nothing, byte, left, right}
+use Rattle.rules.proofs.Classes.{is-just, just-is}
+use Rattle.rules.proofs.Matches.{starting, ending, move-at}
+use Rattle.rules.proofs.Tests.{refuted}
 use Rattle.rules.proofs.Ways.{never-takes, end-takes}
 use Rattle.lexicon.specs.declared.Set.{Set}
 use Rattle.lexicon.specs.Bytes.{members}
@@ -25,21 +25,21 @@ module _ (text : List ℕ) (set : Set) (n at : ℕ) where
   Unit i = Takes text (unit n (members set)) i (i + n)
 
   no-unit : (o : Bool) (i : ℕ) → Says o (Unit i) → o ≡ false → (j : ℕ) → Takes text (unit n (members set)) i j → ⊥
-  no-unit o i s e j u = clash (s .holds-true (ending (unit-end n (members set) u) u)) e
+  no-unit o i s e j u = refuted s e (ending (unit-end n (members set) u) u)
 
   widen : {i j : ℕ} → Takes text (opt sp) i j → Takes text (opt joint) i j
   widen (left t) = left (right t)
   widen (right t) = right t
 
   first-byte : 1 ≤ n → {i j : ℕ} → Takes text (unit n (members set)) i j → At text (members set) i
-  first-byte h {i} u = subst (λ (k : ℕ). At text (members set) k) (add-zero i) (unit-byte n (members set) i u 0 h)
+  first-byte h {i} u = move-at text (members set) (add-zero i) (unit-byte n (members set) i u 0 h)
 
   pub joins-here : (o : Bool) → Says o (Unit at) → o ≡ true → Joins text set n at at
   joins-here o s e = record { joined = right (nothing refl); next = s .true-holds e }
 
   pub joins-line : (o : Bool) → at < length text → getD text at 0 ≡ 0x5F → Says o (Unit (at + 1)) → o ≡ true → Joins text set n at (at + 1)
   joins-line o h b s e =
-      record { joined = left (left (byte (h, subst (In (just 0x5F)) (sym b) (in-just 0x5F)) refl)); next = s .true-holds e }
+      record { joined = left (left (byte (h, is-just 0x5F (getD text at 0) b) refl)); next = s .true-holds e }
 
   pub joins-space : (o : Bool) (m : ℕ) → Skips text at m → Says o (Unit m) → o ≡ true → Joins text set n at m
   joins-space o m k s e = record { joined = widen (k .takes); next = s .true-holds e }
@@ -55,7 +55,7 @@ module _ (text : List ℕ) (set : Set) (n at : ℕ) where
   ends-line o p s e h b t f = record { stops = λ x. go (x .joined) (x .next) }
     where
       line : At text (anyOf "_") at
-      line = (h, subst (In (just 0x5F)) (sym b) (in-just 0x5F))
+      line = (h, is-just 0x5F (getD text at 0) b)
 
       go : {k j : ℕ} → Takes text (opt joint) at k → Takes text (unit n (members set)) k j → ⊥
       go {j = j} (right (nothing e′)) u = no-unit o at s e j (starting (sym e′) u)

@@ -1,19 +1,14 @@
 -- The marks of the bases, and the numbers behind them. Assumes nothing.
-use mathlib.Core.Path.{_≡_, refl, sym, ap, subst, subst⁻¹, _∙_}
+use mathlib.Core.Path.{_≡_, refl, sym, subst, subst⁻¹, _∙_}
 use mathlib.Core.Logic.{⊎-elim}
-use mathlib.Core.Bool.{Bool, true, false}
-use mathlib.Core.List.{List, [], _∷_}
-use Prim.Native.Nat.{ℕ, _+_, _-_, _*_, _≤_, _<_, min}
-use native.Mathlib.Decide.{decLe}
-use native.Mathlib.Nat.{mul-le-mul, le-refl}
+use mathlib.Core.List.{List}
+use Prim.Native.Nat.{ℕ, _+_, _-_, _≤_, _<_, min}
 use native.Mathlib.Omega.{arith}
-use borrow.Author.Tests.{ne-eqb}
 use lib.ListN.{length, getD}
-use lib.Dec.{eqb}
 use Rattle.rules.specs.Class.{In, just, has}
-use Rattle.rules.specs.Rule.{Takes, nothing, Fails, At, opt}
-use Rattle.rules.proofs.Classes.{in-just, just-is, in-cons}
-use Rattle.rules.proofs.Matches.{forward, inside, starting}
+use Rattle.rules.specs.Rule.{Takes, Fails, At, opt}
+use Rattle.rules.proofs.Classes.{is-just, just-is, in-cons}
+use Rattle.rules.proofs.Matches.{forward, starting}
 use Rattle.lexicon.specs.declared.Base.{Base}
 use Rattle.lexicon.specs.declared.Base.the-variants.{Two, Eight, Ten, Sixteen}
 use Rattle.lexicon.specs.declared.Set.{Set}
@@ -21,15 +16,16 @@ use Rattle.lexicon.specs.Bytes.{members, digits, digitSet, radix, decimal}
 use Rattle.lexicon.specs.Space.{sp, Skips}
 use Rattle.lexicon.specs.Literals.{unit, plusMinus}
 use Rattle.lexicon.proofs.Integers.{Start, behind, unsigned}
-use Rattle.lexicon.specs.Values.{Digits, value, valueFrom, digit}
+use Rattle.lexicon.specs.Values.{Digits, value, limit}
+use Rattle.lexicon.proofs.Limits.{limited-value}
 use Rattle.lexicon.proofs.Spaces.{skips-same, landed}
-use Rattle.lexicon.proofs.Groups.{Clear, Ended, digits-most, digits-forward, digits-unit, digits-at}
-use Rattle.lexicon.proofs.Numbers.{letter, Numeral, marked, bare, SomeNumeral, clear, in-marks, bare-short, aligned, same-base}
+use Rattle.lexicon.proofs.Groups.{Clear, digits-most, digits-forward, digits-unit, digits-at}
+use Rattle.lexicon.proofs.Numbers.{letter, Numeral, marked, bare, clear, in-marks, bare-short, aligned, same-base}
 use Rattle.number.specs.declared.integer.Mark.{Mark}
 use Rattle.number.specs.declared.integer.Mark.the-variants as Mark
 use Rattle.number.specs.declared.integer.Number.{Number}
 use Rattle.number.specs.declared.integer.Number.the-variants as Number
-use Rattle.number.specs.Tally.{limit, radixOf, limitedOf, tallyOf, tallies}
+use Rattle.number.specs.Tally.{tallyOf, tallies}
 use Rattle.number.specs.declared.groups.Groups.{Groups}
 use Rattle.number.specs.declared.groups.Groups.the-variants as Groups
 use Rattle.number.specs.Groups.{Row, Grouped}
@@ -41,8 +37,8 @@ module _ (text : List ℕ) (i : ℕ) where
   pub has-mark : (b : Base) → 2 ≤ length text - i → getD text i 0 ≡ 0x30 → getD text (i + 1) 0 ≡ letter b → HasMark text b i
   has-mark b h z l =
       record {
-        zero = (omega arith, subst (In (just 0x30)) (sym z) (in-just 0x30));
-        letter-is = (omega arith, subst (In (just (letter b))) (sym l) (in-just (letter b)));
+        zero = (omega arith, is-just 0x30 (getD text i 0) z);
+        letter-is = (omega arith, is-just (letter b) (getD text (i + 1) 0) l);
       }
 
   pub short-mark : length text - i < 2 → NoMark text i
@@ -65,48 +61,18 @@ module _ (text : List ℕ) (i : ℕ) where
 
 -- ---- the sum of a base's digits is its value, up to the limit
 
-radix-digits : (b : Base) → radixOf (digitSet b) ≡ radix b
-radix-digits Two = refl
-radix-digits Eight = refl
-radix-digits Ten = refl
-radix-digits Sixteen = refl
-
-radix-some : (b : Base) → 1 ≤ radix b
-radix-some Two = omega arith
-radix-some Eight = omega arith
-radix-some Ten = omega arith
-radix-some Sixteen = omega arith
-
--- a limited number times the radix is as good as the number
-limit-step : (r v d : ℕ) → 1 ≤ r → min limit (min limit v * r + d) ≡ min limit (v * r + d)
-limit-step r v d h = go (decLe v limit)
-  where
-    go : Dec (v ≤ limit) → min limit (min limit v * r + d) ≡ min limit (v * r + d)
-    go (yes k) = let e : min limit v ≡ v = omega arith in ap (λ (x : ℕ). min limit (x * r + d)) e
-    go (no k) =
-        let e : min limit v ≡ limit = omega arith in
-        let l : limit ≤ v = omega arith in
-        let p : limit * 1 ≤ limit * r = mul-le-mul (le-refl limit) h in
-        let q : limit * 1 ≤ v * r = mul-le-mul l h in
-        ap (λ (x : ℕ). min limit (x * r + d)) e ∙ omega arith
-
-pub tallies-value : (b : Base) (v : ℕ) (ds : List ℕ) → tallies (digitSet b) (min limit v) ds ≡ min limit (valueFrom (radix b) v ds)
-unfolding tallies tallyOf limitedOf
-tallies-value b v [] = refl
-tallies-value b v (d ∷ ds) =
-    ap (λ (s : ℕ). tallies (digitSet b) s ds) (step b) ∙ tallies-value b (v * radix b + digit d) ds
-  where
-    step : (b : Base) → tallyOf (digitSet b) (min limit v) d ≡ min limit (v * radix b + digit d)
-    step Two = limit-step 2 v (digit d) (omega arith)
-    step Eight = limit-step 8 v (digit d) (omega arith)
-    step Ten = limit-step 10 v (digit d) (omega arith)
-    step Sixteen = limit-step 16 v (digit d) (omega arith)
+pub tallies-value : (b : Base) (ds : List ℕ) → tallies (digitSet b) 0 ds ≡ min limit (value (radix b) ds)
+unfolding tallies tallyOf
+tallies-value Two ds = limited-value 2 0 ds
+tallies-value Eight ds = limited-value 8 0 ds
+tallies-value Ten ds = limited-value 10 0 ds
+tallies-value Sixteen ds = limited-value 16 0 ds
 
 -- ---- the number
 
 module _ (text : List ℕ) (i : ℕ) where
   row-value : (b : Base) {g j v : ℕ} (r : Row text (digitSet b) 1 g j v) → v ≡ min limit (value (radix b) (r .row .bytes))
-  row-value b r = r .row .sum-is ∙ tallies-value b 0 (r .row .bytes)
+  row-value b r = r .row .sum-is ∙ tallies-value b (r .row .bytes)
 
   -- digits found behind a mark
   pub marked-number : (b : Base) {g j v : ℕ} → HasMark text b i → Skips text (i + 2) g → Row text (digitSet b) 1 g j v → IsNumber text b i j v

@@ -1,32 +1,31 @@
 -- A row of units, one unit more at a time. Assumes nothing.
-use mathlib.Core.Path.{_≡_, refl, sym, ap, subst, _∙_}
+use mathlib.Core.Path.{_≡_, sym, ap, subst, _∙_}
 use mathlib.Core.Bool.{Bool, true, false, not}
 use mathlib.Core.List.{List}
-use Prim.Native.Nat.{ℕ, _+_, _≤_, _<_}
-use native.Mathlib.Omega.{arith}
+use Prim.Native.Nat.{ℕ, _+_, _≤_}
 use lib.ListN.{length}
-use borrow.Author.Tests.{not-true, not-false}
+use borrow.Author.Tests.{not-true}
 use Rattle.rules.specs.Test.{Says}
 use Rattle.rules.specs.Rule.{Takes, Fails}
-use Rattle.rules.proofs.Bools.{clash}
 use Rattle.rules.proofs.Matches.{forward, ending, inside}
+use Rattle.rules.proofs.Tests.{shown, refuted}
 use Rattle.lexicon.specs.declared.Set.{Set}
 use Rattle.lexicon.specs.declared.Found.{Found}
 use Rattle.lexicon.specs.declared.Found.the-variants.{At, Nothing}
 use Rattle.lexicon.specs.Bytes.{members}
 use Rattle.lexicon.specs.Literals.{unit}
 use Rattle.lexicon.specs.Values.{read, lastUnit}
-use Rattle.lexicon.proofs.Groups.{Ended, unit-end, snoc-digits}
+use Rattle.lexicon.proofs.Groups.{unit-end, snoc-digits}
 use Rattle.number.specs.Groups.{Summed, Row, Joins, Joined}
 use Rattle.number.specs.Tally.{tallies}
 use Rattle.number.proofs.Sums.{tallies-append}
 
 module _ (text : List ℕ) (set : Set) (n i : ℕ) where
   pub no-row : (o : Bool) → Says o (Takes text (unit n (members set)) i (i + n)) → not o ≡ true → Fails text (unit n (members set)) i
-  no-row o s e = record { none = λ u. clash (s .holds-true (ending (unit-end n (members set) u) u)) (not-true o e) }
+  no-row o s e = record { none = λ u. refuted s (not-true o e) (ending (unit-end n (members set) u) u) }
 
   pub first-unit : (o : Bool) (s : ℕ) → Says o (Takes text (unit n (members set)) i (i + n)) → not o ≡ false → s ≡ tallies set 0 (read text i n) → Summed text set n i (i + n) s
-  first-unit o s t e f = record { bytes = read text i n; digits-are = lastUnit (t .true-holds (not-false o e)); sum-is = f }
+  first-unit o s t e f = record { bytes = read text i n; digits-are = lastUnit (shown t e); sum-is = f }
 
   -- what the search for the next unit answered
   pub joins : (j m : ℕ) (r : Found) → Joined text set n j r → r ≡ At m → Joins text set n j m
@@ -47,4 +46,4 @@ module _ (text : List ℕ) (set : Set) (n i : ℕ) where
   whole-row j s r d k e = record { row = d; ended = subst (λ (x : Found). Joined text set n j x) e k }
 
   pub first-within : (o : Bool) → Says o (Takes text (unit n (members set)) i (i + n)) → not o ≡ false → i ≤ length text → i + n ≤ length text
-  first-within o s e h = inside (s .true-holds (not-false o e)) h
+  first-within o s e h = inside (shown s e) h

@@ -8,13 +8,12 @@ use Rattle.lexicon.specs.declared.Base.{Base}
 use Rattle.lexicon.specs.Bytes.{digits, digitSet, radix}
 use Rattle.lexicon.specs.Space.{sp}
 use Rattle.lexicon.specs.Literals.{unit}
-use Rattle.lexicon.specs.Values.{Digits, value}
+use Rattle.lexicon.specs.Values.{Digits, value, limit}
 use Rattle.lexicon.proofs.Numbers.{letter, Numeral, SomeNumeral}
 use Rattle.number.specs.declared.integer.Mark as Mark
 use Rattle.number.specs.declared.integer.Mark.{Mark}
 use Rattle.number.specs.declared.integer.Number as Number
 use Rattle.number.specs.declared.integer.Number.{Number}
-use Rattle.number.specs.Tally.{limit}
 use Rattle.number.specs.Groups.{Row}
 
 -- a mark of the base stands at i

@@ -21,7 +21,7 @@ ghost use Rattle.number.specs.Blob.{TailOf};
 // The end of the digits behind a mark, and the sum over them.
 pub struct Tail {
     pub end: usize,
-    pub sum: u64,
+    pub sum: u32,
 }
 
 // Whether `0` and two letters stand at a place.

@@ -13,7 +13,7 @@ ghost use Rattle.number.specs.Groups.{Grouped, Joined};
 
 // The end of the longest row of groups and the sum over its digits.
 pub enum Groups {
-    At { end: usize, sum: u64 },
+    At { end: usize, sum: u32 },
     Nothing,
 }
 

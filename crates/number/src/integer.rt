@@ -3,11 +3,9 @@ use crate::groups::Groups;
 use crate::groups::longest_row;
 use lexicon::Base;
 use lexicon::Found;
-use lexicon::Set;
-ghost use mathlib.Core.Path.{_≡_};
+use text::digit::digit_set;
 ghost use Prim.Native.Nat.{_≤_};
 ghost use lib.ListN.{length};
-ghost use Rattle.lexicon.specs.Bytes.{digitSet};
 ghost use Rattle.lexicon.specs.Found.{Finds};
 ghost use Rattle.lexicon.specs.Literals.{integer as integerOf};
 ghost use Rattle.lexicon.proofs.Integers.{Start};
@@ -21,7 +19,7 @@ enum Mark {
 
 // A number's base, the place behind it, and its value up to the limit.
 pub enum Number {
-    At { base: Base, end: usize, value: u64 },
+    At { base: Base, end: usize, value: u32 },
     Nothing,
 }
 
@@ -43,17 +41,6 @@ fn mark_at(text: &[u8], at: usize) -> Mark
         b'd' => Mark::Of(Base::Ten),
         b'x' => Mark::Of(Base::Sixteen),
         _ => Mark::Nothing,
-    }
-}
-
-fn digit_set(base: Base) -> Set
-    ensures { λ r. ⌜ r ≡ digitSet base ⌝ }
-{
-    match base {
-        Base::Two => Set::Binary,
-        Base::Eight => Set::Octal,
-        Base::Ten => Set::Decimal,
-        Base::Sixteen => Set::Hexadecimal,
     }
 }
 

@@ -1,9 +1,9 @@
 -- Disjoint classes: the test that no byte is in both, and what it tells. Assumes nothing.
-use mathlib.Core.Path.{_≡_, refl}
+use mathlib.Core.Path.{_≡_, subst, sym}
 use mathlib.Core.Logic.{_⊎_, inl, inr, ⊎-elim}
 use mathlib.Core.Bool.{Bool, true, false, _&&_, _||_, false≢true}
-use mathlib.Core.List.{List, [], _∷_}
-use Prim.Native.Nat.{ℕ, _≤_, _<_}
+use mathlib.Core.List.{[], _∷_}
+use Prim.Native.Nat.{ℕ, _≤_}
 use native.Mathlib.Omega.{arith}
 use borrow.Author.Tests.{leb-true, ltb-true, le-leb}
 use lib.Dec.{leb, ltb}
@@ -47,6 +47,9 @@ apart-no (s ∷ c) d b a i j =
 pub in-just : (b : ℕ) → In (just b) b
 unfolding has
 in-just b = or-left _ _ (and-both (leb b b) (leb b b) (le-leb b b (omega arith)) (le-leb b b (omega arith)))
+
+pub is-just : (a b : ℕ) → b ≡ a → In (just a) b
+is-just a b e = subst (In (just a)) (sym e) (in-just a)
 
 -- and no other
 pub just-is : (a b : ℕ) → In (just a) b → b ≡ a

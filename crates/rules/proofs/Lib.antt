@@ -3,5 +3,7 @@ pub mod Bools
 pub mod Classes
 pub mod Chains
 pub mod Matches
+pub mod Tests
 pub mod Ways
 pub mod Plain
+pub mod Closed

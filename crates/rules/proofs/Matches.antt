@@ -1,11 +1,11 @@
 -- First laws of matching. Assumes nothing.
 use mathlib.Core.Path.{_≡_, refl, subst}
 use mathlib.Core.List.{List, [], _∷_}
-use Prim.Native.Nat.{ℕ, _+_, _≤_, _<_}
+use Prim.Native.Nat.{ℕ, _+_, _≤_}
 use native.Mathlib.Omega.{arith}
-use lib.ListN.{length, getD}
+use lib.ListN.{length}
 use Rattle.rules.specs.Class.{Class}
-use Rattle.rules.specs.Rule.{Rule, one, row, Takes, nothing, byte, both, left, right, stop, more, At}
+use Rattle.rules.specs.Rule.{Rule, one, _then_, row, Takes, nothing, byte, both, left, right, stop, more, At, Fails}
 
 module _ {text : List ℕ} where
   -- a match goes forward
@@ -45,8 +45,19 @@ module _ {text : List ℕ} where
   pub one-at : {c : Class} {i : ℕ} → At text c i → Takes text (one c) i (i + 1)
   one-at a = byte a refl
 
+  -- a sequence fails where its first part does
+  pub fails-first : {a b : Rule} {i : ℕ} → Fails text a i → Fails text (a then b) i
+  fails-first {a} {b} {i} f = record { none = go }
+    where
+      go : {j : ℕ} → Takes text (a then b) i j → ⊥
+      go (both t u) = f .none t
+
   -- a row of bytes ends where its length says
   pub row-end : (bs : List ℕ) {i j : ℕ} → Takes text (row bs) i j → j ≡ i + length bs
   row-end [] (nothing e) = omega arith
   row-end (b ∷ []) (byte a e) = omega arith
   row-end (b ∷ c ∷ bs) (both (byte a e) t) = let x = row-end (c ∷ bs) t in omega arith
+
+-- a byte at a place that is given in another way
+pub move-at : (text : List ℕ) (c : Class) {i j : ℕ} → i ≡ j → At text c i → At text c j
+move-at text c e a = subst (λ (x : ℕ). At text c x) e a

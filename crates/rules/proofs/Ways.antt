@@ -9,7 +9,7 @@ use Prim.Native.Nat.{ℕ, zero, suc, _+_, _≤_, _<_}
 use native.Mathlib.Omega.{arith}
 use lib.ListN.{length, getD}
 use Rattle.rules.specs.Class.{Class, In}
-use Rattle.rules.specs.Rule.{Rule, empty, one, _then_, _or_, many, Takes, nothing, byte, both, left, right, stop, more, At}
+use Rattle.rules.specs.Rule.{Rule, empty, one, _then_, _or_, many, Takes, nothing, byte, both, left, right, stop, more, At, Fails}
 use Rattle.rules.proofs.Bools.{and-left, and-right, and-both, or-cases, or-left, or-right, decide, clash, not-both}
 use Rattle.rules.proofs.Classes.{apart, apart-no, includes, includes-in}
 use Rattle.rules.proofs.Matches.{forward}
@@ -134,6 +134,10 @@ module _ (text : List ℕ) where
       go : Entered text r i j → ⊥
       go (inl x) = not-both (nullable r) (x .1) (and-left (not (nullable r)) _ e)
       go (inr t) = none-in d (ways r) i j (and-right (not (nullable r)) _ e) a t
+
+  -- no match where a byte stands that begins none
+  pub begins-none : (d : Class) (r : Rule) {i : ℕ} → never d r ≡ true → At text d i → Fails text r i
+  begins-none d r e a = record { none = λ t. never-takes d r e a t }
 
   -- where no byte stands, only a rule that takes none takes anything
   pub end-takes : (r : Rule) {i j : ℕ} → nullable r ≡ false → length text ≤ i → Takes text r i j → ⊥

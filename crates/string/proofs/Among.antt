@@ -2,7 +2,7 @@
 -- a byte at least. Assumes nothing.
 use mathlib.Core.Path.{_≡_, refl, subst, sym, _∙_}
 use mathlib.Core.Logic.{_⊎_, inl, inr, ⊎-elim}
-use mathlib.Core.Bool.{Bool, false, _||_, false≢true}
+use mathlib.Core.Bool.{Bool, false, _||_}
 use mathlib.Core.List.{List}
 use Prim.Native.Nat.{ℕ, _<_}
 use native.Mathlib.Omega.{arith}
@@ -10,6 +10,7 @@ use Rattle.rules.specs.Test.{Says}
 use Rattle.rules.specs.Rule.{Rule, many, Takes, stop, more, Among}
 use Rattle.rules.proofs.Bools.{or-cases, or-left, or-right}
 use Rattle.rules.proofs.Matches.{forward, starting}
+use Rattle.rules.proofs.Tests.{says-no}
 use Rattle.rules.proofs.Chains.{Single, move, snoc}
 
 -- every match takes a byte at least
@@ -56,7 +57,7 @@ module _ (text : List ℕ) (r : Rule) (P : ℕ → ℕ → Type 0) (single : Sin
 
   -- so a test for each gives a test for the whole
   pub none-said : (i : ℕ) → Says false (Among text r P i i)
-  none-said i = record { true-holds = λ e. absurd (false≢true e); holds-true = λ a. absurd (none-among a) }
+  none-said i = says-no none-among
 
   pub said :
       {i j k : ℕ} {b c : Bool} → Takes text (many r) i j → Takes text r j k → Says b (Among text r P i j) → Says c (P j k) →

@@ -1,50 +1,24 @@
 -- A character inside quotes is a well-formed sequence of bytes, narrowed. Assumes nothing.
 use mathlib.Core.Path.{_≡_, refl, subst}
 use mathlib.Core.Logic.{inl, inr, ⊎-elim}
-use mathlib.Core.Bool.{Bool, true, false, _&&_, false≢true}
+use mathlib.Core.Bool.{Bool, true, false}
 use mathlib.Core.List.{List, [], _∷_}
 use Prim.Native.Nat.{ℕ, _+_, _≤_, _<_}
 use native.Mathlib.Decide.{decLe, ℕ-discrete}
 use native.Mathlib.Omega.{arith}
-use borrow.Author.Tests.{leb-true}
-use lib.Dec.{leb}
 use lib.ListN.{length, getD}
 use types.Run.{OneOf}
 use Rattle.rules.specs.Test.{Says}
-use Rattle.rules.specs.Class.{Class, _upto_, In, has, just}
+use Rattle.rules.specs.Class.{Class, _upto_, In, just}
 use Rattle.rules.specs.Rule.{Rule, one, Takes, byte, both, left, right, Longest, Fails}
-use Rattle.rules.proofs.Bools.{and-left, and-right, or-cases}
-use Rattle.rules.proofs.Classes.{apart, apartSpan}
+use Rattle.rules.proofs.Classes.{apart, apartSpan, includes, inSome, includes-in}
 use Rattle.rules.proofs.Matches.{byte-at, byte-end, ending}
 use Rattle.rules.proofs.Ways.{nullable, never, never-takes, end-takes}
 use Rattle.lexicon.specs.Literals.{plainByte, unescaped}
 use Rattle.lexicon.specs.Utf8.{range, beyond, sequence}
 use Rattle.text.proofs.Ranges.{in-first, in-later, low-in, in-high, byte-is}
 use Rattle.text.proofs.Searches.{fails}
-use Rattle.string.proofs.Answers.{refuted}
-
--- every byte of the class is from low to high
-unfoldable inside : ℕ → ℕ → Class → Bool
-inside low high [] = true
-inside low high (s ∷ c) = leb low (s .low) && (leb (s .high) high && inside low high c)
-
-inside-in : (low high : ℕ) (c : Class) (b : ℕ) → inside low high c ≡ true → In c b → (low ≤ b) × (b ≤ high)
-unfolding inside has
-inside-in low high [] b e i = absurd (false≢true i)
-inside-in low high (s ∷ c) b e i =
-    ⊎-elim
-    (λ x.
-    let l = leb-true (s .low) b (and-left (leb (s .low) b) _ x) in
-    let h = leb-true b (s .high) (and-right (leb (s .low) b) _ x) in
-    let m = leb-true low (s .low) (and-left (leb low (s .low)) _ e) in
-    let n = leb-true (s .high) high (and-left (leb (s .high) high) _ (and-right (leb low (s .low)) _ e)) in
-    (omega arith, omega arith))
-    (λ x. inside-in low high c b (and-right (leb (s .high) high) _ (and-right (leb low (s .low)) _ e)) x)
-    (or-cases (leb (s .low) b && leb b (s .high)) _ i)
-
-plain-ascii : inside 0x00 0x7F plainByte ≡ true
-unfolding inside
-plain-ascii = refl
+use Rattle.rules.proofs.Tests.{refuted}
 
 low-none : never (0x00 upto 0x1F ∷ []) unescaped ≡ true
 unfolding never apart apartSpan
@@ -95,20 +69,15 @@ module _ {text : List ℕ} where
       go (yes h) = absurd (end-takes text r n h t)
       go (no h) = omega (arith, h)
 
-  widen : (low high low′ high′ : ℕ) → low′ ≤ low → high ≤ high′ → {i j : ℕ} → Takes text (range low high) i j → Takes text (range low′ high′) i j
-  widen low high low′ high′ l h {i} (byte a e) =
-      let x = low-in low high (getD text i 0) (a .1) in
-      let y = in-high low high (getD text i 0) (a .1) in
-      byte (a .0, in-first low′ high′ [] (getD text i 0) (omega arith) (omega arith)) e
+  widen : (c d : Class) → includes c d ≡ true → {i j : ℕ} → Takes text (one c) i j → Takes text (one d) i j
+  widen c d w {i} (byte a e) = byte (a .0, includes-in c d (getD text i 0) w (a .1)) e
 
   -- a character is a sequence
   to-sequence : {i j : ℕ} → Takes text unescaped i j → Takes text sequence i j
-  to-sequence {i} (left (byte a e)) =
-      let x = inside-in 0x00 0x7F plainByte (getD text i 0) plain-ascii (a .1) in
-      left (byte (a .0, in-first 0x00 0x7F [] (getD text i 0) (x .0) (x .1)) e)
-  to-sequence (right (left (both t u))) =
-      right (left (both (widen 0xC2 0xC2 0xC2 0xDF (omega arith) (omega arith) t) (widen 0xA0 0xBF 0x80 0xBF (omega arith) (omega arith) u)))
-  to-sequence (right (right (left (both t u)))) = right (left (both (widen 0xC3 0xDF 0xC2 0xDF (omega arith) (omega arith) t) u))
+  unfolding includes inSome
+  to-sequence (left t) = left (widen plainByte (0x00 upto 0x7F ∷ []) refl t)
+  to-sequence (right (left (both t u))) = right (left (both (widen (just 0xC2) (0xC2 upto 0xDF ∷ []) refl t) (widen (0xA0 upto 0xBF ∷ []) (0x80 upto 0xBF ∷ []) refl u)))
+  to-sequence (right (right (left (both t u)))) = right (left (both (widen (0xC3 upto 0xDF ∷ []) (0xC2 upto 0xDF ∷ []) refl t) u))
   to-sequence (right (right (right t))) = right (right t)
 
   pub no-character : {i : ℕ} → Fails text sequence i → Fails text unescaped i

@@ -13,7 +13,7 @@ use Rattle.rules.specs.Rule.{one, many, plus, lit, Takes, byte, both, left, rig
 use Rattle.rules.proofs.Classes.{apart, apartSpan}
 use Rattle.rules.proofs.Matches.{forward, starting, ending}
 use Rattle.rules.proofs.Chains.{reaches}
-use Rattle.rules.proofs.Ways.{never}
+use Rattle.rules.proofs.Ways.{never, begins-none}
 use Rattle.lexicon.specs.declared.Base.{Base}
 use Rattle.lexicon.specs.declared.Base.the-variants.{Two, Eight, Ten, Sixteen}
 use Rattle.lexicon.specs.declared.Literal.{Literal}
@@ -23,10 +23,11 @@ use Rattle.lexicon.specs.Found.{Judges}
 use Rattle.lexicon.specs.Literals.{codeOfBase, codePoint}
 use Rattle.lexicon.specs.Values.{CodeOf}
 use Rattle.lexicon.specs.Bad.{Scalar, BadCode}
+use Rattle.lexicon.proofs.Numbers.{letter}
 use Rattle.string.specs.Parts.{number, numberAt, BadNumber}
-use Rattle.string.proofs.Marks.{markByte, Marked, marked, by-mark, by-digit, begins, mark-long}
-use Rattle.string.proofs.Answers.{refuted, not-there}
-use Rattle.string.proofs.Closed.{byte-single, begins-none}
+use Rattle.string.proofs.Marks.{Marked, marked, by-mark, by-digit, begins, mark-long}
+use Rattle.rules.proofs.Tests.{refuted, not-there}
+use Rattle.lexicon.proofs.Spaces.{byte-single}
 
 -- the closing angle is no digit
 angle-digit : (b : Base) → never (just 0x3E) (one (digits b)) ≡ true
@@ -131,7 +132,7 @@ module _ {text : List ℕ} where
     where
       go : (b : Base) {s : ℕ} → Marked text i b s → k ≤ j
       go b m =
-          forward (reaches (byte-single (digits b)) (all-many (digits-of b m t)) (begins-none (just 0x3E) (one (digits b)) (angle-digit b) a)
+          forward (reaches (byte-single (digits b)) (all-many (digits-of b m t)) (begins-none text (just 0x3E) (one (digits b)) (angle-digit b) a)
           (all-many (digits-of b m u)))
 
   -- so a literal with the closing angle behind it has one end only
@@ -147,13 +148,13 @@ module _ (text : List ℕ) (i : ℕ) (r : Literal) {o p : Bool}
   zero-c =
       let h : i + 1 + 1 ≡ i + 2 = omega arith in both (s .true-holds (not-false o e)) (ending h (t .true-holds (not-false p f)))
 
-  pub mark-judged : (b : Base) → i + 2 < length text → getD text (i + 2) 0 ≡ markByte b → Judges text (number b) (BadNumber text b) (i + 3) r → Judges text codePoint (BadCode text) i r
+  pub mark-judged : (b : Base) → i + 2 < length text → getD text (i + 2) 0 ≡ letter b → Judges text (number b) (BadNumber text b) (i + 3) r → Judges text codePoint (BadCode text) i r
   mark-judged b h x y = code-judged b i (i + 3) r (by-mark text b zero-c h x) y
 
   pub digit-judged : (getD text (i + 2) 0 ≡ 0x62 → ⊥) → (getD text (i + 2) 0 ≡ 0x6F → ⊥) → (getD text (i + 2) 0 ≡ 0x64 → ⊥) → (getD text (i + 2) 0 ≡ 0x78 → ⊥) → Judges text (number Ten) (BadNumber text Ten) (i + 2) r → Judges text codePoint (BadCode text) i r
   digit-judged n2 n8 n10 n16 y = code-judged Ten i (i + 2) r (by-digit text zero-c none) y
     where
-      none : (b : Base) → getD text (i + 2) 0 ≡ markByte b → ⊥
+      none : (b : Base) → getD text (i + 2) 0 ≡ letter b → ⊥
       none Two = n2
       none Eight = n8
       none Ten = n10

@@ -10,11 +10,11 @@ use borrow.Author.Tests.{not-true, not-false}
 use lib.Dec.{leb}
 use lib.ListN.{length, getD}
 use Rattle.rules.specs.Test.{Says}
-use Rattle.rules.specs.Class.{Class, In, has, just, anyIn, codes}
+use Rattle.rules.specs.Class.{In, has, just, anyIn, codes}
 use Rattle.rules.specs.Rule.{one, _then_, _or_, lit, Takes, byte, both, left, right, At, Longest, Fails}
 use Rattle.rules.proofs.Bools.{or-cases, or-left}
-use Rattle.rules.proofs.Classes.{apart-no, in-just, just-is}
-use Rattle.rules.proofs.Matches.{starting, one-at}
+use Rattle.rules.proofs.Classes.{apart-no, is-just, just-is}
+use Rattle.rules.proofs.Matches.{starting, one-at, move-at, fails-first}
 use Rattle.rules.proofs.Ways.{never-takes}
 use Rattle.lexicon.specs.declared.Literal.{Literal}
 use Rattle.lexicon.specs.declared.Literal as Literal
@@ -23,9 +23,9 @@ use Rattle.lexicon.specs.Literals.{unescaped, restricted, escapeLetter, escape,
 use Rattle.lexicon.specs.Values.{Letter}
 use Rattle.lexicon.specs.Bad.{BadCode, BadEscape}
 use Rattle.string.specs.Parts.{angled, BadAngled, item}
-use Rattle.string.proofs.Answers.{says-no, there, not-there}
+use Rattle.rules.proofs.Tests.{says-no, there, not-there}
 use Rattle.string.proofs.Among.{place}
-use Rattle.string.proofs.Closed.{agree}
+use Rattle.rules.proofs.Closed.{agree}
 use Rattle.string.proofs.Codes.{angle-most}
 use Rattle.string.proofs.Items.{backslash, backslash-unescaped, letter-angle, escape-single, restricted-single}
 
@@ -33,14 +33,14 @@ abbrev angle : ℕ
 angle = 0x3C
 
 -- the letters are those that stand for a character
-letter-in : (text : List ℕ) {x v : ℕ} → Letter text x v → In escapeLetter x
+letter-in : {x v : ℕ} → Letter x v → In escapeLetter x
 unfolding has
-letter-in text Letter.q = refl
-letter-in text Letter.g = refl
-letter-in text Letter.b = refl
-letter-in text Letter.t = refl
-letter-in text Letter.n = refl
-letter-in text Letter.r = refl
+letter-in Letter.quotationMark = refl
+letter-in Letter.graveAccent = refl
+letter-in Letter.reverseSolidus = refl
+letter-in Letter.tab = refl
+letter-in Letter.lineFeed = refl
+letter-in Letter.carriageReturn = refl
 
 -- a byte that is none of these is in no class of them
 abbrev pub NoneOf : List ℕ → ℕ → Type 0
@@ -54,22 +54,16 @@ none-in (b ∷ bs) x n i =
     ⊎-elim (λ e. n .0 (just-is b x (or-left _ false e))) (λ e. none-in bs x (n .1) e) (or-cases (leb b x && leb x b) (has (anyIn bs) x) i)
 
 module _ (text : List ℕ) where
-  move-at : (c : Class) {i j : ℕ} → i ≡ j → At text c i → At text c j
-  move-at c e a = subst (λ (x : ℕ). At text c x) e a
-
   -- ---- the rest of an escape by number
 
   pub no-angled : {i : ℕ} → Fails text codePoint i → Fails text angled i
-  no-angled {i} f = record { none = go }
-    where
-      go : {k : ℕ} → Takes text angled i k → ⊥
-      go (both t u) = f .none t
+  no-angled f = fails-first f
 
   pub unclosed : {i e : ℕ} → Longest text codePoint i e → (At text (just 0x3E) e → ⊥) → Fails text angled i
   unclosed {i} {e} l n = record { none = go }
     where
       go : {k : ℕ} → Takes text angled i k → ⊥
-      go (both t (byte a f)) = n (move-at (just 0x3E) (le-antisymm (l .most t) (angle-most t a (l .takes))) a)
+      go (both t (byte a f)) = n (move-at text (just 0x3E) (le-antisymm (l .most t) (angle-most t a (l .takes))) a)
 
   pub angled-judged : (i e : ℕ) (bad : Bool) → Judges text codePoint (BadCode text) i (Literal.the-variants.At e bad) → At text (just 0x3E) e → Judges text angled (BadAngled text) i (Literal.the-variants.At (e + 1) bad)
   angled-judged i e bad y a = (record { takes = both (y .0 .takes) (one-at a); most = most }, record { true-holds = λ q. record { end = e; code = y .1 .true-holds q; behind = one-at a }; holds-true = λ b. back (b .code) (b .behind) })
@@ -105,7 +99,7 @@ module _ (text : List ℕ) where
       go : {i s e j : ℕ} → Takes text (lit "\\<") i s → BadCode text s e → Takes text (lit ">") e j → At text (just angle) (i + 1) × BadAngled text (i + 2) j
       go {i} {s} {e} (both (byte a f) (byte b g)) c q =
           let h : s ≡ i + 2 = omega arith in
-          (move-at (just angle) f b, record { end = e; code = place (BadCode text) h refl c; behind = q })
+          (move-at text (just angle) f b, record { end = e; code = place (BadCode text) h refl c; behind = q })
 
   pub letter-judged : (i : ℕ) → At text backslash i → At text escapeLetter (i + 1) → Judges text escape (BadEscape text) i (Literal.the-variants.At (i + 2) false)
   letter-judged i a l =
@@ -177,13 +171,13 @@ module _ (text : List ℕ) where
   -- ---- what each way through the code of an escape says
 
   module _ (i : ℕ) {o : Bool} (s : Says o (Takes text (one backslash) i (i + 1))) (e : not o ≡ false) where
-    pub by-letter : {x v : ℕ} → Letter text x v → i + 1 < length text → getD text (i + 1) 0 ≡ x → Judges text escape (BadEscape text) i (Literal.the-variants.At (i + 2) false)
+    pub by-letter : {x v : ℕ} → Letter x v → i + 1 < length text → getD text (i + 1) 0 ≡ x → Judges text escape (BadEscape text) i (Literal.the-variants.At (i + 2) false)
     by-letter l h f =
-        letter-judged i (there s (not-false o e)) (h, subst (λ (y : ℕ). In escapeLetter y) (sym f) (letter-in text l))
+        letter-judged i (there s (not-false o e)) (h, subst (λ (y : ℕ). In escapeLetter y) (sym f) (letter-in l))
 
     pub by-angle : (r : Literal) → i + 1 < length text → getD text (i + 1) 0 ≡ angle → Judges text angled (BadAngled text) (i + 2) r → Judges text escape (BadEscape text) i r
     by-angle r h f y =
-        angle-judged i r (there s (not-false o e)) (h, subst (λ (y : ℕ). In (just angle) y) (sym f) (in-just angle)) y
+        angle-judged i r (there s (not-false o e)) (h, is-just angle (getD text (i + 1) 0) f) y
 
   pub by-none : (i : ℕ) {o : Bool} → Says o (Takes text (one backslash) i (i + 1)) → not o ≡ true → Fails text escape i
   by-none i {o} s e = no-escape (not-there s (not-true o e))

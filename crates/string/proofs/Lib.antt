@@ -1,8 +1,6 @@
 -- The laws of Text literals.
-pub mod Answers
 pub mod Taken
 pub mod Among
-pub mod Closed
 pub mod Marks
 pub mod Codes
 pub mod Numbers

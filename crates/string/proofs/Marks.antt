@@ -2,61 +2,28 @@
 -- are fixed by the place where it begins. Assumes nothing.
 use mathlib.Core.Path.{_≡_, refl, subst, sym, ap, _∙_}
 use mathlib.Core.Logic.{_⊎_, inl, inr}
-use mathlib.Core.Bool.{false≢true}
 use mathlib.Core.List.{List}
 use Prim.Native.Nat.{ℕ, _+_, _≤_, _<_}
 use native.Mathlib.Omega.{arith}
 use lib.ListN.{length, getD}
-use Rattle.rules.specs.Class.{In, has, just}
+use Rattle.rules.specs.Class.{In, just}
 use Rattle.rules.specs.Rule.{one, lit, Takes, nothing, byte, both, left, right, At}
-use Rattle.rules.proofs.Classes.{in-just, just-is}
+use Rattle.rules.proofs.Classes.{is-just, just-is}
 use Rattle.rules.proofs.Matches.{forward}
 use Rattle.lexicon.specs.declared.Base.{Base}
 use Rattle.lexicon.specs.declared.Base.the-variants.{Two, Eight, Ten, Sixteen}
 use Rattle.lexicon.specs.Bytes.{decimal, digits}
 use Rattle.lexicon.specs.Literals.{codeMark}
-
--- `b`, `o`, `d`, `x`
-abbrev pub markByte : Base → ℕ
-markByte Two = 0x62
-markByte Eight = 0x6F
-markByte Ten = 0x64
-markByte Sixteen = 0x78
-
-base-of : (a b : Base) → markByte a ≡ markByte b → a ≡ b
-base-of Two Two e = refl
-base-of Two Eight e = absurd (omega arith)
-base-of Two Ten e = absurd (omega arith)
-base-of Two Sixteen e = absurd (omega arith)
-base-of Eight Two e = absurd (omega arith)
-base-of Eight Eight e = refl
-base-of Eight Ten e = absurd (omega arith)
-base-of Eight Sixteen e = absurd (omega arith)
-base-of Ten Two e = absurd (omega arith)
-base-of Ten Eight e = absurd (omega arith)
-base-of Ten Ten e = refl
-base-of Ten Sixteen e = absurd (omega arith)
-base-of Sixteen Two e = absurd (omega arith)
-base-of Sixteen Eight e = absurd (omega arith)
-base-of Sixteen Ten e = absurd (omega arith)
-base-of Sixteen Sixteen e = refl
-
--- no mark is a digit
-mark-no-digit : (b : Base) → In decimal (markByte b) → ⊥
-unfolding has
-mark-no-digit Two p = false≢true p
-mark-no-digit Eight p = false≢true p
-mark-no-digit Ten p = false≢true p
-mark-no-digit Sixteen p = false≢true p
+use Rattle.lexicon.proofs.Numbers.{letter, same-base, letter-no-digit}
 
 module _ (text : List ℕ) where
   -- behind `0c` stands the base's mark, or for base ten the first digit itself
   abbrev Told : Base → ℕ → ℕ → Type 0
   Told b i s =
-      ((i + 2 < length text) × (getD text (i + 2) 0 ≡ markByte b) × (s ≡ i + 3))
+      ((i + 2 < length text) × (getD text (i + 2) 0 ≡ letter b) × (s ≡ i + 3))
       ⊎ ((b ≡ Ten) × In decimal (getD text (i + 2) 0) × (s ≡ i + 2))
 
-  marks : (b : Base) (i m s : ℕ) → m ≡ i + 2 → At text (just (markByte b)) m → s ≡ m + 1 → Told b i s
+  marks : (b : Base) (i m s : ℕ) → m ≡ i + 2 → At text (just (letter b)) m → s ≡ m + 1 → Told b i s
   marks b i m s e a f =
       inl (subst (λ (x : ℕ). x < length text) e (a .0), sym (ap (λ (x : ℕ). getD text x 0) e) ∙ just-is _ _ (a .1), omega arith)
 
@@ -73,25 +40,25 @@ module _ (text : List ℕ) where
     pub mark : Takes text (codeMark b) i s
     pub only : (a : Base) {t : ℕ} → Takes text (codeMark a) i t → At text (digits a) t → (a ≡ b) × (t ≡ s)
 
-  mark-byte : (b : Base) (i : ℕ) → i + 2 < length text → getD text (i + 2) 0 ≡ markByte b → Takes text (one (just (markByte b))) (i + 2) (i + 3)
+  mark-byte : (b : Base) (i : ℕ) → i + 2 < length text → getD text (i + 2) 0 ≡ letter b → Takes text (one (just (letter b))) (i + 2) (i + 3)
   mark-byte b i h f =
       let e : i + 3 ≡ i + 2 + 1 = omega arith in
-      byte (h, subst (λ (y : ℕ). In (just (markByte b)) y) (sym f) (in-just (markByte b))) e
+      byte (h, is-just (letter b) (getD text (i + 2) 0) f) e
 
-  take-mark : (b : Base) {i : ℕ} → Takes text (lit "0c") i (i + 2) → i + 2 < length text → getD text (i + 2) 0 ≡ markByte b → Takes text (codeMark b) i (i + 3)
+  take-mark : (b : Base) {i : ℕ} → Takes text (lit "0c") i (i + 2) → i + 2 < length text → getD text (i + 2) 0 ≡ letter b → Takes text (codeMark b) i (i + 3)
   take-mark Two (both t u) h f = both t (both u (mark-byte Two _ h f))
   take-mark Eight (both t u) h f = both t (both u (mark-byte Eight _ h f))
   take-mark Ten t h f = both t (left (mark-byte Ten _ h f))
   take-mark Sixteen (both t u) h f = both t (both u (mark-byte Sixteen _ h f))
 
-  pub by-mark : (b : Base) {i : ℕ} → Takes text (lit "0c") i (i + 2) → i + 2 < length text → getD text (i + 2) 0 ≡ markByte b → Marked i b (i + 3)
+  pub by-mark : (b : Base) {i : ℕ} → Takes text (lit "0c") i (i + 2) → i + 2 < length text → getD text (i + 2) 0 ≡ letter b → Marked i b (i + 3)
   by-mark b {i} z h f = record { mark = take-mark b z h f; only = λ a t x. go a (told a t x) }
     where
       go : (a : Base) {t : ℕ} → Told a i t → (a ≡ b) × (t ≡ i + 3)
-      go a (inl y) = (base-of a b (sym (y .1) ∙ f), y .2)
-      go a (inr y) = absurd (mark-no-digit b (subst (λ (v : ℕ). In decimal v) f (y .1)))
+      go a (inl y) = (same-base b a f (y .1), y .2)
+      go a (inr y) = absurd (letter-no-digit b (subst (λ (v : ℕ). In decimal v) f (y .1)))
 
-  pub by-digit : {i : ℕ} → Takes text (lit "0c") i (i + 2) → ((b : Base) → getD text (i + 2) 0 ≡ markByte b → ⊥) → Marked i Ten (i + 2)
+  pub by-digit : {i : ℕ} → Takes text (lit "0c") i (i + 2) → ((b : Base) → getD text (i + 2) 0 ≡ letter b → ⊥) → Marked i Ten (i + 2)
   by-digit {i} z n = record { mark = both z (right (nothing refl)); only = λ a t x. go a (told a t x) }
     where
       go : (a : Base) {t : ℕ} → Told a i t → (a ≡ Ten) × (t ≡ i + 2)
@@ -103,9 +70,9 @@ module _ (text : List ℕ) where
   marked b {i} {s} t x = record { mark = t; only = λ a u y. go a (told b t x) (told a u y) }
     where
       go : (a : Base) {u : ℕ} → Told b i s → Told a i u → (a ≡ b) × (u ≡ s)
-      go a (inl p) (inl q) = (base-of a b (sym (q .1) ∙ p .1), q .2 ∙ sym (p .2))
-      go a (inl p) (inr q) = absurd (mark-no-digit b (subst (λ (v : ℕ). In decimal v) (p .1) (q .1)))
-      go a (inr p) (inl q) = absurd (mark-no-digit a (subst (λ (v : ℕ). In decimal v) (q .1) (p .1)))
+      go a (inl p) (inl q) = (same-base b a (p .1) (q .1), q .2 ∙ sym (p .2))
+      go a (inl p) (inr q) = absurd (letter-no-digit b (subst (λ (v : ℕ). In decimal v) (p .1) (q .1)))
+      go a (inr p) (inl q) = absurd (letter-no-digit a (subst (λ (v : ℕ). In decimal v) (q .1) (p .1)))
       go a (inr p) (inr q) = (q .0 ∙ sym (p .0), q .2 ∙ sym (p .2))
 
   -- every mark begins with `0c`

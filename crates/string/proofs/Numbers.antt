@@ -1,106 +1,39 @@
--- The number of a row of digits, and the same number held below a cap. Assumes nothing.
+-- The number of a row of digits, counted up to the limit. Assumes nothing.
 use mathlib.Core.Path.{_≡_, refl, subst, sym, ap, _∙_}
 use mathlib.Core.Logic.{inl, inr}
-use mathlib.Core.Bool.{Bool, true, false, not, cond}
-use mathlib.Core.List.{List}
-use Prim.Native.Nat.{ℕ, zero, suc, _+_, _-_, _*_, _≤_, _<_, min}
-use native.Mathlib.Nat.{mul-le-mul, mul-le-mul-left, mul-le-mul-right}
-use native.Mathlib.Omega.{arith, min-cases}
-use borrow.Author.Tests.{le-leb, lt-leb, ltb-true, ltb-false, not-false}
-use lib.Dec.{leb, ltb}
+use mathlib.Core.Bool.{Bool, true, false, not}
+use mathlib.Core.List.{List, foldl}
+use Prim.Native.Nat.{ℕ, suc, _+_, _-_, _≤_, _<_, min}
+use native.Mathlib.Omega.{arith}
+use borrow.Author.Tests.{ltb-true, ltb-false, not-false}
+use lib.Dec.{ltb}
 use lib.ListN.{length, getD}
 use Rattle.rules.specs.Test.{Says}
 use Rattle.rules.specs.Class.{has}
-use Rattle.rules.specs.Rule.{one, many, Takes, byte, both, stop, more, At, Fails}
+use Rattle.rules.specs.Rule.{one, many, Takes, both, stop, more, At, Fails}
 use Rattle.rules.proofs.Bools.{not-both}
 use Rattle.rules.proofs.Chains.{snoc, longest}
-use Rattle.rules.proofs.Matches.{starting, one-at}
+use Rattle.rules.proofs.Matches.{starting, one-at, byte-at}
 use Rattle.lexicon.specs.declared.Base.{Base}
-use Rattle.lexicon.specs.declared.Base.the-variants.{Two, Eight, Ten, Sixteen}
 use Rattle.lexicon.specs.declared.Set.{Set}
 use Rattle.lexicon.specs.declared.Literal as Literal
-use Rattle.lexicon.specs.Bytes.{members, digitSet, digits, radix}
+use Rattle.lexicon.specs.Bytes.{members, digitSet, digits, radix, size}
 use Rattle.lexicon.specs.Found.{Judges}
-use Rattle.lexicon.specs.Values.{read, digit, valueFrom}
+use Rattle.lexicon.specs.Values.{read, limit, limited}
 use Rattle.lexicon.specs.Bad.{Scalar}
-use Rattle.string.specs.Parts.{cap, number, numberAt, BadNumber, Counts}
-use Rattle.string.proofs.Answers.{says-no, says-yes}
-use Rattle.string.proofs.Closed.{byte-single}
+use Rattle.lexicon.proofs.Limits.{limited-value, read-more}
+use Rattle.string.specs.Parts.{number, BadNumber, Counts}
+use Rattle.rules.proofs.Tests.{says-no, says-yes}
+use Rattle.lexicon.proofs.Spaces.{byte-single}
 
--- a step under a cap, once over the base and the cap
-pub cap-step : (c r v d : ℕ) → 1 ≤ r → min c (min c v * r + d) ≡ min c (v * r + d)
-cap-step c r v d h =
-    min-cases c v (min c (min c v * r + d) ≡ min c (v * r + d))
-    (λ le e.
-    let x : c * 1 ≤ c * r = mul-le-mul-left c h in
-    let y : c * r ≤ v * r = mul-le-mul-right r le in
-    rw e (omega arith))
-    (λ le e. rw e refl)
+-- the limit is no code point
+scalar-limit : (v : ℕ) → Scalar v → Scalar (min limit v)
+scalar-limit v (inl h) = inl (omega arith)
+scalar-limit v (inr h) = inr (omega arith, omega arith)
 
--- the number of one digit more
-value-more : (text : List ℕ) (r v i n : ℕ) → valueFrom r v (read text i (suc n)) ≡ valueFrom r v (read text i n) * r + digit (getD text (i + n) 0)
-value-more text r v i zero = ap (λ (k : ℕ). v * r + digit (getD text k 0)) (omega arith)
-value-more text r v i (suc n) =
-    value-more text r (v * r + digit (getD text i 0)) (i + 1) n
-    ∙ ap (λ (k : ℕ). valueFrom r (v * r + digit (getD text i 0)) (read text (i + 1) n) * r + digit (getD text k 0)) (omega arith)
-
-pub number-more : (text : List ℕ) (b : Base) (i j : ℕ) → i ≤ j → numberAt text b i (j + 1) ≡ numberAt text b i j * radix b + digit (getD text j 0)
-number-more text b i j h =
-    let e : j + 1 - i ≡ suc (j - i) = omega arith in
-    let f : i + (j - i) ≡ j = omega arith in
-    ap (λ (n : ℕ). valueFrom (radix b) 0 (read text i n)) e
-    ∙ value-more text (radix b) 0 i (j - i)
-    ∙ ap (λ (k : ℕ). numberAt text b i j * radix b + digit (getD text k 0)) f
-
--- of a number under the cap
-scalar-cap : (v : ℕ) → Scalar v → Scalar (min cap v)
-scalar-cap v (inl h) = inl (omega arith)
-scalar-cap v (inr h) = inr (omega arith, omega arith)
-
-cap-scalar : (v : ℕ) → Scalar (min cap v) → Scalar v
-cap-scalar v (inl h) = inl (omega arith)
-cap-scalar v (inr h) = inr (omega arith, omega arith)
-
-radix-some : (b : Base) → 1 ≤ radix b
-radix-some Two = omega arith
-radix-some Eight = omega arith
-radix-some Ten = omega arith
-radix-some Sixteen = omega arith
-
-radix-most : (b : Base) → radix b ≤ 16
-radix-most Two = omega arith
-radix-most Eight = omega arith
-radix-most Ten = omega arith
-radix-most Sixteen = omega arith
-
--- a number under the cap times the radix
-pub product : (b : Base) (v r : ℕ) → v ≤ cap → r ≡ radix b → v * r ≤ cap * 16
-product b v r h e = rw e (mul-le-mul h (radix-most b))
-
--- one step of the sum
-pub step-under : (b : Base) (v r d x : ℕ) → r ≡ radix b → d ≡ digit x → v * r + d < cap → v * r + d ≡ min cap (v * radix b + digit x)
-step-under b v r d x e f h = rw (← e, ← f) (omega arith)
-
-pub step-over : (b : Base) (v r d x : ℕ) → r ≡ radix b → d ≡ digit x → cap ≤ v * r + d → cap ≡ min cap (v * radix b + digit x)
-step-over b v r d x e f h = rw (← e, ← f) (omega arith)
-
--- ---- the number of a digit
-
-pub digit-low : (b : ℕ) → b < 0x30 → 0 ≡ digit b
-digit-low b h = rw (le-leb b 0x39 (omega arith)) (omega arith)
-
-pub digit-ten : (b : ℕ) → b ≤ 0x39 → b - 0x30 ≡ digit b
-digit-ten b h = rw (le-leb b 0x39 h) refl
-
-pub digit-letter : (b : ℕ) → 0x39 < b → b - 0x37 ≡ digit b
-digit-letter b h = rw (lt-leb b 0x39 h) refl
-
-pub digit-most : (b : ℕ) → digit b ≤ b
-digit-most b = go (leb b 0x39)
-  where
-    go : (o : Bool) → cond o (b - 0x30) (b - 0x37) ≤ b
-    go true = omega arith
-    go false = omega arith
+limit-scalar : (v : ℕ) → Scalar (min limit v) → Scalar v
+limit-scalar v (inl h) = inl (omega arith)
+limit-scalar v (inr h) = inr (omega arith, omega arith)
 
 -- ---- which numbers are none of a code point
 
@@ -127,45 +60,57 @@ outside-high v h = record { true-holds = λ e. over (ltb-true 0x10FFFF v e); hol
 
 -- ---- the row of digits as it grows
 
-pub record Counting (text : List ℕ) (b : Base) (i j v : ℕ) : Type 0 where
-  pub all : Takes text (many (one (digits b))) i j
-  pub ahead : i ≤ j
-  pub code : v ≡ min cap (numberAt text b i j)
+number-more : (f : ℕ → ℕ → ℕ) (text : List ℕ) (i j : ℕ) → i ≤ j → foldl f 0 (read text i (j + 1 - i)) ≡ f (foldl f 0 (read text i (j - i))) (getD text j 0)
+number-more f text i j h =
+    let e : j + 1 - i ≡ suc (j - i) = omega arith in
+    let p : i + (j - i) ≡ j = omega arith in
+    ap (λ (n : ℕ). foldl f 0 (read text i n)) e
+    ∙ read-more f text 0 i (j - i)
+    ∙ ap (λ (k : ℕ). f (foldl f 0 (read text i (j - i))) (getD text k 0)) p
 
-pub counting-none : (text : List ℕ) (b : Base) (i : ℕ) → Counting text b i i 0
-counting-none text b i =
+pub record Counting (text : List ℕ) (s : Set) (i j v : ℕ) : Type 0 where
+  pub all : Takes text (many (one (members s))) i j
+  pub ahead : i ≤ j
+  pub code : v ≡ foldl (limited (size s)) 0 (read text i (j - i))
+
+pub counting-none : (text : List ℕ) (s : Set) (i : ℕ) → Counting text s i i 0
+counting-none text s i =
     let e : i - i ≡ 0 = omega arith in
     record {
       all = stop refl;
       ahead = omega arith;
-      code = ap (λ (n : ℕ). min cap (valueFrom (radix b) 0 (read text i n))) (sym e);
+      code = ap (λ (n : ℕ). foldl (limited (size s)) 0 (read text i n)) (sym e);
     }
 
-module _ {text : List ℕ} {b : Base} {i j v : ℕ} where
-  pub counting-more : {s : Set} {o : Bool} {w : ℕ} → Counting text b i j v → s ≡ digitSet b → j < length text → o ≡ has (members s) (getD text j 0) → not o ≡ false → w ≡ min cap (v * radix b + digit (getD text j 0)) → Counting text b i (j + 1) w
-  counting-more {s} {o} c q h e n f =
+module _ {text : List ℕ} {s : Set} {i j v : ℕ} where
+  pub counting-more : {o : Bool} {n w : ℕ} → Counting text s i j v → n ≡ size s → j < length text → o ≡ has (members s) (getD text j 0) → not o ≡ false → w ≡ limited n v (getD text j 0) → Counting text s i (j + 1) w
+  counting-more {o} c m h e t f =
       record {
-        all = snoc (c .all) (one-at (h, subst (λ (x : Set). has (members x) (getD text j 0) ≡ true) q (sym e ∙ not-false o n)));
+        all = snoc (c .all) (one-at (h, sym e ∙ not-false o t));
         ahead = let x = c .ahead in omega arith;
         code =
             f
-            ∙ ap (λ (x : ℕ). min cap (x * radix b + digit (getD text j 0))) (c .code)
-            ∙ cap-step cap (radix b) (numberAt text b i j) (digit (getD text j 0)) (radix-some b)
-            ∙ ap (λ (x : ℕ). min cap x) (sym (number-more text b i j (c .ahead)));
+            ∙ ap (λ (x : ℕ). limited x v (getD text j 0)) m
+            ∙ ap (λ (x : ℕ). limited (size s) x (getD text j 0)) (c .code)
+            ∙ sym (number-more (limited (size s)) text i j (c .ahead));
       }
 
-  counting-stops : Counting text b i j v → (At text (digits b) j → ⊥) → Counts text b i j v
-  counting-stops c n = record { all = c .all; ends = record { none = go }; code = c .code }
+  counting-stops : {b : Base} → Counting text s i j v → s ≡ digitSet b → (At text (members s) j → ⊥) → Counts text b i j v
+  counting-stops {b} c q n = whole (subst (λ (x : Set). Counting text x i j v) q c) (subst (λ (x : Set). At text (members x) j → ⊥) q n)
     where
-      go : {k : ℕ} → Takes text (one (digits b)) j k → ⊥
-      go (byte a e) = n a
+      whole : Counting text (digitSet b) i j v → (At text (digits b) j → ⊥) → Counts text b i j v
+      whole d m =
+          record {
+            all = d .all;
+            ends = record { none = λ t. m (byte-at t) };
+            code = d .code ∙ limited-value (radix b) 0 (read text i (j - i));
+          }
 
-  pub counting-ends : {s : Set} {o : Bool} → Counting text b i j v → s ≡ digitSet b → o ≡ has (members s) (getD text j 0) → not o ≡ true → Counts text b i j v
-  counting-ends {s} {o} c q e n =
-      counting-stops c (λ a. not-both o (e ∙ subst (λ (x : Set). has (members x) (getD text j 0) ≡ true) (sym q) (a .1)) n)
+  pub counting-ends : {b : Base} {o : Bool} → Counting text s i j v → s ≡ digitSet b → o ≡ has (members s) (getD text j 0) → not o ≡ true → Counts text b i j v
+  counting-ends {o = o} c q e n = counting-stops c q (λ a. not-both o (e ∙ a .1) n)
 
-  pub counting-all : Counting text b i j v → length text ≤ j → Counts text b i j v
-  counting-all c h = counting-stops c (λ a. omega (arith, a .0))
+  pub counting-all : {b : Base} → Counting text s i j v → s ≡ digitSet b → length text ≤ j → Counts text b i j v
+  counting-all c q h = counting-stops c q (λ a. omega (arith, a .0))
 
 module _ {text : List ℕ} (b : Base) where
   -- ---- what it says of the number
@@ -184,8 +129,8 @@ module _ {text : List ℕ} (b : Base) where
   number-judged {i} {j} {v} {bad} c n y = (
     record { takes = some-many (c .all) n; most = most },
     record {
-      true-holds = λ e s. y .true-holds e (subst (λ (x : ℕ). Scalar x) (sym (c .code)) (scalar-cap _ s));
-      holds-true = λ m. y .holds-true (λ s. m (cap-scalar _ (subst (λ (x : ℕ). Scalar x) (c .code) s)));
+      true-holds = λ e s. y .true-holds e (subst (λ (x : ℕ). Scalar x) (sym (c .code)) (scalar-limit _ s));
+      holds-true = λ m. y .holds-true (λ s. m (limit-scalar _ (subst (λ (x : ℕ). Scalar x) (c .code) s)));
     },
   )
     where

@@ -7,11 +7,10 @@ use Prim.Native.Nat.{ℕ, _+_, _≤_}
 use native.Mathlib.Omega.{arith}
 use lib.ListN.{getD}
 use Rattle.rules.specs.Test.{Says}
-use Rattle.rules.specs.Class.{Class}
-use Rattle.rules.specs.Rule.{Rule, one, _then_, many, opt, lit, Takes, nothing, byte, both, left, right, stop, more, At, Longest, Fails, Among}
+use Rattle.rules.specs.Rule.{Rule, _then_, many, opt, lit, Takes, nothing, byte, both, left, right, stop, more, At, Longest, Fails, Among}
 use Rattle.rules.proofs.Bools.{or-cases, or-left, or-right}
 use Rattle.rules.proofs.Classes.{apart, apartSpan, apart-no}
-use Rattle.rules.proofs.Matches.{forward, starting, one-at}
+use Rattle.rules.proofs.Matches.{forward, starting, one-at, move-at, fails-first}
 use Rattle.rules.proofs.Chains.{Single, join, snoc, reaches}
 use Rattle.rules.proofs.Ways.{never, never-takes}
 use Rattle.lexicon.specs.declared.Literal.{Literal}
@@ -22,9 +21,9 @@ use Rattle.lexicon.specs.Literals.{unescaped, restricted, content, segment, quo
 use Rattle.lexicon.specs.Bad.{BadEscape, BadSegment, BadFurther, BadQuoted, inFirst, inFurther}
 use Rattle.lexicon.proofs.Spaces.{landed, skips-same}
 use Rattle.string.specs.Parts.{plainRest, item, escapedRest, BadRest}
-use Rattle.string.proofs.Answers.{says-no}
+use Rattle.rules.proofs.Tests.{says-no}
 use Rattle.string.proofs.Among.{Strict, place, found, kept, none-among, which}
-use Rattle.string.proofs.Closed.{closed-single, closes}
+use Rattle.rules.proofs.Closed.{closed-single, closes}
 use Rattle.string.proofs.Items.{quote, backslash, backslash-unescaped, quote-restricted, quote-item, restricted-single, item-single, strict-of}
 
 quote-backslash : apart quote backslash ≡ true
@@ -39,16 +38,13 @@ abbrev pub further : Rule
 further = opt sp then segment
 
 module _ (text : List ℕ) where
-  move-at : (c : Class) {i j : ℕ} → i ≡ j → At text c i → At text c j
-  move-at c e a = subst (λ (x : ℕ). At text c x) e a
-
   -- ---- the rest of a segment behind its opening quote
 
   -- a first backslash makes it an escaped one
   to-escaped : {m j : ℕ} → At text backslash m → Takes text (content then lit "\"") m j → Takes text escapedRest (m + 1) j
   to-escaped b (both (left (left (both t u))) q) = absurd (never-takes text backslash unescaped backslash-unescaped b t)
   to-escaped {m} b (both (left (right (nothing e))) (byte a f)) =
-      absurd (apart-no quote backslash (getD text m 0) quote-backslash (move-at quote (sym e) a .1) (b .1))
+      absurd (apart-no quote backslash (getD text m 0) quote-backslash (move-at text quote (sym e) a .1) (b .1))
   to-escaped b (both (right (both (byte a e) t)) q) = both (starting e t) q
 
   of-escaped : {m j : ℕ} → At text backslash m → Takes text escapedRest (m + 1) j → Takes text (content then lit "\"") m j
@@ -69,7 +65,7 @@ module _ (text : List ℕ) where
   which-rest : {m j : ℕ} → Takes text (content then lit "\"") m j → At text backslash m ⊎ (At text backslash m → ⊥)
   which-rest {m} (both (left (left (both t u))) q) = inr (λ b. never-takes text backslash unescaped backslash-unescaped b t)
   which-rest {m} (both (left (right (nothing e))) (byte a f)) =
-      inr (λ b. apart-no quote backslash (getD text m 0) quote-backslash (move-at quote (sym e) a .1) (b .1))
+      inr (λ b. apart-no quote backslash (getD text m 0) quote-backslash (move-at text quote (sym e) a .1) (b .1))
   which-rest (both (right (both (byte a e) t)) q) = inl a
 
   rest-same : {m j k : ℕ} → Takes text (content then lit "\"") m j → Takes text (content then lit "\"") m k → j ≡ k
@@ -113,7 +109,7 @@ module _ (text : List ℕ) where
       go : {i s e j : ℕ} → Takes text (lit "\"\\") i s → Among text item (BadEscape text) s e → Takes text (lit "\"") e j → At text backslash (i + 1) × BadRest text (i + 2) j
       go {i} {s} {e} (both (byte a f) (byte b g)) c q =
           let h : s ≡ i + 2 = omega arith in
-          (move-at backslash f b, record { end = e; content = subst (λ (x : ℕ). Among text item (BadEscape text) x e) h c; behind = q })
+          (move-at text backslash f b, record { end = e; content = subst (λ (x : ℕ). Among text item (BadEscape text) x e) h c; behind = q })
 
   rest-bad : {i j : ℕ} → At text quote i → At text backslash (i + 1) → BadRest text (i + 2) j → BadSegment text i j
   rest-bad {i} a b r =
@@ -186,10 +182,7 @@ module _ (text : List ℕ) where
   -- ---- the text
 
   pub no-quoted : {i : ℕ} → Fails text segment i → Fails text quoted i
-  no-quoted {i} f = record { none = go }
-    where
-      go : {k : ℕ} → Takes text quoted i k → ⊥
-      go (both t u) = f .none t
+  no-quoted f = fails-first f
 
   module _ {i m : ℕ} (first : Takes text segment i m) where
     first-same : {k : ℕ} → Takes text segment i k → k ≡ m

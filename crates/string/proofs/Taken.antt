@@ -1,29 +1,18 @@
--- An answer taken apart: what a contract by cases says, once the answer's variant is known. Assumes nothing.
+-- The search for a head word: what its answer says once the answer's variant is known. Assumes nothing.
 use mathlib.Core.Path.{_≡_, subst}
 use mathlib.Core.Logic.{⊎-elim}
-use mathlib.Core.Bool.{Bool}
 use mathlib.Core.List.{List, [], _∷_}
 use Prim.Native.Nat.{ℕ}
 use native.Mathlib.Omega.{arith}
 use types.Run.{OneOf}
 use denote.Enum.Declared.{tagOf}
-use Rattle.rules.specs.Rule.{Rule, lit, Takes, Fails}
+use Rattle.rules.specs.Rule.{lit, Takes}
 use Rattle.lexicon.proofs.Form as FormType
-use Rattle.lexicon.specs.declared.Literal as Literal
-use Rattle.lexicon.specs.declared.Literal.{Literal}
 use Rattle.lexicon.specs.declared.Head.{Head}
 use Rattle.lexicon.specs.declared.Form as Form
 use Rattle.lexicon.specs.declared.Form.{Form}
-use Rattle.lexicon.specs.Found.{Judges}
 use Rattle.lexicon.specs.Token.{headWord}
 use Rattle.string.specs.Parts.{NoneOf, TellsOf}
-
-module _ {text : List ℕ} {r : Rule} {i : ℕ} (P : ℕ → ℕ → Type 0) where
-  pub literal-at : {l : Literal} {j : ℕ} {b : Bool} → l ≡ Literal.the-variants.At j b → Judges text r P i l → Judges text r P i (Literal.the-variants.At j b)
-  literal-at e y = subst (λ (x : Literal). Judges text r P i x) e y
-
-  pub no-literal : {l : Literal} → l ≡ Literal.the-variants.Nothing → Judges text r P i l → Fails text r i
-  no-literal e y = subst (λ (x : Literal). Judges text r P i x) e y
 
 module _ (text : List ℕ) (hs : List Head) (i j : ℕ) where
   pub head-at : {f : Form} {h : Head} → f ≡ Form.the-variants.HeadWord h → TellsOf text hs i j f → Takes text (lit (headWord h)) i j

@@ -1,5 +1,5 @@
 -- Bare words, and exactly these bytes. Assumes nothing.
-use mathlib.Core.Path.{_≡_, refl, subst, sym, ap, _∙_}
+use mathlib.Core.Path.{_≡_, refl, sym, ap, _∙_}
 use mathlib.Core.Bool.{Bool, true, false, not}
 use mathlib.Core.List.{List, [], _∷_}
 use Prim.Native.Nat.{ℕ, zero, suc, _+_, _-_, _≤_, _<_}
@@ -8,11 +8,11 @@ use borrow.Author.Count.{below-more}
 use borrow.Author.Tests.{not-true, not-false}
 use lib.ListN.{length, getD}
 use Rattle.rules.specs.Test.{Says}
-use Rattle.rules.specs.Class.{In, has, just}
+use Rattle.rules.specs.Class.{has, just}
 use Rattle.rules.specs.Rule.{one, many, row, lit, Takes, nothing, byte, both, stop, At, Longest, Fails}
 use Rattle.rules.proofs.Bools.{not-both}
-use Rattle.rules.proofs.Classes.{in-just, just-is}
-use Rattle.rules.proofs.Matches.{starting, one-at}
+use Rattle.rules.proofs.Classes.{is-just, just-is}
+use Rattle.rules.proofs.Matches.{starting, one-at, row-end}
 use Rattle.rules.proofs.Chains.{snoc, longest}
 use Rattle.lexicon.specs.declared.Head.{Head}
 use Rattle.lexicon.specs.declared.Head.the-variants.{Array, Set, Bag, Mix, IntervalSet, IntervalBag, TupleArray, Relation, TupleBag, Article, Excuse, Heading, Renaming}
@@ -20,8 +20,8 @@ use Rattle.lexicon.specs.Bytes.{wordStart, wordRest}
 use Rattle.lexicon.specs.Literals.{word}
 use Rattle.lexicon.specs.Token.{headWord}
 use Rattle.string.specs.Parts.{NoneOf, collections}
-use Rattle.string.proofs.Answers.{says-no, says-yes, there, not-there}
-use Rattle.string.proofs.Closed.{byte-single}
+use Rattle.rules.proofs.Tests.{says-no, says-yes, there, not-there}
+use Rattle.lexicon.proofs.Spaces.{byte-single}
 
 -- ---- words
 
@@ -81,7 +81,7 @@ module _ (text : List ℕ) where
   first-byte b i s =
       let e : i + 0 ≡ i = omega arith in (
         omega arith,
-        subst (λ (x : ℕ). In (just b) x) (sym (s .1) ∙ ap (λ (k : ℕ). getD text k 0) e) (in-just b),
+        is-just b (getD text i 0) (sym (ap (λ (k : ℕ). getD text k 0) e) ∙ s .1),
       )
 
   tail-same : (b : ℕ) (w : List ℕ) (i n : ℕ) → Same (b ∷ w) i (suc n) → Same w (i + 1) n
@@ -96,11 +96,6 @@ module _ (text : List ℕ) where
   row-takes (b ∷ c ∷ w) i j e s =
       both (one-at (first-byte b i (s 0 (omega arith))))
       (row-takes (c ∷ w) (i + 1) j (omega arith) (tail-same b (c ∷ w) i (length (c ∷ w)) s))
-
-  pub row-length : (w : List ℕ) {i j : ℕ} → Takes text (row w) i j → j ≡ i + length w
-  row-length [] (nothing e) = omega arith
-  row-length (b ∷ []) (byte a e) = omega arith
-  row-length (b ∷ c ∷ w) (both (byte a e) t) = let x = row-length (c ∷ w) t in omega arith
 
   same-first : (b i : ℕ) → At text (just b) i → (i + 0 < length text) × (getD text (i + 0) 0 ≡ b)
   same-first b i a =
@@ -125,10 +120,10 @@ pub record Matched (text w : List ℕ) (i k : ℕ) : Type 0 where
 
 module _ (text w : List ℕ) (i j : ℕ) where
   pub spells-back : j < i → Says false (Takes text (row w) i j)
-  spells-back h = says-no (λ t. let e = row-length text w t in omega arith)
+  spells-back h = says-no (λ t. let e = row-end w t in omega arith)
 
   pub spells-longer : i ≤ j → (j - i ≡ length w → ⊥) → Says false (Takes text (row w) i j)
-  spells-longer h n = says-no (λ t. let e = row-length text w t in n (omega arith))
+  spells-longer h n = says-no (λ t. let e = row-end w t in n (omega arith))
 
   pub spells-all : (k : ℕ) → i ≤ j → j - i ≡ length w → Matched text w i k → length w ≤ k → Says true (Takes text (row w) i j)
   spells-all k h e m l =
@@ -138,7 +133,7 @@ module _ (text w : List ℕ) (i j : ℕ) where
   spells-other k o h s e =
       says-no (λ t.
       let p = row-same text w t k h in
-      not-there s (not-true o e) (p .0, subst (λ (x : ℕ). In (just (getD w k 0)) x) (sym (p .1)) (in-just (getD w k 0))))
+      not-there s (not-true o e) (p .0, is-just (getD w k 0) (getD text (i + k) 0) (p .1)))
 
   pub spells-more : (k : ℕ) (o : Bool) → k < length w → Matched text w i k → Says o (Takes text (one (just (getD w k 0))) (i + k) (i + k + 1)) → not o ≡ false → Matched text w i (k + 1)
   spells-more k o h m s e = record { same = below-more _ k (m .same) (a .0, just-is _ _ (a .1)); within = omega arith }

@@ -10,13 +10,9 @@ use Rattle.lexicon.specs.declared.Form.{Form}
 use Rattle.lexicon.specs.declared.Form.the-variants.{Quoted, Word, HeadWord, CodePoint}
 use Rattle.lexicon.specs.Bytes.{digits, radix}
 use Rattle.lexicon.specs.Literals.{codePoint, unescaped, restricted, escape}
-use Rattle.lexicon.specs.Values.{read, value}
+use Rattle.lexicon.specs.Values.{read, value, limit}
 use Rattle.lexicon.specs.Bad.{Scalar, BadCode, BadEscape}
 use Rattle.lexicon.specs.Token.{headWord}
-
--- the least number beyond all code points
-abbrev pub cap : ℕ
-cap = 0x110000
 
 -- the digits of a number, one at least
 abbrev pub number : Base → Rule
@@ -58,7 +54,7 @@ module _ (text : List ℕ) where
   pub record Counts (b : Base) (i j v : ℕ) : Type 0 where
     pub all : Takes text (many (one (digits b))) i j
     pub ends : Fails text (one (digits b)) j
-    pub code : v ≡ min cap (numberAt b i j)
+    pub code : v ≡ min limit (numberAt b i j)
 
   -- one of the escapes in the rest of an escaped segment is bad
   pub record BadRest (i j : ℕ) : Type 0 where

@@ -6,3 +6,4 @@ pub mod Searches
 pub mod Sequences
 pub mod Spaces
 pub mod Lines
+pub mod Digits

@@ -1,5 +1,5 @@
 -- A byte of a range, by its bounds. Assumes nothing.
-use mathlib.Core.Path.{_≡_, refl, subst, sym}
+use mathlib.Core.Path.{_≡_, refl}
 use mathlib.Core.Logic.{⊎-elim}
 use mathlib.Core.Bool.{true, false, _&&_, false≢true}
 use mathlib.Core.List.{List, [], _∷_}
@@ -12,8 +12,9 @@ use Rattle.rules.specs.Test.{Says}
 use Rattle.rules.specs.Class.{Class, _upto_, just, has, In}
 use Rattle.rules.specs.Rule.{one, Takes, byte}
 use Rattle.rules.proofs.Bools.{and-left, and-right, and-both, or-cases, or-left, or-right, decide}
-use Rattle.rules.proofs.Classes.{in-just}
+use Rattle.rules.proofs.Classes.{is-just}
 use Rattle.rules.proofs.Matches.{byte-at}
+use Rattle.rules.proofs.Tests.{says-no}
 use Rattle.lexicon.specs.Utf8.{range}
 
 -- the first span of a class has the byte
@@ -39,7 +40,7 @@ in-high low high b i = leb-true b high (and-right (leb low b) (leb b high) (betw
 -- the ways out of `within`: no byte stands there, it is low enough, it is too low
 module _ {text : List ℕ} {low high at : ℕ} where
   pub no-byte : length text ≤ at → Says false (Takes text (range low high) at (at + 1))
-  no-byte h = record { true-holds = λ e. absurd (false≢true e); holds-true = λ t. absurd (omega (arith, byte-at t .0)) }
+  no-byte h = says-no (λ t. omega (arith, byte-at t .0))
 
   pub high-enough : at < length text → low ≤ getD text at 0 → Says (leb (getD text at 0) high) (Takes text (range low high) at (at + 1))
   high-enough l h =
@@ -57,7 +58,7 @@ module _ {text : List ℕ} {low high at : ℕ} where
 
 -- a byte that is known
 pub byte-is : {text : List ℕ} (b i : ℕ) → i < length text → getD text i 0 ≡ b → Takes text (one (just b)) i (i + 1)
-byte-is b i h e = byte (h, subst (λ (x : ℕ). In (just b) x) (sym e) (in-just b)) refl
+byte-is b i h e = byte (h, is-just b _ e) refl
 
 -- any byte but n + 1
 pub byte-but : {text : List ℕ} (n i : ℕ) → i < length text → (getD text i 0 ≡ n + 1 → ⊥) → getD text i 0 < 256 → Takes text (one (0 upto n ∷ (n + 2) upto 255 ∷ [])) i (i + 1)

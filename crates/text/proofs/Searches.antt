@@ -1,35 +1,24 @@
 -- Laws of searching: what is found of a rule whose first byte is known. Assumes nothing.
 use mathlib.Core.Path.{_≡_, refl, subst}
-use mathlib.Core.Bool.{Bool, true, false, not}
+use mathlib.Core.Bool.{Bool, true, false}
 use mathlib.Core.Logic.{_⊎_, inl, inr}
 use mathlib.Core.List.{List, [], _∷_}
 use Prim.Native.Nat.{ℕ, _+_, _≤_, _<_}
 use lib.ListN.{length}
 use native.Mathlib.Omega.{arith}
-use borrow.Author.Tests.{not-false}
 use Rattle.rules.specs.Test.{Says}
 use Rattle.rules.specs.Class.{Class}
-use Rattle.rules.specs.Rule.{Rule, one, _then_, _or_, opt, Takes, nothing, byte, both, left, right, Longest, Fails}
+use Rattle.rules.specs.Rule.{Rule, one, _then_, _or_, opt, Takes, nothing, both, left, right, Longest, Fails}
 use Rattle.rules.proofs.Bools.{clash}
 use Rattle.rules.proofs.Chains.{Single}
-use Rattle.rules.proofs.Matches.{forward, byte-at, byte-end}
-use Rattle.rules.proofs.Ways.{Way, nullable, Through, enter, ways, never, never-takes, end-takes, covers, covers-all}
+use Rattle.rules.proofs.Matches.{forward, byte-at, byte-end, fails-first}
+use Rattle.rules.proofs.Tests.{there, not-there}
+use Rattle.rules.proofs.Ways.{Way, nullable, Through, enter, ways, never, never-takes, begins-none, end-takes, covers, covers-all}
 use Rattle.lexicon.specs.declared.Found.{Found}
 use Rattle.lexicon.specs.declared.Found.the-variants.{At as FoundAt, Nothing}
 use Rattle.lexicon.specs.Found.{Finds}
 
--- a negated test that failed
-pub shown : {P : Type 0} {o : Bool} → Says o P → not o ≡ false → P
-shown {P} {o} s e = s .true-holds (not-false o e)
-
 module _ {text : List ℕ} where
-  -- an answer taken apart
-  pub at-end : {r : Rule} {i j : ℕ} {f : Found} → f ≡ FoundAt j → Finds text r i f → Longest text r i j
-  at-end {r} {i} e l = subst (λ (f : Found). Finds text r i f) e l
-
-  pub not-found : {r : Rule} {i : ℕ} {f : Found} → f ≡ Nothing → Finds text r i f → Fails text r i
-  not-found {r} {i} e l = subst (λ (f : Found). Finds text r i f) e l
-
   -- a rule that takes no fewer than one byte goes forward
   pub grows : (r : Rule) {i j : ℕ} → nullable r ≡ false → Takes text r i j → i < j
   grows r {i} {j} e t = go (ways r) (enter text t)
@@ -51,17 +40,14 @@ module _ {text : List ℕ} where
   byte-found s e = byte-longest (s .true-holds e)
 
   pub byte-missed : {c : Class} {i : ℕ} {o : Bool} → Says o (Takes text (one c) i (i + 1)) → o ≡ false → Fails text (one c) i
-  byte-missed s e = record { none = λ t. clash (s .holds-true (byte (byte-at t) refl)) e }
+  byte-missed s e = record { none = λ t. not-there s e (byte-at t) }
 
   -- and where a byte stands the next place is within the text
   pub room : {c : Class} {i : ℕ} {o : Bool} → Says o (Takes text (one c) i (i + 1)) → o ≡ true → i < length text
-  room s e = byte-at (s .true-holds e) .0
+  room s e = there s e .0
 
   pub then-missed : {c : Class} {r : Rule} {i : ℕ} {o : Bool} → Says o (Takes text (one c) i (i + 1)) → o ≡ false → Fails text (one c then r) i
-  then-missed {c} {r} {i} {o} s e = record { none = λ t. go t }
-    where
-      go : {j : ℕ} → Takes text (one c then r) i j → ⊥
-      go (both t u) = clash (s .holds-true (byte (byte-at t) refl)) e
+  then-missed s e = fails-first (byte-missed s e)
 
 -- what the rule r takes from i the rule s takes from k, and the other way
 pub record Same (text : List ℕ) (r : Rule) (i : ℕ) (s : Rule) (k : ℕ) : Type 0 where
@@ -115,7 +101,7 @@ module _ {text : List ℕ} where
 
   -- a rule that never begins with the byte is not found
   pub fails : {c : Class} {r : Rule} {i : ℕ} → never c r ≡ true → Takes text (one c) i (i + 1) → Fails text r i
-  fails {c} {r} n a = record { none = λ t. never-takes text c r n (byte-at a) t }
+  fails {c} {r} n a = begins-none text c r n (byte-at a)
 
   -- where two matches from one place reach equally far, there is one at most
   pub single : (n : ℕ) {r : Rule} → covers n r r ≡ true → Single text r

@@ -7,15 +7,16 @@ use Prim.Native.Nat.{ℕ, _+_, _≤_, _<_}
 use native.Mathlib.Omega.{arith}
 use lib.ListN.{length, getD}
 use Rattle.rules.specs.Class.{has}
-use Rattle.rules.specs.Rule.{one, many, Takes, byte, both, left, right, stop, more, Fails}
+use Rattle.rules.specs.Rule.{one, many, Takes, byte, both, left, right, Fails}
 use Rattle.rules.proofs.Bools.{clash}
 use Rattle.rules.proofs.Classes.{apart, apartSpan, apart-no, just-is}
-use Rattle.rules.proofs.Chains.{reaches}
 use Rattle.rules.proofs.Matches.{starting}
-use Rattle.rules.proofs.Ways.{covers}
+use Rattle.rules.proofs.Ways.{never}
+use Rattle.rules.proofs.Closed.{never-closes}
 use Rattle.lexicon.specs.Bytes.{dividing}
 use Rattle.lexicon.specs.Space.{grave, notGrave, blank}
-use Rattle.text.proofs.Searches.{single, fails-end}
+use Rattle.lexicon.proofs.Spaces.{byte-single}
+use Rattle.text.proofs.Searches.{fails-end}
 
 module _ {text : List ℕ} where
   pub blank-byte : {i : ℕ} {o : Bool} → i < length text → o ≡ has dividing (getD text i 0) → o ≡ true → Takes text blank i (i + 1)
@@ -38,13 +39,10 @@ module _ {text : List ℕ} where
 
   -- where the bytes behind a grave accent run to the end of the text, none of them closes the comment
   pub lone-grave : {i j : ℕ} → Takes text (one grave) i (i + 1) → Takes text (many (one notGrave)) (i + 1) j → length text ≤ j → Fails text blank i
-  unfolding apart apartSpan covers
+  unfolding never apart apartSpan
   lone-grave {i} {j} (byte o x) b h = record { none = go }
     where
-      unclosed : {k m : ℕ} → Takes text (many (one notGrave)) k j → Takes text (one grave) k m → ⊥
-      unclosed (stop e) (byte g y) = omega (arith, g .0)
-      unclosed {k} (more (byte n y) c) (byte g z) = apart-no grave notGrave (getD text k 0) refl (g .1) (n .1)
-
       go : {k : ℕ} → Takes text blank i k → ⊥
       go (left (byte d y)) = apart-no dividing grave (getD text i 0) refl (d .1) (o .1)
-      go (right (both (byte a e) (both c g))) = unclosed (reaches (single 2 refl) b (fails-end refl h) (starting e c)) g
+      go (right (both (byte a e) t)) =
+          never-closes (one notGrave) grave (byte-single notGrave) refl b (fails-end refl h) (λ g. omega (arith, g .0)) .none (starting e t)

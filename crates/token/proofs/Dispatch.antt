@@ -17,6 +17,7 @@ use Rattle.rules.specs.Rule.{Rule, row, lit, At, Takes, Longest, Fails}
 use Rattle.rules.proofs.Bools.{clash, decide, or-cases}
 use Rattle.rules.proofs.Classes.{apart, apartSpan, apart-no, includes, inSome, includes-in, in-cons, just-is}
 use Rattle.rules.proofs.Matches.{ending, row-end}
+use Rattle.rules.proofs.Tests.{says-no}
 use Rattle.rules.proofs.Ways.{never, covers, opens, opens-at}
 use Rattle.lexicon.specs.declared.Form.{Form}
 use Rattle.lexicon.specs.declared.Form.the-variants.{Quoted, Word, HeadWord, CodePoint}
@@ -40,7 +41,7 @@ use Rattle.token.specs.declared.zero.Fixed.{Fixed}
 use Rattle.token.specs.declared.zero.Fixed.the-variants as Fixed
 use Rattle.token.specs.Answers.{NoSymbol, Symboled, NoneAt, TokenAt, StartsAt, NumberOnly, Marked, FixedAt, NotOpening}
 use Rattle.token.proofs.Symbols.{taken-as}
-use Rattle.token.proofs.Starts.{says-false, NoLexeme, nothing-starts}
+use Rattle.token.proofs.Starts.{NoLexeme, nothing-starts}
 
 -- ---- the lexemes that no other outreaches
 
@@ -168,8 +169,8 @@ module _ (text : List ℕ) where
   word-none a f = none-but wordStart aWord word-begins refl a f
 
   pub word-is : {i j : ℕ} (f : Form) → Longest text word i j → Tells text i j f → TokenAt text (Text f) i j false
-  word-is Word l t = record { is = record { told = (alone text aWord word-alone l, t) }; bad-is = says-false _ (λ x. x) }
-  word-is (HeadWord h) l t = record { is = record { told = (alone text aWord word-alone l, t) }; bad-is = says-false _ (λ x. x) }
+  word-is Word l t = record { is = record { told = (alone text aWord word-alone l, t) }; bad-is = says-no (λ x. x) }
+  word-is (HeadWord h) l t = record { is = record { told = (alone text aWord word-alone l, t) }; bad-is = says-no (λ x. x) }
   word-is Quoted l t = absurd t
   word-is CodePoint l t = absurd t
 
@@ -195,7 +196,7 @@ module _ (text : List ℕ) where
             ⊎-elim (λ q. le-of-lt (integer-below text (taken-as text anInteger m q t) (l .takes))) (λ q. l .most (taken-as text aFraction m q t)) (which m (n .others m t))
 
     pub integer-is : {j : ℕ} {s : Bool} → Fails text fraction i → Longest text integer i j → s ≡ has plusMinus (getD text i 0) → TokenAt text (Integer s) i j false
-    integer-is f l e = record { is = record { told = (integer-here f l, e) }; bad-is = says-false _ (λ x. x) }
+    integer-is f l e = record { is = record { told = (integer-here f l, e) }; bad-is = says-no (λ x. x) }
 
     pub fraction-is : {j : ℕ} {b : Bool} → Longest text fraction i j → Says b (ZeroDenominator text i j ⊎ SmallRadix text i j) → TokenAt text Fraction i j b
     fraction-is l s = record { is = record { told = fraction-here l }; bad-is = s }
@@ -239,22 +240,22 @@ module _ (text : List ℕ) where
   fixed-is s l {i} {j} e q t = alone text l e (subst⁻¹ (λ (r : Rule). Longest text r i j) q (fixed-longest (codes s) t))
 
   pub ignorance-is : {i j : ℕ} → Takes text (lit "0sIGNORANCE") i j → TokenAt text Ignorance i j false
-  ignorance-is t = record { is = record { told = fixed-is "0sIGNORANCE" anIgnorance ignorance-alone refl t }; bad-is = says-false _ (λ x. x) }
+  ignorance-is t = record { is = record { told = fixed-is "0sIGNORANCE" anIgnorance ignorance-alone refl t }; bad-is = says-no (λ x. x) }
 
   pub false-is : {i j : ℕ} → Takes text (lit "0bFALSE") i j → TokenAt text (Boolean false) i j false
-  false-is t = record { is = record { told = fixed-is "0bFALSE" (aBoolean false) (boolean-alone false) refl t }; bad-is = says-false _ (λ x. x) }
+  false-is t = record { is = record { told = fixed-is "0bFALSE" (aBoolean false) (boolean-alone false) refl t }; bad-is = says-no (λ x. x) }
 
   pub true-is : {i j : ℕ} → Takes text (lit "0bTRUE") i j → TokenAt text (Boolean true) i j false
-  true-is t = record { is = record { told = fixed-is "0bTRUE" (aBoolean true) (boolean-alone true) refl t }; bad-is = says-false _ (λ x. x) }
+  true-is t = record { is = record { told = fixed-is "0bTRUE" (aBoolean true) (boolean-alone true) refl t }; bad-is = says-no (λ x. x) }
 
   pub later-is : {i j : ℕ} → Takes text (lit "0L") i j → TokenAt text Later i j false
-  later-is t = record { is = record { told = fixed-is "0L" aLater later-alone refl t }; bad-is = says-false _ (λ x. x) }
+  later-is t = record { is = record { told = fixed-is "0L" aLater later-alone refl t }; bad-is = says-no (λ x. x) }
 
   pub spelled-none : (s : String) (i : ℕ) (o : Bool) → Says o (Takes text (lit s) i (i + length (codes s))) → o ≡ false → Fails text (lit s) i
   spelled-none s i o t e = record { none = λ u. clash (t .holds-true (ending (row-end (codes s) u) u)) e }
 
   pub bits-is : {i j : ℕ} → Longest text bits i j → TokenAt text Bits i j false
-  bits-is l = record { is = record { told = alone text aBits bits-alone l }; bad-is = says-false _ (λ x. x) }
+  bits-is l = record { is = record { told = alone text aBits bits-alone l }; bad-is = says-no (λ x. x) }
 
   pub blob-is : {i j : ℕ} {b : Bool} → Longest text blob i j × Says b (BadPadding text i j) → TokenAt text Blob i j b
   blob-is l = record { is = record { told = alone text aBlob blob-alone (l .0) }; bad-is = l .1 }
@@ -279,7 +280,7 @@ module _ (text : List ℕ) where
   -- ---- symbols, and where nothing starts
 
   pub symbol-is : {s : Sign} {i j : ℕ} → Here text (aSymbol s) i j → TokenAt text (Symbol s) i j false
-  symbol-is h = record { is = record { told = h }; bad-is = says-false _ (λ x. x) }
+  symbol-is h = record { is = record { told = h }; bad-is = says-no (λ x. x) }
 
 -- the first bytes of literals
 abbrev opening : Class

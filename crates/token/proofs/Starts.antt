@@ -6,9 +6,9 @@ use mathlib.Core.List.{List, [], _∷_}
 use Prim.Native.Nat.{ℕ, _+_, _≤_, _<_}
 use native.Mathlib.Omega.{arith}
 use lib.ListN.{length, getD}
-use Rattle.rules.specs.Test.{Says}
 use Rattle.rules.specs.Class.{just, anyOf}
 use Rattle.rules.specs.Rule.{one, many, At, Takes, byte, stop, more, Longest, Fails}
+use Rattle.rules.proofs.Tests.{says-no}
 use Rattle.rules.proofs.Classes.{apart, apartSpan}
 use Rattle.rules.proofs.Matches.{starting, ending}
 use Rattle.rules.proofs.Chains.{Single, longest}
@@ -24,9 +24,6 @@ use Rattle.lexicon.specs.Token.{Lexeme, rule, Here, Told, Is}
 use Rattle.lexicon.proofs.Spaces.{byte-single}
 use Rattle.lexicon.proofs.Tokens.{begins, begins-with}
 use Rattle.token.specs.Answers.{NoneAt, TokenAt, StartsAt, colonAt}
-
-pub says-false : (P : Type 0) → (P → ⊥) → Says false P
-says-false P f = record { true-holds = λ e. absurd (false≢true e); holds-true = λ x. absurd (f x) }
 
 colons-begin : begins (anyOf ":") [] ≡ true
 unfolding never apart apartSpan
@@ -93,19 +90,19 @@ module _ (text : List ℕ) where
   module _ (i : ℕ) (a : At text (just 0x3A) i) where
     pub one-colon : (At text (just 0x3A) (i + 1) → ⊥) → TokenAt text Colon i (i + 1) false
     one-colon f =
-        record { is = record { told = (refl, inl (ended (one-more a refl (stop refl)) f)) }; bad-is = says-false _ (λ x. x) }
+        record { is = record { told = (refl, inl (ended (one-more a refl (stop refl)) f)) }; bad-is = says-no (λ x. x) }
 
     module _ (b : At text (just 0x3A) (i + 1)) where
       pub two-colons : (At text (just 0x3A) (i + 2) → ⊥) → TokenAt text TwoColons i (i + 2) false
       two-colons f =
-          record { is = record { told = (refl, ended (one-more a refl (one-more b (omega arith) (stop refl))) f) }; bad-is = says-false _ (λ x. x) }
+          record { is = record { told = (refl, ended (one-more a refl (one-more b (omega arith) (stop refl))) f) }; bad-is = says-no (λ x. x) }
 
       module _ (c : At text (just 0x3A) (i + 2)) where
         three : Run i (i + 3)
         three = one-more a refl (one-more b (omega arith) (one-more c (omega arith) (stop refl)))
 
         pub three-colons : (At text (just 0x3A) (i + 3) → ⊥) → TokenAt text Colon i (i + 1) false
-        three-colons f = record { is = record { told = (refl, inr (ended three f)) }; bad-is = says-false _ (λ x. x) }
+        three-colons f = record { is = record { told = (refl, inr (ended three f)) }; bad-is = says-no (λ x. x) }
 
         pub more-colons : At text (just 0x3A) (i + 3) → NoneAt text i
         more-colons d = record { none = λ k j t. go (shown k (t .told)) }

@@ -1,62 +1,48 @@
+-- `number::blob::bits` meets its contract. Assumes nothing.
 use native.Mathlib.Omega.{arith}
-use Rattle.number.proofs.Blobs.{mark-within, clear-binary, clear-octal, clear-hexadecimal, bits-binary, bits-octal, bits-hexadecimal, bits-none}
+use Rattle.lexicon.specs.declared.Base.the-variants.{Two, Eight, Sixteen}
+use Rattle.lexicon.proofs.Numbers.{clear}
+use Rattle.number.proofs.Blobs.{mark-within, bits-binary, bits-octal, bits-hexadecimal, bits-none}
 use borrow.Author.Needs.{needs}
 use Rattle.number.proofs.blob.bits.Statement.{statement}
 use Rattle.number.proofs.blob.bits.Tie as tie
-use Rattle.number.proofs.blob.bits.Reads as reads
-use Rattle.number.proofs.blob.bits.Lts as lts
-use Rattle.number.proofs.blob.marked.Reads as marked-reads
-use Rattle.number.proofs.blob.tail_at.Reads as tail-at-reads
 
--- src/blob.rt:53:8
 marked-requires : tie.Need-marked-requires
 marked-requires c κs = search needs
 
--- src/blob.rt:54:35
 add-tail-at : tie.Need-add-tail-at
 add-tail-at c = omega (arith, mark-within _ _ _ _ (c .before .marked .result) (c .before .marked .ensures) (c .if1 .taken), c .before .before .before .good .0 .0)
 
--- src/blob.rt:54:13
 tail-at-requires : tie.Need-tail-at-requires
-tail-at-requires c κs = (mark-within _ _ _ _ (c .before .marked .result) (c .before .marked .ensures) (c .if1 .taken), omega arith, omega arith, clear-binary)
+tail-at-requires c κs = (mark-within _ _ _ _ (c .before .marked .result) (c .before .marked .ensures) (c .if1 .taken), omega arith, omega arith, clear Two)
 
--- src/blob.rt:55:9
 returns : tie.Need-returns
 returns c = bits-binary _ (c .before .before .marked .ensures .true-holds (c .before .if1 .taken)) (c .tail-at .ensures)
 
--- src/blob.rt:57:8
 marked-requires-2 : tie.Need-marked-requires-2
 marked-requires-2 c κs = search needs
 
--- src/blob.rt:58:35
 add-tail-at-2 : tie.Need-add-tail-at-2
 add-tail-at-2 c = omega (arith, mark-within _ _ _ _ (c .before .marked2 .result) (c .before .marked2 .ensures) (c .if2 .taken), c .before .before .before .before .before .good .0 .0)
 
--- src/blob.rt:58:13
 tail-at-requires-2 : tie.Need-tail-at-requires-2
-tail-at-requires-2 c κs = (mark-within _ _ _ _ (c .before .marked2 .result) (c .before .marked2 .ensures) (c .if2 .taken), omega arith, omega arith, clear-octal)
+tail-at-requires-2 c κs = (mark-within _ _ _ _ (c .before .marked2 .result) (c .before .marked2 .ensures) (c .if2 .taken), omega arith, omega arith, clear Eight)
 
--- src/blob.rt:59:9
 returns-2 : tie.Need-returns-2
 returns-2 c = bits-octal _ (c .before .before .marked2 .ensures .true-holds (c .before .if2 .taken)) (c .tail-at2 .ensures)
 
--- src/blob.rt:61:8
 marked-requires-3 : tie.Need-marked-requires-3
 marked-requires-3 c κs = search needs
 
--- src/blob.rt:62:35
 add-tail-at-3 : tie.Need-add-tail-at-3
 add-tail-at-3 c = omega (arith, mark-within _ _ _ _ (c .before .marked3 .result) (c .before .marked3 .ensures) (c .if3 .taken), c .before .before .before .before .before .before .before .good .0 .0)
 
--- src/blob.rt:62:13
 tail-at-requires-3 : tie.Need-tail-at-requires-3
-tail-at-requires-3 c κs = (mark-within _ _ _ _ (c .before .marked3 .result) (c .before .marked3 .ensures) (c .if3 .taken), omega arith, omega arith, clear-hexadecimal)
+tail-at-requires-3 c κs = (mark-within _ _ _ _ (c .before .marked3 .result) (c .before .marked3 .ensures) (c .if3 .taken), omega arith, omega arith, clear Sixteen)
 
--- src/blob.rt:63:9
 returns-3 : tie.Need-returns-3
 returns-3 c = bits-hexadecimal _ (c .before .before .marked3 .ensures .true-holds (c .before .if3 .taken)) (c .tail-at3 .ensures)
 
--- src/blob.rt:50:1
 returns-4 : tie.Need-returns-4
 returns-4 c =
     bits-none _ (c .before .before .before .before .before .marked .result) (c .before .before .before .marked2 .result) (c .before .marked3 .result) (c .before .before .before .before .before .marked .ensures) (c .before .before .before .before .if1 .left) (c .before .before .before .marked2 .ensures) (c .before .before .if2 .left) (c .before .marked3 .ensures) (c .if3 .left)

@@ -1,3 +1,4 @@
+-- `number::blob::marked` meets its contract. Assumes nothing.
 use native.Mathlib.Omega.{arith}
 use borrow.Author.Tests.{not-false}
 use Rattle.number.proofs.Blobs.{mark-none-1, mark-none-2, mark-says}
@@ -5,39 +6,28 @@ use Rattle.number.proofs.Fractions.{sign-within}
 use borrow.Author.Needs.{needs}
 use Rattle.number.proofs.blob.marked.Statement.{statement}
 use Rattle.number.proofs.blob.marked.Tie as tie
-use Rattle.number.proofs.blob.marked.Reads as reads
-use Rattle.number.proofs.blob.marked.Lts as lts
-use Rattle.text.proofs.byte.stands.Reads as stands-reads
 
--- src/blob.rt:28:9
 stands-requires : tie.Need-stands-requires
 stands-requires c κs = search needs
 
--- src/blob.rt:29:9
 returns : tie.Need-returns
 returns c = mark-none-1 _ _ _ _ (c .before .stands .result) (c .before .stands .ensures) (c .if1 .taken)
 
--- src/blob.rt:31:22
 add-stands : tie.Need-add-stands
 add-stands c = omega (arith, sign-within _ 0x30 _ (c .before .stands .result) (c .before .stands .ensures) (not-false _ (c .if1 .left)), c .before .before .before .good .0 .0)
 
--- src/blob.rt:31:9
 stands-requires-2 : tie.Need-stands-requires-2
 stands-requires-2 c κs = search needs
 
--- src/blob.rt:32:9
 returns-2 : tie.Need-returns-2
 returns-2 c = mark-none-2 _ _ _ _ (c .before .stands2 .result) (c .before .stands2 .ensures) (c .if2 .taken)
 
--- src/blob.rt:34:18
 add-stands-2 : tie.Need-add-stands-2
 add-stands-2 c = omega (arith, sign-within _ 0x30 _ (c .before .before .before .stands .result) (c .before .before .before .stands .ensures) (not-false _ (c .before .before .if1 .left)), sign-within _ _ _ (c .before .stands2 .result) (c .before .stands2 .ensures) (not-false _ (c .if2 .left)), c .before .before .before .before .before .good .0 .0)
 
--- src/blob.rt:34:5
 stands-requires-3 : tie.Need-stands-requires-3
 stands-requires-3 c κs = search needs
 
--- src/blob.rt:25:1
 returns-3 : tie.Need-returns-3
 returns-3 c =
     mark-says _ _ _ _ (c .before .before .before .before .stands .result) (c .before .before .stands2 .result) (c .stands3 .result) (c .before .before .before .before .stands .ensures) (c .before .before .before .if1 .left) (c .before .before .stands2 .ensures) (c .before .if2 .left) (c .stands3 .ensures)

@@ -1,35 +1,26 @@
+-- `number::blob::tail_at` meets its contract. Assumes nothing.
 use Rattle.number.proofs.Blobs.{tail-digits, tail-none}
 use Rattle.number.proofs.Fractions.{skip-within}
 use borrow.Author.Needs.{needs}
 use Rattle.number.proofs.blob.tail_at.Statement.{statement}
 use Rattle.number.proofs.blob.tail_at.Tie as tie
-use Rattle.number.proofs.blob.tail_at.Reads as reads
-use Rattle.number.proofs.blob.tail_at.Lts as lts
-use Rattle.number.proofs.groups.longest_row.Reads as longest-row-reads
-use Rattle.text.proofs.space.space.Reads as space-reads
 
--- src/blob.rt:42:9
 space-requires : tie.Need-space-requires
 space-requires c κs = search needs
 
--- src/blob.rt:43:35
 longest-row-requires : tie.Need-longest-row-requires
 longest-row-requires c κs =
     (skip-within _ (c .space .ensures) (search needs), search needs, search needs, search needs)
 
--- src/blob.rt:43:22
 enum-known-end : tie.Need-enum-known-end
 enum-known-end c = search needs
 
--- src/blob.rt:44:9
 enum-told : tie.Need-enum-told
 enum-told c = search needs
 
--- src/blob.rt:44:9
 returns : tie.Need-returns
 returns c = tail-none _ _ (c .before .before .longest-row .result) (c .before .before .before .space .ensures) (c .before .before .longest-row .ensures) (c .enum-told .given .1)
 
--- src/blob.rt:38:1
 returns-2 : tie.Need-returns-2
 returns-2 c = tail-digits _ _ (c .before .before .before .longest-row .result) (c .before .before .before .before .space .ensures) (c .before .before .before .longest-row .ensures) (c .before .end .given .1)
 

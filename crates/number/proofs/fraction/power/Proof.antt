@@ -1,75 +1,57 @@
+-- `number::fraction::power` meets its contract. Assumes nothing.
+use Rattle.lexicon.proofs.Answers.{found-at, found-none}
 use native.Mathlib.Omega.{arith}
 use borrow.Author.Tests.{not-false}
-use Rattle.number.proofs.Fractions.{power-none, power-no-radix, power-no-exponent, power-whole, found, found-at, found-none, sign-within, skip-within, number-within}
+use Rattle.number.proofs.Fractions.{power-none, power-no-radix, power-no-exponent, power-whole, found, sign-within, skip-within, number-within}
 use Rattle.number.proofs.Integers.{number-found, number-missing}
 use borrow.Author.Needs.{needs}
 use Rattle.number.proofs.fraction.power.Statement.{statement}
 use Rattle.number.proofs.fraction.power.Tie as tie
-use Rattle.number.proofs.fraction.power.Reads as reads
-use Rattle.number.proofs.fraction.power.Lts as lts
-use Rattle.number.proofs.fraction.exponent.Reads as exponent-reads
-use Rattle.number.proofs.integer.number_at.Reads as number-at-reads
-use Rattle.text.proofs.byte.stands.Reads as stands-reads
-use Rattle.text.proofs.space.space.Reads as space-reads
 
--- src/fraction.rt:78:9
 space-requires : tie.Need-space-requires
 space-requires c κs = search needs
 
--- src/fraction.rt:79:9
 stands-requires : tie.Need-stands-requires
 stands-requires c κs = search needs
 
--- src/fraction.rt:80:9
 returns : tie.Need-returns
 returns c = power-none _ _ _ (c .before .stands .result) (c .before .before .space .ensures) (c .before .stands .ensures) (c .if1 .taken)
 
--- src/fraction.rt:82:28
 add-space : tie.Need-add-space
 add-space c = omega (arith, sign-within _ 0x2A _ (c .before .stands .result) (c .before .stands .ensures) (not-false _ (c .if1 .left)), c .before .before .before .before .good .0 .0)
 
--- src/fraction.rt:82:9
 space-requires-2 : tie.Need-space-requires-2
 space-requires-2 c κs = search needs
 
--- src/fraction.rt:83:46
 number-at-requires : tie.Need-number-at-requires
 number-at-requires c κs = skip-within _ (c .space2 .ensures) (sign-within _ 0x2A _ (c .before .before .stands .result) (c .before .before .stands .ensures) (not-false _ (c .before .if1 .left)))
 
--- src/fraction.rt:83:31
 enum-known-end : tie.Need-enum-known-end
 enum-known-end c = search needs
 
--- src/fraction.rt:84:9
 enum-told : tie.Need-enum-told
 enum-told c = search needs
 
--- src/fraction.rt:84:9
 returns-2 : tie.Need-returns-2
 returns-2 c =
     power-no-radix _ (found _ 0x2A _ _ _ (c .before .before .before .before .before .stands .result) (c .before .before .before .before .before .before .space .ensures) (c .before .before .before .before .before .stands .ensures) (not-false _ (c .before .before .before .before .if1 .left)) (c .before .before .before .space2 .ensures)) (number-missing _ _ (c .before .before .number-at .result) (c .before .before .number-at .ensures) (c .enum-told .given .1))
 
--- src/fraction.rt:86:27
 exponent-requires : tie.Need-exponent-requires
 exponent-requires c κs = number-within _ (number-found _ _ _ _ _ (c .before .before .before .number-at .result) (c .before .before .before .number-at .ensures) (c .before .end .given .1)) (skip-within _ (c .before .before .before .before .space2 .ensures) (sign-within _ 0x2A _ (c .before .before .before .before .before .before .stands .result) (c .before .before .before .before .before .before .stands .ensures) (not-false _ (c .before .before .before .before .before .if1 .left))))
 
--- src/fraction.rt:86:19
 enum-known-last : tie.Need-enum-known-last
 enum-known-last c = search needs
 
--- src/fraction.rt:87:9
 enum-told-2 : tie.Need-enum-told-2
 enum-told-2 c = search needs
 
--- src/fraction.rt:87:9
 returns-3 : tie.Need-returns-3
 returns-3 c =
-    power-no-exponent _ (found _ 0x2A _ _ _ (c .before .before .before .before .before .before .before .before .before .stands .result) (c .before .before .before .before .before .before .before .before .before .before .space .ensures) (c .before .before .before .before .before .before .before .before .before .stands .ensures) (not-false _ (c .before .before .before .before .before .before .before .before .if1 .left)) (c .before .before .before .before .before .before .before .space2 .ensures)) (number-found _ _ _ _ _ (c .before .before .before .before .before .before .number-at .result) (c .before .before .before .before .before .before .number-at .ensures) (c .before .before .before .before .end .given .1)) (found-none _ _ _ (c .before .before .exponent .result) (c .before .before .exponent .ensures) (c .enum-told2 .given .1))
+    power-no-exponent _ (found _ 0x2A _ _ _ (c .before .before .before .before .before .before .before .before .before .stands .result) (c .before .before .before .before .before .before .before .before .before .before .space .ensures) (c .before .before .before .before .before .before .before .before .before .stands .ensures) (not-false _ (c .before .before .before .before .before .before .before .before .if1 .left)) (c .before .before .before .before .before .before .before .space2 .ensures)) (number-found _ _ _ _ _ (c .before .before .before .before .before .before .number-at .result) (c .before .before .before .before .before .before .number-at .ensures) (c .before .before .before .before .end .given .1)) (found-none (c .enum-told2 .given .1) (c .before .before .exponent .ensures))
 
--- src/fraction.rt:74:1
 returns-4 : tie.Need-returns-4
 returns-4 c =
-    power-whole _ (found _ 0x2A _ _ _ (c .before .before .before .before .before .before .before .before .before .before .stands .result) (c .before .before .before .before .before .before .before .before .before .before .before .space .ensures) (c .before .before .before .before .before .before .before .before .before .before .stands .ensures) (not-false _ (c .before .before .before .before .before .before .before .before .before .if1 .left)) (c .before .before .before .before .before .before .before .before .space2 .ensures)) (number-found _ _ _ _ _ (c .before .before .before .before .before .before .before .number-at .result) (c .before .before .before .before .before .before .before .number-at .ensures) (c .before .before .before .before .before .end .given .1)) (found-at _ _ _ _ (c .before .before .before .exponent .result) (c .before .before .before .exponent .ensures) (c .before .last .given .1))
+    power-whole _ (found _ 0x2A _ _ _ (c .before .before .before .before .before .before .before .before .before .before .stands .result) (c .before .before .before .before .before .before .before .before .before .before .before .space .ensures) (c .before .before .before .before .before .before .before .before .before .before .stands .ensures) (not-false _ (c .before .before .before .before .before .before .before .before .before .if1 .left)) (c .before .before .before .before .before .before .before .before .space2 .ensures)) (number-found _ _ _ _ _ (c .before .before .before .before .before .before .before .number-at .result) (c .before .before .before .before .before .before .before .number-at .ensures) (c .before .before .before .before .before .end .given .1)) (found-at (c .before .last .given .1) (c .before .before .before .exponent .ensures))
 
 pub power-spec : {M : Type 1} → statement M
 power-spec =

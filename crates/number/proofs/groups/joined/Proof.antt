@@ -1,62 +1,47 @@
+-- `number::groups::joined` meets its contract. Assumes nothing.
+use native.Mathlib.Omega.{arith}
 use Rattle.rules.proofs.Matches.{inside}
 use Rattle.number.proofs.Joints.{joins-here, joins-line, joins-space, ends-text, ends-line, ends-space}
 use borrow.Author.Needs.{needs}
 use Rattle.number.proofs.groups.joined.Statement.{statement}
 use Rattle.number.proofs.groups.joined.Tie as tie
-use Rattle.number.proofs.groups.joined.Reads as reads
-use Rattle.number.proofs.groups.joined.Lts as lts
-use Rattle.number.proofs.groups.unit.Reads as unit-reads
-use Rattle.text.proofs.space.space.Reads as space-reads
 
--- src/groups.rt:44:8
 unit-requires : tie.Need-unit-requires
 unit-requires c κs = search needs
 
--- src/groups.rt:45:9
 returns : tie.Need-returns
 returns c = search (joins-here, needs)
 
--- src/groups.rt:48:9
 returns-2 : tie.Need-returns-2
 returns-2 c = search (ends-text, needs)
 
--- src/groups.rt:50:8
 shared-slice-read-if3 : tie.Need-shared-slice-read-if3
 shared-slice-read-if3 c = search needs
 
--- src/groups.rt:51:23
 add-unit : tie.Need-add-unit
 add-unit c = search needs
 
--- src/groups.rt:51:12
 unit-requires-2 : tie.Need-unit-requires-2
 unit-requires-2 c κs = search needs
 
--- src/groups.rt:52:30
 add-t13 : tie.Need-add-t13
 add-t13 c = search needs
 
--- src/groups.rt:52:13
 returns-3 : tie.Need-returns-3
 returns-3 c = search (joins-line, needs)
 
--- src/groups.rt:54:9
 returns-4 : tie.Need-returns-4
 returns-4 c = search (ends-line, needs)
 
--- src/groups.rt:56:9
 space-requires : tie.Need-space-requires
 space-requires c κs = search needs
 
--- src/groups.rt:57:8
 unit-requires-3 : tie.Need-unit-requires-3
-unit-requires-3 c κs = (inside (c .space .ensures .takes) (search needs), search needs)
+unit-requires-3 c κs = (omega (arith, inside (c .space .ensures .takes) (search needs)), search needs)
 
--- src/groups.rt:58:9
 returns-5 : tie.Need-returns-5
 returns-5 c = search (joins-space, needs)
 
--- src/groups.rt:40:1
 returns-6 : tie.Need-returns-6
 returns-6 c = search (ends-space, needs)
 

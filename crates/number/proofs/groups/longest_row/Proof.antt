@@ -1,20 +1,15 @@
+-- `number::groups::longest_row` meets its contract. Assumes nothing.
 use Prim.Native.Nat.{_≤_, _-_, _+_}
 use native.Mathlib.Omega.{arith}
 use lib.ListN.{length}
-use Rattle.number.specs.Tally.{limit}
 use Rattle.number.specs.Groups.{Summed, Joins}
 use Rattle.number.proofs.Rows.{no-row, first-within, first-unit, joins, next-unit, unit-within, whole-row}
 use borrow.Author.Needs.{needs}
 use Rattle.number.proofs.groups.longest_row.Statement.{statement}
 use Rattle.number.proofs.groups.longest_row.Tie as tie
-use Rattle.number.proofs.groups.longest_row.Reads as reads
-use Rattle.number.proofs.groups.longest_row.Lts as lts
-use Rattle.number.proofs.groups.joined.Reads as joined-reads
-use Rattle.number.proofs.groups.unit.Reads as unit-reads
-use Rattle.number.proofs.tally.tally_unit.Reads as tally-unit-reads
 
 abbrev Inv-loop : tie.InvT-loop
-Inv-loop text at set width end₀ sum₀ end sum = (at ≤ end) × (end ≤ length text) × (sum ≤ limit) × Summed text set width at end sum
+Inv-loop text at set width end₀ sum₀ end sum = (at ≤ end) × (end ≤ length text) × Summed text set width at end sum
 
 abbrev μ-loop : tie.MeasureT-loop
 μ-loop text at set width end₀ sum₀ end sum = length text - end
@@ -30,67 +25,54 @@ within-next c =
     let a = c .before .before .before .before .before .before .before .before .before .args in
     unit-within (a .text .now) (a .set) (a .width) (a .at) (c .before .before .before .before .loop .end) (c .before .next .given .0 .0) (found-next c) (c .before .before .before .before .loop .inv .1)
 
--- src/groups.rt:68:9
 unit-requires : tie.Need-unit-requires Inv-loop μ-loop
 unit-requires c κs = search needs
 
--- src/groups.rt:69:9
 returns : tie.Need-returns Inv-loop μ-loop
 returns c = search (no-row, needs)
 
--- src/groups.rt:71:19
 add-end : tie.Need-add-end Inv-loop μ-loop
 add-end c = search needs
 
--- src/groups.rt:72:9
 tally-unit-requires : tie.Need-tally-unit-requires Inv-loop μ-loop
 tally-unit-requires c κs =
     let a = c .before .before .before .args in
-    (first-within (a .text .now) (a .set) (a .width) (a .at) (c .before .unit .result) (c .before .unit .ensures) (c .if1 .left) (search needs), search needs)
+    first-within (a .text .now) (a .set) (a .width) (a .at) (c .before .unit .result) (c .before .unit .ensures) (c .if1 .left) (search needs)
 
--- src/groups.rt:73:5
 loop-holds : tie.Need-loop-holds Inv-loop μ-loop
 loop-holds c =
     let a = c .before .before .before .before .args in
     let h = first-within (a .text .now) (a .set) (a .width) (a .at) (c .before .before .unit .result) (c .before .before .unit .ensures) (c .before .if1 .left) (search needs) in
-    (omega arith, h, c .tally-unit .ensures .1, first-unit (a .text .now) (a .set) (a .width) (a .at) (c .before .before .unit .result) (c .tally-unit .result) (c .before .before .unit .ensures) (c .before .if1 .left) (c .tally-unit .ensures .0))
+    (omega arith, h, first-unit (a .text .now) (a .set) (a .width) (a .at) (c .before .before .unit .result) (c .tally-unit .result) (c .before .before .unit .ensures) (c .before .if1 .left) (c .tally-unit .ensures))
 
--- src/groups.rt:74:31
 joined-requires : tie.Need-joined-requires Inv-loop μ-loop
 joined-requires c κs = search needs
 
--- src/groups.rt:74:23
 enum-known-next : tie.Need-enum-known-next Inv-loop μ-loop
 enum-known-next c = search needs
 
--- src/groups.rt:75:13
 enum-told : tie.Need-enum-told Inv-loop μ-loop
 enum-told c = search needs
 
--- src/groups.rt:75:13
 returns-2 : tie.Need-returns-2 Inv-loop μ-loop
 returns-2 c =
     let a = c .before .before .before .before .before .before .before .before .args in
-    whole-row (a .text .now) (a .set) (a .width) (a .at) _ _ (c .before .before .joined .result) (c .before .before .before .loop .inv .3) (c .before .before .joined .ensures) (c .enum-told .given .1)
+    whole-row (a .text .now) (a .set) (a .width) (a .at) _ _ (c .before .before .joined .result) (c .before .before .before .loop .inv .2) (c .before .before .joined .ensures) (c .enum-told .given .1)
 
--- src/groups.rt:77:9
 tally-unit-requires-2 : tie.Need-tally-unit-requires-2 Inv-loop μ-loop
-tally-unit-requires-2 c κs = (within-next c .1, search needs)
+tally-unit-requires-2 c κs = within-next c .1
 
--- src/groups.rt:78:15
 add-end-2 : tie.Need-add-end-2 Inv-loop μ-loop
 add-end-2 c = omega (arith, within-next (c .before), c .before .before .before .before .before .before .before .before .before .before .good .0 .0)
 
--- src/groups.rt:73:5
 loop-less : tie.Need-loop-less Inv-loop μ-loop
 loop-less c = omega (arith, within-next (c .before))
 
--- src/groups.rt:73:5
 loop-again : tie.Need-loop-again Inv-loop μ-loop
 loop-again c =
     let a = c .before .before .before .before .before .before .before .before .before .before .args in
     let w = within-next (c .before) in
-    (omega arith, w .1, c .tally-unit2 .ensures .1, next-unit (a .text .now) (a .set) (a .width) (a .at) (c .before .before .before .before .before .loop .end) (c .before .before .next .given .0 .0) (c .before .before .before .before .before .loop .sum) (c .tally-unit2 .result) (c .before .before .before .before .before .loop .inv .3) (found-next (c .before)) (c .tally-unit2 .ensures .0))
+    (omega arith, w .1, next-unit (a .text .now) (a .set) (a .width) (a .at) (c .before .before .before .before .before .loop .end) (c .before .before .next .given .0 .0) (c .before .before .before .before .before .loop .sum) (c .tally-unit2 .result) (c .before .before .before .before .before .loop .inv .2) (found-next (c .before)) (c .tally-unit2 .ensures))
 
 pub longest-row-spec : {M : Type 1} → statement M
 longest-row-spec =

@@ -1,37 +1,28 @@
+-- `number::integer::digits` meets its contract. Assumes nothing.
 use mathlib.Core.Path.{refl}
 use native.Mathlib.Omega.{arith}
 use Rattle.number.proofs.Marks.{clear-set, row-found, row-missing}
 use borrow.Author.Needs.{needs}
 use Rattle.number.proofs.integer.digits.Statement.{statement}
 use Rattle.number.proofs.integer.digits.Tie as tie
-use Rattle.number.proofs.integer.digits.Reads as reads
-use Rattle.number.proofs.integer.digits.Lts as lts
-use Rattle.number.proofs.groups.longest_row.Reads as longest-row-reads
-use Rattle.number.proofs.integer.digit_set.Reads as digit-set-reads
 
--- src/integer.rt:62:9
 digit-set-requires : tie.Need-digit-set-requires
 digit-set-requires c κs = search needs
 
--- src/integer.rt:63:35
 longest-row-requires : tie.Need-longest-row-requires
 longest-row-requires c κs = (search needs, omega arith, omega arith, clear-set (c .before .before .args .base) (c .digit-set .result) (c .digit-set .ensures))
 
--- src/integer.rt:63:22
 enum-known-end : tie.Need-enum-known-end
 enum-known-end c = search needs
 
--- src/integer.rt:64:9
 enum-told : tie.Need-enum-told
 enum-told c = search needs
 
--- src/integer.rt:64:9
 returns : tie.Need-returns
 returns c =
     let a = c .before .before .before .before .before .args in
     row-missing (a .text .now) (a .at) (a .base) (c .before .before .before .digit-set .result) (c .before .before .longest-row .result) (c .before .before .before .digit-set .ensures) (c .before .before .longest-row .ensures) (c .enum-told .given .1)
 
--- src/integer.rt:58:1
 returns-2 : tie.Need-returns-2
 returns-2 c =
     let a = c .before .before .before .before .before .before .args in

@@ -1,38 +1,28 @@
+-- `number::integer::integer` meets its contract. Assumes nothing.
 use Rattle.number.proofs.Integers.{integer-beyond, integer-longest, integer-none, number-found, number-missing}
 use borrow.Author.Needs.{needs}
 use Rattle.number.proofs.integer.integer.Statement.{statement}
 use Rattle.number.proofs.integer.integer.Tie as tie
-use Rattle.number.proofs.integer.integer.Reads as reads
-use Rattle.number.proofs.integer.integer.Lts as lts
-use Rattle.number.proofs.integer.number_at.Reads as number-at-reads
-use Rattle.number.proofs.integer.start.Reads as start-reads
 
--- src/integer.rt:122:9
 returns : tie.Need-returns
 returns c = search (integer-beyond, needs)
 
--- src/integer.rt:124:9
 start-requires : tie.Need-start-requires
 start-requires c κs = search needs
 
--- src/integer.rt:125:49
 number-at-requires : tie.Need-number-at-requires
 number-at-requires c κs = search needs
 
--- src/integer.rt:125:31
 enum-known-end : tie.Need-enum-known-end
 enum-known-end c = search needs
 
--- src/integer.rt:126:9
 enum-told : tie.Need-enum-told
 enum-told c = search needs
 
--- src/integer.rt:126:9
 returns-2 : tie.Need-returns-2
 returns-2 c =
     integer-none _ (c .before .before .before .start .ensures .0) (number-missing _ _ (c .before .before .number-at .result) (c .before .before .number-at .ensures) (c .enum-told .given .1))
 
--- src/integer.rt:118:1
 returns-3 : tie.Need-returns-3
 returns-3 c =
     integer-longest _ (c .before .before .before .before .start .ensures .0) (number-found _ _ _ _ _ (c .before .before .before .number-at .result) (c .before .before .before .number-at .ensures) (c .before .end .given .1))

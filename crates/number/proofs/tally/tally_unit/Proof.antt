@@ -1,56 +1,46 @@
+-- `number::tally::tally_unit` meets its contract. Assumes nothing.
 use borrow.Author.Needs.{needs}
 use mathlib.Core.Path.{_≡_, ap, _∙_}
 use Prim.Native.Nat.{ℕ, _≤_, _-_}
 use native.Mathlib.Nat.{le-antisymm}
 use Rattle.lexicon.specs.Values.{read}
-use Rattle.number.specs.Tally.{limit, tallies}
+use Rattle.number.specs.Tally.{tallies}
 use Rattle.number.proofs.Sums.{tally-next}
 use Rattle.number.proofs.tally.tally_unit.Statement.{statement}
 use Rattle.number.proofs.tally.tally_unit.Tie as tie
-use Rattle.number.proofs.tally.tally_unit.Reads as reads
-use Rattle.number.proofs.tally.tally_unit.Lts as lts
-use Rattle.number.proofs.tally.tally.Reads as tally-reads
 
 abbrev Inv-loop : tie.InvT-loop
-Inv-loop text from width set sum total₀ k₀ total k = (k ≤ width) × (total ≤ limit) × (total ≡ tallies set sum (read text from k))
+Inv-loop text from width set sum total₀ k₀ total k = (k ≤ width) × (total ≡ tallies set sum (read text from k))
 
 abbrev μ-loop : tie.MeasureT-loop
 μ-loop text from width set sum total₀ k₀ total k = width - k
 
--- src/tally.rt:68:5
 loop-holds : tie.Need-loop-holds Inv-loop μ-loop
 unfolding tallies
 loop-holds c = search needs
 
--- src/tally.rt:69:40
 add-tally : tie.Need-add-tally Inv-loop μ-loop
 add-tally c = search needs
 
--- src/tally.rt:69:35
 shared-slice-read-tally : tie.Need-shared-slice-read-tally Inv-loop μ-loop
 shared-slice-read-tally c = search needs
 
--- src/tally.rt:69:9
 tally-requires : tie.Need-tally-requires Inv-loop μ-loop
 tally-requires c κs = search needs
 
--- src/tally.rt:70:9
 add-k : tie.Need-add-k Inv-loop μ-loop
 add-k c = search needs
 
--- src/tally.rt:68:5
 loop-less : tie.Need-loop-less Inv-loop μ-loop
 loop-less c = search needs
 
--- src/tally.rt:68:5
 loop-again : tie.Need-loop-again Inv-loop μ-loop
 loop-again c =
-    (search needs, search needs, tally-next (c .before .before .before .before .before .args .set) (c .before .before .before .before .before .args .text .now) (c .before .before .before .before .before .args .sum) (c .before .before .before .before .before .args .from) (c .before .before .before .loop .k) _ _ (c .before .before .before .loop .inv .2) (c .tally .ensures .0))
+    (search needs, tally-next (c .before .before .before .before .before .args .set) (c .before .before .before .before .before .args .text .now) (c .before .before .before .before .before .args .sum) (c .before .before .before .before .before .args .from) (c .before .before .before .loop .k) _ _ (c .before .before .before .loop .inv .1) (c .tally .ensures))
 
--- src/tally.rt:62:1
 returns : tie.Need-returns Inv-loop μ-loop
 returns c =
-    (c .before .loop .inv .2 ∙ ap (λ (k : ℕ). tallies (c .before .before .before .args .set) (c .before .before .before .args .sum) (read (c .before .before .before .args .text .now) (c .before .before .before .args .from) k)) (le-antisymm (c .before .loop .inv .0) (c .loop-test .left)), c .before .loop .inv .1)
+    c .before .loop .inv .1 ∙ ap (λ (k : ℕ). tallies (c .before .before .before .args .set) (c .before .before .before .args .sum) (read (c .before .before .before .args .text .now) (c .before .before .before .args .from) k)) (le-antisymm (c .before .loop .inv .0) (c .loop-test .left))
 
 pub tally-unit-spec : {M : Type 1} → statement M
 tally-unit-spec =

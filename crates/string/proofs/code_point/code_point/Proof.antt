@@ -4,7 +4,7 @@ use borrow.Author.Needs.{needs}
 use native.Mathlib.Omega.{arith}
 use borrow.Author.Tests.{not-false}
 use Rattle.lexicon.specs.declared.Base.the-variants.{Two, Eight, Ten, Sixteen}
-use Rattle.string.proofs.Answers.{there}
+use Rattle.rules.proofs.Tests.{there}
 use Rattle.string.proofs.Codes.{no-zero, no-c, no-more, mark-judged, digit-judged}
 use Rattle.string.proofs.code_point.code_point.Statement.{statement}
 use Rattle.string.proofs.code_point.code_point.Tie as tie

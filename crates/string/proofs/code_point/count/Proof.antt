@@ -1,21 +1,23 @@
--- `string::code_point::count` meets its contract: the bytes up to `i` are digits, and `code` is their number held below the cap.
+-- `string::code_point::count` meets its contract: the bytes up to `i` are digits, and `code` is their number up to the limit.
 -- Assumes nothing.
 use borrow.Author.Needs.{needs}
 use Prim.Native.Nat.{_-_}
-use native.Mathlib.Omega.{arith}
 use lib.ListN.{length}
 use Rattle.string.proofs.Numbers.{Counting, counting-none, counting-more, counting-ends, counting-all}
 use Rattle.string.proofs.code_point.count.Statement.{statement}
 use Rattle.string.proofs.code_point.count.Tie as tie
 
 abbrev Inv-loop : tie.InvT-loop
-Inv-loop text at base set code₀ i₀ code i = Counting text base at i code
+Inv-loop text at set n code₀ i₀ code i = Counting text set at i code
 
 abbrev μ-loop : tie.MeasureT-loop
-μ-loop text at base set code₀ i₀ code i = length text - i
+μ-loop text at set n code₀ i₀ code i = length text - i
 
-set-of-requires : tie.Need-set-of-requires Inv-loop μ-loop
-set-of-requires c κs = search needs
+digit-set-requires : tie.Need-digit-set-requires Inv-loop μ-loop
+digit-set-requires c κs = search needs
+
+radix-requires : tie.Need-radix-requires Inv-loop μ-loop
+radix-requires c κs = search needs
 
 loop-holds : tie.Need-loop-holds Inv-loop μ-loop
 loop-holds c = counting-none _ _ _
@@ -29,8 +31,8 @@ in-set-requires c κs = search needs
 returns : tie.Need-returns Inv-loop μ-loop
 returns c = search (counting-ends, needs)
 
-step-requires : tie.Need-step-requires Inv-loop μ-loop
-step-requires c κs = omega (arith, c .before .before .before .before .loop .inv .code)
+limited-requires : tie.Need-limited-requires Inv-loop μ-loop
+limited-requires c κs = search needs
 
 add-i : tie.Need-add-i Inv-loop μ-loop
 add-i c = search needs
@@ -50,12 +52,13 @@ count-spec =
     (tie.spec
     Inv-loop
     μ-loop
-    set-of-requires
+    digit-set-requires
+    radix-requires
     loop-holds
     shared-slice-read-b
     in-set-requires
     returns
-    step-requires
+    limited-requires
     add-i
     loop-less
     loop-again

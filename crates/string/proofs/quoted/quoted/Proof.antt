@@ -12,7 +12,7 @@ use Rattle.lexicon.specs.Literals.{segment}
 use Rattle.lexicon.specs.Bad.{BadSegment, BadFurther, BadQuoted}
 use Rattle.string.proofs.Characters.{begins-within}
 use Rattle.string.proofs.Segments.{further, further-strict, no-quoted, quoted-ends, first-said, next-said}
-use Rattle.string.proofs.Taken.{literal-at, no-literal}
+use Rattle.lexicon.proofs.Answers.{judged-at, judged-none}
 use Rattle.string.proofs.quoted.quoted.Statement.{statement}
 use Rattle.string.proofs.quoted.quoted.Tie as tie
 
@@ -32,10 +32,10 @@ enum-told : tie.Need-enum-told Inv-loop μ-loop
 enum-told c = search needs
 
 returns : tie.Need-returns Inv-loop μ-loop
-returns c = no-quoted _ (no-literal (BadSegment (c .before .before .before .before .args .text .now)) (c .enum-told .given .1) (c .before .before .segment .ensures))
+returns c = no-quoted _ (judged-none (BadSegment (c .before .before .before .before .args .text .now)) (c .enum-told .given .1) (c .before .before .segment .ensures))
 
 loop-holds : tie.Need-loop-holds Inv-loop μ-loop
-loop-holds c = let z = literal-at (BadSegment (c .before .before .before .before .before .args .text .now)) (c .before .first .given .1) (c .before .before .before .segment .ensures) in (z .0 .takes, stop refl, first-said _ (z .0 .takes) (z .1))
+loop-holds c = let z = judged-at (BadSegment (c .before .before .before .before .before .args .text .now)) (c .before .first .given .1) (c .before .before .before .segment .ensures) in (z .0 .takes, stop refl, first-said _ (z .0 .takes) (z .1))
 
 further-requires : tie.Need-further-requires Inv-loop μ-loop
 further-requires c κs = search needs
@@ -47,13 +47,13 @@ enum-told-2 : tie.Need-enum-told-2 Inv-loop μ-loop
 enum-told-2 c = search needs
 
 returns-2 : tie.Need-returns-2 Inv-loop μ-loop
-returns-2 c = let v = c .before .before .before .loop .inv in (quoted-ends _ (v .0) (v .1) (no-literal (BadFurther (c .before .before .before .before .before .before .before .before .before .args .text .now)) (c .enum-told2 .given .1) (c .before .before .further .ensures)), v .2)
+returns-2 c = let v = c .before .before .before .loop .inv in (quoted-ends _ (v .0) (v .1) (judged-none (BadFurther (c .before .before .before .before .before .before .before .before .before .args .text .now)) (c .enum-told2 .given .1) (c .before .before .further .ensures)), v .2)
 
 loop-less : tie.Need-loop-less Inv-loop μ-loop
-loop-less c = let y = literal-at (BadFurther (c .before .before .before .before .before .before .before .before .before .before .args .text .now)) (c .before .next .given .1) (c .before .before .before .further .ensures) in omega (arith, begins-within further refl (y .0 .takes), further-strict _ .less (y .0 .takes))
+loop-less c = let y = judged-at (BadFurther (c .before .before .before .before .before .before .before .before .before .before .args .text .now)) (c .before .next .given .1) (c .before .before .before .further .ensures) in omega (arith, begins-within further refl (y .0 .takes), further-strict _ .less (y .0 .takes))
 
 loop-again : tie.Need-loop-again Inv-loop μ-loop
-loop-again c = let y = literal-at (BadFurther (c .before .before .before .before .before .before .before .before .before .before .args .text .now)) (c .before .next .given .1) (c .before .before .before .further .ensures) in let v = c .before .before .before .before .loop .inv in
+loop-again c = let y = judged-at (BadFurther (c .before .before .before .before .before .before .before .before .before .before .args .text .now)) (c .before .next .given .1) (c .before .before .before .further .ensures) in let v = c .before .before .before .before .loop .inv in
     (v .0, snoc (v .1) (y .0 .takes), next-said _ (v .0) (v .1) (y .0 .takes) (v .2) (y .1))
 
 pub quoted-spec : {M : Type 1} → statement M

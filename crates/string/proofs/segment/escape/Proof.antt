@@ -4,7 +4,7 @@ use borrow.Author.Needs.{needs}
 use native.Mathlib.Omega.{arith}
 use borrow.Author.Tests.{not-false}
 use Rattle.lexicon.specs.Values.{Letter}
-use Rattle.string.proofs.Answers.{there}
+use Rattle.rules.proofs.Tests.{there}
 use Rattle.string.proofs.Escapes.{by-letter, by-angle, by-none, by-end, by-other}
 use Rattle.string.proofs.segment.escape.Statement.{statement}
 use Rattle.string.proofs.segment.escape.Tie as tie
@@ -31,22 +31,22 @@ angled-requires : tie.Need-angled-requires
 angled-requires c κs = search needs
 
 returns-3 : tie.Need-returns-3
-returns-3 c = by-letter _ _ (c .before .before .before .before .stands .ensures) (c .before .before .before .if1 .left) Letter.q (c .before .before .if2 .left) (c .match .keys1)
+returns-3 c = by-letter _ _ (c .before .before .before .before .stands .ensures) (c .before .before .before .if1 .left) Letter.quotationMark (c .before .before .if2 .left) (c .match .keys1)
 
 returns-4 : tie.Need-returns-4
-returns-4 c = by-letter _ _ (c .before .before .before .before .stands .ensures) (c .before .before .before .if1 .left) Letter.g (c .before .before .if2 .left) (c .match .keys2)
+returns-4 c = by-letter _ _ (c .before .before .before .before .stands .ensures) (c .before .before .before .if1 .left) Letter.graveAccent (c .before .before .if2 .left) (c .match .keys2)
 
 returns-5 : tie.Need-returns-5
-returns-5 c = by-letter _ _ (c .before .before .before .before .stands .ensures) (c .before .before .before .if1 .left) Letter.b (c .before .before .if2 .left) (c .match .keys3)
+returns-5 c = by-letter _ _ (c .before .before .before .before .stands .ensures) (c .before .before .before .if1 .left) Letter.reverseSolidus (c .before .before .if2 .left) (c .match .keys3)
 
 returns-6 : tie.Need-returns-6
-returns-6 c = by-letter _ _ (c .before .before .before .before .stands .ensures) (c .before .before .before .if1 .left) Letter.t (c .before .before .if2 .left) (c .match .keys4)
+returns-6 c = by-letter _ _ (c .before .before .before .before .stands .ensures) (c .before .before .before .if1 .left) Letter.tab (c .before .before .if2 .left) (c .match .keys4)
 
 returns-7 : tie.Need-returns-7
-returns-7 c = by-letter _ _ (c .before .before .before .before .stands .ensures) (c .before .before .before .if1 .left) Letter.n (c .before .before .if2 .left) (c .match .keys5)
+returns-7 c = by-letter _ _ (c .before .before .before .before .stands .ensures) (c .before .before .before .if1 .left) Letter.lineFeed (c .before .before .if2 .left) (c .match .keys5)
 
 returns-8 : tie.Need-returns-8
-returns-8 c = by-letter _ _ (c .before .before .before .before .stands .ensures) (c .before .before .before .if1 .left) Letter.r (c .before .before .if2 .left) (c .match .keys6)
+returns-8 c = by-letter _ _ (c .before .before .before .before .stands .ensures) (c .before .before .before .if1 .left) Letter.carriageReturn (c .before .before .if2 .left) (c .match .keys6)
 
 returns-9 : tie.Need-returns-9
 returns-9 c = let a = c .before .before .before .before .before .before .before .args in by-angle (a .text .now) (a .at) (c .before .before .before .before .before .stands .ensures) (c .before .before .before .before .if1 .left) (c .angled .result) (c .before .before .before .if2 .left) (c .before .match .keys7) (c .angled .ensures)

@@ -11,13 +11,13 @@ use Rattle.rules.specs.Rule.{many, Takes, stop, Among}
 use Rattle.rules.proofs.Chains.{snoc}
 use Rattle.lexicon.specs.Bad.{BadEscape}
 use Rattle.string.specs.Parts.{item}
-use Rattle.string.proofs.Answers.{there, not-there}
+use Rattle.rules.proofs.Tests.{there, not-there}
 use Rattle.string.proofs.Among.{none-said, said}
 use Rattle.string.proofs.Characters.{begins-within}
-use Rattle.string.proofs.Closed.{never-closes}
+use Rattle.rules.proofs.Closed.{never-closes}
 use Rattle.string.proofs.Items.{quote, quote-item, item-single, item-strict}
 use Rattle.string.proofs.Segments.{rest-judged}
-use Rattle.string.proofs.Taken.{literal-at, no-literal}
+use Rattle.lexicon.proofs.Answers.{judged-at, judged-none}
 use Rattle.string.proofs.segment.escaped.Statement.{statement}
 use Rattle.string.proofs.segment.escaped.Tie as tie
 
@@ -43,14 +43,14 @@ enum-told : tie.Need-enum-told Inv-loop μ-loop
 enum-told c = search needs
 
 returns : tie.Need-returns Inv-loop μ-loop
-returns c = never-closes item quote item-single quote-item (c .before .before .before .before .before .loop .inv .0) (no-literal (BadEscape (c .before .before .before .before .before .before .before .args .text .now)) (c .enum-told .given .1) (c .before .before .item .ensures))
+returns c = never-closes item quote item-single quote-item (c .before .before .before .before .before .loop .inv .0) (judged-none (BadEscape (c .before .before .before .before .before .before .before .args .text .now)) (c .enum-told .given .1) (c .before .before .item .ensures))
     (not-there (c .before .before .before .before .stands .ensures) (not-true _ (c .before .before .before .if1 .taken)))
 
 loop-less : tie.Need-loop-less Inv-loop μ-loop
-loop-less c = let y = literal-at (BadEscape (c .before .before .before .before .before .before .before .before .args .text .now)) (c .before .end .given .1) (c .before .before .before .item .ensures) in omega (arith, begins-within item refl (y .0 .takes), item-strict .less (y .0 .takes))
+loop-less c = let y = judged-at (BadEscape (c .before .before .before .before .before .before .before .before .args .text .now)) (c .before .end .given .1) (c .before .before .before .item .ensures) in omega (arith, begins-within item refl (y .0 .takes), item-strict .less (y .0 .takes))
 
 loop-again : tie.Need-loop-again Inv-loop μ-loop
-loop-again c = let y = literal-at (BadEscape (c .before .before .before .before .before .before .before .before .args .text .now)) (c .before .end .given .1) (c .before .before .before .item .ensures) in let v = c .before .before .before .before .before .before .loop .inv in
+loop-again c = let y = judged-at (BadEscape (c .before .before .before .before .before .before .before .before .args .text .now)) (c .before .end .given .1) (c .before .before .before .item .ensures) in let v = c .before .before .before .before .before .before .loop .inv in
     (snoc (v .0) (y .0 .takes), said _ item (BadEscape (c .before .before .before .before .before .before .before .before .args .text .now)) item-single item-strict (v .0) (y .0 .takes) (v .1) (y .1))
 
 add-t10 : tie.Need-add-t10 Inv-loop μ-loop

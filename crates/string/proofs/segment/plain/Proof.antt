@@ -9,10 +9,10 @@ use lib.ListN.{length}
 use Rattle.rules.specs.Rule.{many, Takes, stop}
 use Rattle.rules.proofs.Chains.{snoc}
 use Rattle.lexicon.specs.Literals.{restricted}
-use Rattle.text.proofs.Searches.{at-end, not-found}
-use Rattle.string.proofs.Answers.{there, not-there}
+use Rattle.lexicon.proofs.Answers.{found-at, found-none}
+use Rattle.rules.proofs.Tests.{there, not-there}
 use Rattle.string.proofs.Characters.{begins-within}
-use Rattle.string.proofs.Closed.{closes, never-closes}
+use Rattle.rules.proofs.Closed.{closes, never-closes}
 use Rattle.string.proofs.Items.{quote, quote-restricted, restricted-single, restricted-strict}
 use Rattle.string.proofs.segment.plain.Statement.{statement}
 use Rattle.string.proofs.segment.plain.Tie as tie
@@ -39,14 +39,14 @@ enum-told : tie.Need-enum-told Inv-loop μ-loop
 enum-told c = search needs
 
 returns : tie.Need-returns Inv-loop μ-loop
-returns c = never-closes restricted quote restricted-single quote-restricted (c .before .before .before .before .before .loop .inv) (not-found (c .enum-told .given .1) (c .before .before .restricted .ensures))
+returns c = never-closes restricted quote restricted-single quote-restricted (c .before .before .before .before .before .loop .inv) (found-none (c .enum-told .given .1) (c .before .before .restricted .ensures))
     (not-there (c .before .before .before .before .stands .ensures) (not-true _ (c .before .before .before .if1 .taken)))
 
 loop-less : tie.Need-loop-less Inv-loop μ-loop
-loop-less c = omega (arith, begins-within restricted refl (at-end (c .before .next .given .1) (c .before .before .before .restricted .ensures) .takes), restricted-strict .less (at-end (c .before .next .given .1) (c .before .before .before .restricted .ensures) .takes))
+loop-less c = omega (arith, begins-within restricted refl (found-at (c .before .next .given .1) (c .before .before .before .restricted .ensures) .takes), restricted-strict .less (found-at (c .before .next .given .1) (c .before .before .before .restricted .ensures) .takes))
 
 loop-again : tie.Need-loop-again Inv-loop μ-loop
-loop-again c = snoc (c .before .before .before .before .before .before .loop .inv) (at-end (c .before .next .given .1) (c .before .before .before .restricted .ensures) .takes)
+loop-again c = snoc (c .before .before .before .before .before .before .loop .inv) (found-at (c .before .next .given .1) (c .before .before .before .restricted .ensures) .takes)
 
 add-t8 : tie.Need-add-t8 Inv-loop μ-loop
 add-t8 c = omega (arith, there (c .before .stands .ensures) (not-false _ (c .if1 .left)) .0)

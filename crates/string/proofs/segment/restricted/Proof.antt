@@ -2,8 +2,8 @@
 -- Assumes nothing.
 use borrow.Author.Needs.{needs}
 use native.Mathlib.Omega.{arith}
-use Rattle.text.proofs.Searches.{at-end, not-found}
-use Rattle.string.proofs.Answers.{there, not-there}
+use Rattle.lexicon.proofs.Answers.{found-at, found-none}
+use Rattle.rules.proofs.Tests.{there, not-there}
 use Rattle.string.proofs.Escapes.{plain-character, plain-backslash, no-plain}
 use Rattle.string.proofs.segment.restricted.Statement.{statement}
 use Rattle.string.proofs.segment.restricted.Tie as tie
@@ -27,10 +27,10 @@ enum-told : tie.Need-enum-told
 enum-told c = search needs
 
 returns-2 : tie.Need-returns-2
-returns-2 c = no-plain _ (not-found (c .enum-told .given .1) (c .before .before .character .ensures)) (not-there (c .before .before .before .before .stands .ensures) (c .before .before .before .if1 .left))
+returns-2 c = no-plain _ (found-none (c .enum-told .given .1) (c .before .before .character .ensures)) (not-there (c .before .before .before .before .stands .ensures) (c .before .before .before .if1 .left))
 
 returns-3 : tie.Need-returns-3
-returns-3 c = plain-character _ (at-end (c .before .end .given .1) (c .before .before .before .character .ensures))
+returns-3 c = plain-character _ (found-at (c .before .end .given .1) (c .before .before .before .character .ensures))
 
 pub restricted-spec : {M : Type 1} → statement M
 restricted-spec =

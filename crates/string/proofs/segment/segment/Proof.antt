@@ -3,8 +3,8 @@
 use borrow.Author.Needs.{needs}
 use native.Mathlib.Omega.{arith}
 use borrow.Author.Tests.{not-true, not-false}
-use Rattle.text.proofs.Searches.{at-end, not-found}
-use Rattle.string.proofs.Answers.{there, not-there}
+use Rattle.lexicon.proofs.Answers.{found-at, found-none}
+use Rattle.rules.proofs.Tests.{there, not-there}
 use Rattle.string.proofs.Segments.{no-segment, segment-escaped, segment-plain, segment-open}
 use Rattle.string.proofs.segment.segment.Statement.{statement}
 use Rattle.string.proofs.segment.segment.Tie as tie
@@ -43,10 +43,10 @@ enum-told : tie.Need-enum-told
 enum-told c = search needs
 
 returns-3 : tie.Need-returns-3
-returns-3 c = let a = c .before .before .before .before .before .before .before .before .args in segment-open (a .text .now) (a .at) (not-there (c .before .before .before .before .stands2 .ensures) (c .before .before .before .if2 .left)) (not-found (c .enum-told .given .1) (c .before .before .plain .ensures))
+returns-3 c = let a = c .before .before .before .before .before .before .before .before .args in segment-open (a .text .now) (a .at) (not-there (c .before .before .before .before .stands2 .ensures) (c .before .before .before .if2 .left)) (found-none (c .enum-told .given .1) (c .before .before .plain .ensures))
 
 returns-4 : tie.Need-returns-4
-returns-4 c = let a = c .before .before .before .before .before .before .before .before .before .args in segment-plain (a .text .now) (a .at) (c .before .end .given .0 .0) (there (c .before .before .before .before .before .before .before .stands .ensures) (not-false _ (c .before .before .before .before .before .before .if1 .left))) (not-there (c .before .before .before .before .before .stands2 .ensures) (c .before .before .before .before .if2 .left)) (at-end (c .before .end .given .1) (c .before .before .before .plain .ensures))
+returns-4 c = let a = c .before .before .before .before .before .before .before .before .before .args in segment-plain (a .text .now) (a .at) (c .before .end .given .0 .0) (there (c .before .before .before .before .before .before .before .stands .ensures) (not-false _ (c .before .before .before .before .before .before .if1 .left))) (not-there (c .before .before .before .before .before .stands2 .ensures) (c .before .before .before .before .if2 .left)) (found-at (c .before .end .given .1) (c .before .before .before .plain .ensures))
 
 pub segment-spec : {M : Type 1} → statement M
 segment-spec =

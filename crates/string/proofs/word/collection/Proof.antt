@@ -1,7 +1,7 @@
 -- `string::word::collection` meets its contract: one comparison a word.
 -- Assumes nothing.
 use mathlib.Core.Path.{refl}
-use Rattle.string.proofs.Answers.{refuted}
+use Rattle.rules.proofs.Tests.{refuted}
 use Rattle.string.proofs.word.collection.Statement.{statement}
 use Rattle.string.proofs.word.collection.Tie as tie
 

@@ -3,7 +3,7 @@
 use borrow.Author.Needs.{needs}
 use mathlib.Core.Path.{refl}
 use Rattle.string.specs.Parts.{collections}
-use Rattle.string.proofs.Answers.{refuted}
+use Rattle.rules.proofs.Tests.{refuted}
 use Rattle.string.proofs.Taken.{head-at, head-none}
 use Rattle.string.proofs.Words.{no-head}
 use Rattle.string.proofs.word.form.Statement.{statement}

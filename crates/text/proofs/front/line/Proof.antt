@@ -4,7 +4,8 @@ use native.Mathlib.Omega.{arith}
 use borrow.Author.Tests.{not-true}
 use Rattle.rules.proofs.Matches.{byte-at}
 use Rattle.lexicon.specs.declared.Found.the-variants.{At, Nothing}
-use Rattle.text.proofs.Searches.{shown, found, regroup, then-longest, then-missed, then-fails, longest-from, opt-longest, opt-missed}
+use Rattle.rules.proofs.Tests.{shown}
+use Rattle.text.proofs.Searches.{found, regroup, then-longest, then-missed, then-fails, longest-from, opt-longest, opt-missed}
 use Rattle.text.proofs.front.line.Statement.{statement}
 use Rattle.text.proofs.front.line.Tie as tie
 

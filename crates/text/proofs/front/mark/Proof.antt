@@ -1,7 +1,8 @@
 -- `text::front::mark` meets its contract: each byte of the mark stands there, or the first that does not refuses it. Assumes nothing.
 use borrow.Author.Needs.{needs}
 use borrow.Author.Tests.{not-true}
-use Rattle.text.proofs.Searches.{shown, byte-longest, byte-missed, then-longest, then-missed, then-fails, opt-longest, opt-missed}
+use Rattle.rules.proofs.Tests.{shown}
+use Rattle.text.proofs.Searches.{byte-longest, byte-missed, then-longest, then-missed, then-fails, opt-longest, opt-missed}
 use Rattle.text.proofs.front.mark.Statement.{statement}
 use Rattle.text.proofs.front.mark.Tie as tie
 

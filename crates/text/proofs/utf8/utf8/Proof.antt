@@ -9,7 +9,8 @@ use Rattle.rules.specs.Rule.{many, Takes, stop}
 use Rattle.rules.proofs.Matches.{ending, inside}
 use Rattle.rules.proofs.Chains.{snoc}
 use Rattle.lexicon.specs.Utf8.{sequence}
-use Rattle.text.proofs.Searches.{at-end, not-found, grows}
+use Rattle.text.proofs.Searches.{grows}
+use Rattle.lexicon.proofs.Answers.{found-at, found-none}
 use Rattle.text.proofs.utf8.utf8.Statement.{statement}
 use Rattle.text.proofs.utf8.utf8.Tie as tie
 
@@ -39,17 +40,17 @@ returns c =
     record {
       reached = c .before .before .before .before .loop .inv .1;
       within = c .before .before .before .loop-test .taken;
-      none = not-found (c .enum-told .given .1) (c .before .before .sequence .ensures);
+      none = found-none (c .enum-told .given .1) (c .before .before .sequence .ensures);
     }
 
 loop-less : tie.Need-loop-less Inv-loop μ-loop
 loop-less c =
-    let t = at-end (c .before .end .given .1) (c .before .before .before .sequence .ensures) .takes in
+    let t = found-at (c .before .end .given .1) (c .before .before .before .sequence .ensures) .takes in
     omega (arith, grows sequence refl t, inside t (c .before .before .before .before .before .loop .inv .0))
 
 loop-again : tie.Need-loop-again Inv-loop μ-loop
 loop-again c =
-    let t = at-end (c .before .end .given .1) (c .before .before .before .sequence .ensures) .takes in
+    let t = found-at (c .before .end .given .1) (c .before .before .before .sequence .ensures) .takes in
     (inside t (c .before .before .before .before .before .loop .inv .0), snoc (c .before .before .before .before .before .loop .inv .1) t)
 
 returns-2 : tie.Need-returns-2 Inv-loop μ-loop

@@ -1,5 +1,5 @@
 use Rattle.token.proofs.Dispatch.{number-none, integer-is, signed-plus, signed-other}
-use Rattle.number.proofs.Fractions.{judged-at, judged-none, found-at, found-none}
+use Rattle.lexicon.proofs.Answers.{judged-at, judged-none, found-at, found-none}
 use mathlib.Core.Path.{refl}
 use borrow.Author.Needs.{needs}
 use Rattle.token.proofs.literal.integer_token.Statement.{statement}
@@ -22,7 +22,7 @@ enum-told c = search needs
 
 -- src/literal.rt:54:9
 returns : tie.Need-returns
-returns c = (refl, number-none _ (c .before .before .before .before .pre .1) (c .before .before .before .before .pre .2) (found-none _ _ _ (c .before .before .integer .result) (c .before .before .integer .ensures) (c .enum-told .given .1)))
+returns c = (refl, number-none _ (c .before .before .before .before .pre .1) (c .before .before .before .before .pre .2) (found-none (c .enum-told .given .1) (c .before .before .integer .ensures)))
 
 -- src/literal.rt:56:13
 shared-slice-read-b : tie.Need-shared-slice-read-b
@@ -31,12 +31,12 @@ shared-slice-read-b c = search needs
 -- src/literal.rt:49:1
 returns-2 : tie.Need-returns-2
 returns-2 c =
-    (refl, integer-is _ (c .before .before .before .before .before .before .before .pre .1) (c .before .before .before .before .before .before .before .pre .2) (found-at _ _ _ _ (c .before .before .before .before .before .integer .result) (c .before .before .before .before .before .integer .ensures) (c .before .before .before .end .given .1)) (signed-plus _ (c .if1 .taken)))
+    (refl, integer-is _ (c .before .before .before .before .before .before .before .pre .1) (c .before .before .before .before .before .before .before .pre .2) (found-at (c .before .before .before .end .given .1) (c .before .before .before .before .before .integer .ensures)) (signed-plus _ (c .if1 .taken)))
 
 -- src/literal.rt:49:1
 returns-3 : tie.Need-returns-3
 returns-3 c =
-    (refl, integer-is _ (c .before .before .before .before .before .before .before .pre .1) (c .before .before .before .before .before .before .before .pre .2) (found-at _ _ _ _ (c .before .before .before .before .before .integer .result) (c .before .before .before .before .before .integer .ensures) (c .before .before .before .end .given .1)) (signed-other _ (c .if1 .left)))
+    (refl, integer-is _ (c .before .before .before .before .before .before .before .pre .1) (c .before .before .before .before .before .before .before .pre .2) (found-at (c .before .before .before .end .given .1) (c .before .before .before .before .before .integer .ensures)) (signed-other _ (c .if1 .left)))
 
 pub integer-token-spec : {M : Type 1} → statement M
 integer-token-spec =

@@ -1,5 +1,5 @@
 use Rattle.token.proofs.Dispatch.{fraction-is}
-use Rattle.number.proofs.Fractions.{judged-at, judged-none, found-at, found-none}
+use Rattle.lexicon.proofs.Answers.{judged-at, judged-none, found-at, found-none}
 use mathlib.Core.Path.{refl}
 use borrow.Author.Needs.{needs}
 use Rattle.token.proofs.literal.number_token.Statement.{statement}
@@ -23,7 +23,7 @@ enum-told c = search needs
 
 -- src/literal.rt:73:9
 integer-token-requires : tie.Need-integer-token-requires
-integer-token-requires c κs = (c .before .before .before .before .pre .0, c .before .before .before .before .pre .1, judged-none _ _ _ _ (c .before .before .fraction .result) (c .before .before .fraction .ensures) (c .enum-told .given .1))
+integer-token-requires c κs = (c .before .before .before .before .pre .0, c .before .before .before .before .pre .1, judged-none _ (c .enum-told .given .1) (c .before .before .fraction .ensures))
 
 -- src/literal.rt:73:9
 returns : tie.Need-returns
@@ -32,7 +32,7 @@ returns c = search needs
 -- src/literal.rt:68:1
 returns-2 : tie.Need-returns-2
 returns-2 c =
-    let l = judged-at _ _ _ _ _ _ (c .before .before .before .fraction .result) (c .before .before .before .fraction .ensures) (c .before .end .given .1) in
+    let l = judged-at _ (c .before .end .given .1) (c .before .before .before .fraction .ensures) in
     (refl, fraction-is _ (c .before .before .before .before .before .pre .1) (l .0) (l .1))
 
 pub number-token-spec : {M : Type 1} → statement M

@@ -1,5 +1,5 @@
 use Rattle.token.proofs.Dispatch.{quoted-none, quoted-is}
-use Rattle.number.proofs.Fractions.{judged-at, judged-none, found-at, found-none}
+use Rattle.lexicon.proofs.Answers.{judged-at, judged-none, found-at, found-none}
 use mathlib.Core.Path.{refl}
 use borrow.Author.Needs.{needs}
 use Rattle.token.proofs.literal.quoted_token.Statement.{statement}
@@ -22,12 +22,12 @@ enum-told c = search needs
 
 -- src/literal.rt:21:9
 returns : tie.Need-returns
-returns c = (refl, quoted-none _ (c .before .before .before .before .pre) (judged-none _ _ _ _ (c .before .before .quoted .result) (c .before .before .quoted .ensures) (c .enum-told .given .1)))
+returns c = (refl, quoted-none _ (c .before .before .before .before .pre) (judged-none _ (c .enum-told .given .1) (c .before .before .quoted .ensures)))
 
 -- src/literal.rt:16:1
 returns-2 : tie.Need-returns-2
 returns-2 c =
-    let l = judged-at _ _ _ _ _ _ (c .before .before .before .quoted .result) (c .before .before .before .quoted .ensures) (c .before .end .given .1) in
+    let l = judged-at _ (c .before .end .given .1) (c .before .before .before .quoted .ensures) in
     (refl, quoted-is _ (l .0) (l .1))
 
 pub quoted-token-spec : {M : Type 1} → statement M

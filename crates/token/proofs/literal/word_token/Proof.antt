@@ -1,5 +1,5 @@
 use Rattle.token.proofs.Dispatch.{word-none, word-is}
-use Rattle.number.proofs.Fractions.{judged-at, judged-none, found-at, found-none}
+use Rattle.lexicon.proofs.Answers.{judged-at, judged-none, found-at, found-none}
 use mathlib.Core.Path.{refl}
 use borrow.Author.Needs.{needs}
 use Rattle.token.proofs.literal.word_token.Statement.{statement}
@@ -23,7 +23,7 @@ enum-told c = search needs
 
 -- src/literal.rt:37:9
 returns : tie.Need-returns
-returns c = (refl, word-none _ (c .before .before .before .before .pre) (found-none _ _ _ (c .before .before .word .result) (c .before .before .word .ensures) (c .enum-told .given .1)))
+returns c = (refl, word-none _ (c .before .before .before .before .pre) (found-none (c .enum-told .given .1) (c .before .before .word .ensures)))
 
 -- src/literal.rt:39:9
 form-requires : tie.Need-form-requires
@@ -31,7 +31,7 @@ form-requires c κs = search needs
 
 -- src/literal.rt:32:1
 returns-2 : tie.Need-returns-2
-returns-2 c = (refl, word-is _ (c .form .result) (found-at _ _ _ _ (c .before .before .before .before .word .result) (c .before .before .before .before .word .ensures) (c .before .before .end .given .1)) (c .form .ensures))
+returns-2 c = (refl, word-is _ (c .form .result) (found-at (c .before .before .end .given .1) (c .before .before .before .before .word .ensures)) (c .form .ensures))
 
 pub word-token-spec : {M : Type 1} → statement M
 word-token-spec =

@@ -1,4 +1,4 @@
-use Rattle.token.proofs.Bytes.{there, not-there}
+use Rattle.rules.proofs.Tests.{there, not-there}
 use Rattle.token.proofs.Symbols.{right-arrow, dash-none}
 use borrow.Author.Needs.{needs}
 use Rattle.token.proofs.symbol.arrow.Statement.{statement}
@@ -21,11 +21,11 @@ add-t6 c = search needs
 
 -- src/symbol.rt:78:9
 returns : tie.Need-returns
-returns c = right-arrow _ (c .before .before .before .pre) (there _ 0x3E _ (c .before .stands .result) (c .before .stands .ensures) (c .if1 .taken))
+returns c = right-arrow _ (c .before .before .before .pre) (there (c .before .stands .ensures) (c .if1 .taken))
 
 -- src/symbol.rt:73:1
 returns-2 : tie.Need-returns-2
-returns-2 c = dash-none _ _ (c .before .before .before .pre) (not-there _ 0x3E _ (c .before .stands .result) (c .before .stands .ensures) (c .if1 .left))
+returns-2 c = dash-none _ _ (c .before .before .before .pre) (not-there (c .before .stands .ensures) (c .if1 .left))
 
 pub arrow-spec : {M : Type 1} → statement M
 arrow-spec = tie.close (tie.spec add-stands stands-requires add-t6 returns returns-2)

@@ -1,6 +1,6 @@
 use mathlib.Core.Path.{refl}
 use borrow.Author.Tests.{not-true, not-false}
-use Rattle.token.proofs.Bytes.{there, not-there}
+use Rattle.rules.proofs.Tests.{there, not-there}
 use Rattle.token.proofs.Starts.{colon-answer, one-colon, two-colons, three-colons, more-colons}
 use borrow.Author.Needs.{needs}
 use Rattle.token.proofs.symbol.colons.Statement.{statement}
@@ -25,7 +25,7 @@ colon-requires c κs = search needs
 -- src/symbol.rt:140:9
 returns : tie.Need-returns
 returns c =
-    colon-answer _ _ (c .colon .result) (c .colon .ensures) (one-colon _ _ (c .before .before .before .before .pre) (not-there _ 0x3A _ (c .before .before .stands .result) (c .before .before .stands .ensures) (not-true _ (c .before .if1 .taken))))
+    colon-answer _ _ (c .colon .result) (c .colon .ensures) (one-colon _ _ (c .before .before .before .before .pre) (not-there (c .before .before .stands .ensures) (not-true _ (c .before .if1 .taken))))
 
 -- src/symbol.rt:142:22
 add-stands-2 : tie.Need-add-stands-2
@@ -42,7 +42,7 @@ add-t7 c = search needs
 -- src/symbol.rt:143:9
 returns-2 : tie.Need-returns-2
 returns-2 c =
-    (refl, two-colons _ _ (c .before .before .before .before .before .pre) (there _ 0x3A _ (c .before .before .before .stands .result) (c .before .before .before .stands .ensures) (not-false _ (c .before .before .if1 .left))) (not-there _ 0x3A _ (c .before .stands2 .result) (c .before .stands2 .ensures) (not-true _ (c .if2 .taken))))
+    (refl, two-colons _ _ (c .before .before .before .before .before .pre) (there (c .before .before .before .stands .ensures) (not-false _ (c .before .before .if1 .left))) (not-there (c .before .stands2 .ensures) (not-true _ (c .if2 .taken))))
 
 -- src/symbol.rt:150:22
 add-stands-3 : tie.Need-add-stands-3
@@ -59,12 +59,12 @@ colon-requires-2 c κs = search needs
 -- src/symbol.rt:151:9
 returns-3 : tie.Need-returns-3
 returns-3 c =
-    colon-answer _ _ (c .colon2 .result) (c .colon2 .ensures) (three-colons _ _ (c .before .before .before .before .before .before .before .before .pre) (there _ 0x3A _ (c .before .before .before .before .before .before .stands .result) (c .before .before .before .before .before .before .stands .ensures) (not-false _ (c .before .before .before .before .before .if1 .left))) (there _ 0x3A _ (c .before .before .before .before .stands2 .result) (c .before .before .before .before .stands2 .ensures) (not-false _ (c .before .before .before .if2 .left))) (not-there _ 0x3A _ (c .before .before .stands3 .result) (c .before .before .stands3 .ensures) (not-true _ (c .before .if3 .taken))))
+    colon-answer _ _ (c .colon2 .result) (c .colon2 .ensures) (three-colons _ _ (c .before .before .before .before .before .before .before .before .pre) (there (c .before .before .before .before .before .before .stands .ensures) (not-false _ (c .before .before .before .before .before .if1 .left))) (there (c .before .before .before .before .stands2 .ensures) (not-false _ (c .before .before .before .if2 .left))) (not-there (c .before .before .stands3 .ensures) (not-true _ (c .before .if3 .taken))))
 
 -- src/symbol.rt:135:1
 returns-4 : tie.Need-returns-4
 returns-4 c =
-    (refl, more-colons _ _ (c .before .before .before .before .before .before .before .pre) (there _ 0x3A _ (c .before .before .before .before .before .stands .result) (c .before .before .before .before .before .stands .ensures) (not-false _ (c .before .before .before .before .if1 .left))) (there _ 0x3A _ (c .before .before .before .stands2 .result) (c .before .before .before .stands2 .ensures) (not-false _ (c .before .before .if2 .left))) (there _ 0x3A _ (c .before .stands3 .result) (c .before .stands3 .ensures) (not-false _ (c .if3 .left))))
+    (refl, more-colons _ _ (c .before .before .before .before .before .before .before .pre) (there (c .before .before .before .before .before .stands .ensures) (not-false _ (c .before .before .before .before .if1 .left))) (there (c .before .before .before .stands2 .ensures) (not-false _ (c .before .before .if2 .left))) (there (c .before .stands3 .ensures) (not-false _ (c .if3 .left))))
 
 pub colons-spec : {M : Type 1} → statement M
 colons-spec =

@@ -2,7 +2,7 @@ use mathlib.Core.Path.{refl}
 use Rattle.token.proofs.Bytes.{add-two}
 use borrow.Author.Tests.{not-true, not-false}
 use Rattle.rules.specs.Rule.{byte, both}
-use Rattle.token.proofs.Bytes.{there, not-there}
+use Rattle.rules.proofs.Tests.{there, not-there}
 use Rattle.token.proofs.Symbols.{left-arrow, less-none}
 use borrow.Author.Needs.{needs}
 use Rattle.token.proofs.symbol.less.Statement.{statement}
@@ -26,7 +26,7 @@ add-t6 c = search needs
 
 -- src/symbol.rt:56:9
 returns : tie.Need-returns
-returns c = left-arrow _ (c .before .before .before .pre) (there _ 0x2D _ (c .before .stands .result) (c .before .stands .ensures) (c .if1 .taken))
+returns c = left-arrow _ (c .before .before .before .pre) (there (c .before .stands .ensures) (c .if1 .taken))
 
 -- src/symbol.rt:61:21
 add-stands-2 : tie.Need-add-stands-2
@@ -42,7 +42,7 @@ add-star c = search needs
 
 -- src/symbol.rt:62:9
 star-requires : tie.Need-star-requires
-star-requires c κs = (byte (c .before .before .before .before .before .pre) refl, there _ 0x2A _ (c .before .stands2 .result) (c .before .stands2 .ensures) (c .if2 .taken))
+star-requires c κs = (byte (c .before .before .before .before .before .pre) refl, there (c .before .stands2 .ensures) (c .if2 .taken))
 
 -- src/symbol.rt:62:9
 returns-2 : tie.Need-returns-2
@@ -59,7 +59,7 @@ stands-requires-3 c κs = search needs
 -- src/symbol.rt:65:9
 returns-3 : tie.Need-returns-3
 returns-3 c =
-    less-none _ _ (c .before .before .before .before .before .before .before .pre) (not-there _ 0x2D _ (c .before .before .before .before .before .stands .result) (c .before .before .before .before .before .stands .ensures) (c .before .before .before .before .if1 .left)) (not-there _ 0x2A _ (c .before .before .before .stands2 .result) (c .before .before .before .stands2 .ensures) (c .before .before .if2 .left)) (λ x y. not-there _ 0x3D _ (c .before .stands3 .result) (c .before .stands3 .ensures) (not-true _ (c .if3 .taken)) x)
+    less-none _ _ (c .before .before .before .before .before .before .before .pre) (not-there (c .before .before .before .before .before .stands .ensures) (c .before .before .before .before .if1 .left)) (not-there (c .before .before .before .stands2 .ensures) (c .before .before .if2 .left)) (λ x y. not-there (c .before .stands3 .ensures) (not-true _ (c .if3 .taken)) x)
 
 -- src/symbol.rt:67:21
 add-stands-4 : tie.Need-add-stands-4
@@ -76,7 +76,7 @@ add-star-2 c = search needs
 -- src/symbol.rt:68:9
 star-requires-2 : tie.Need-star-requires-2
 star-requires-2 c κs =
-    (both (byte (c .before .before .before .before .before .before .before .before .before .pre) refl) (byte (there _ 0x3D _ (c .before .before .before .stands3 .result) (c .before .before .before .stands3 .ensures) (not-false _ (c .before .before .if3 .left))) (add-two _)), there _ 0x2A _ (c .before .stands4 .result) (c .before .stands4 .ensures) (c .if4 .taken))
+    (both (byte (c .before .before .before .before .before .before .before .before .before .pre) refl) (byte (there (c .before .before .before .stands3 .ensures) (not-false _ (c .before .before .if3 .left))) (add-two _)), there (c .before .stands4 .ensures) (c .if4 .taken))
 
 -- src/symbol.rt:68:9
 returns-4 : tie.Need-returns-4
@@ -85,7 +85,7 @@ returns-4 c = search needs
 -- src/symbol.rt:51:1
 returns-5 : tie.Need-returns-5
 returns-5 c =
-    less-none _ _ (c .before .before .before .before .before .before .before .before .before .pre) (not-there _ 0x2D _ (c .before .before .before .before .before .before .before .stands .result) (c .before .before .before .before .before .before .before .stands .ensures) (c .before .before .before .before .before .before .if1 .left)) (not-there _ 0x2A _ (c .before .before .before .before .before .stands2 .result) (c .before .before .before .before .before .stands2 .ensures) (c .before .before .before .before .if2 .left)) (λ x y. not-there _ 0x2A _ (c .before .stands4 .result) (c .before .stands4 .ensures) (c .if4 .left) y)
+    less-none _ _ (c .before .before .before .before .before .before .before .before .before .pre) (not-there (c .before .before .before .before .before .before .before .stands .ensures) (c .before .before .before .before .before .before .if1 .left)) (not-there (c .before .before .before .before .before .stands2 .ensures) (c .before .before .before .before .if2 .left)) (λ x y. not-there (c .before .stands4 .ensures) (c .if4 .left) y)
 
 pub less-spec : {M : Type 1} → statement M
 less-spec =

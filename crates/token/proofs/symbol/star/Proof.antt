@@ -1,5 +1,5 @@
 use borrow.Author.Tests.{not-true, not-false}
-use Rattle.token.proofs.Bytes.{there, not-there}
+use Rattle.rules.proofs.Tests.{there, not-there}
 use Rattle.token.proofs.Symbols.{open-star, less-star, lessEqual-star}
 use borrow.Author.Needs.{needs}
 use Rattle.token.proofs.symbol.star.Statement.{statement}
@@ -22,7 +22,7 @@ add-t10 c = search needs
 
 -- src/symbol.rt:24:9
 returns : tie.Need-returns
-returns c = open-star _ (c .before .before .before .args .low) (c .before .before .before .pre .0) (c .before .before .before .pre .1) (not-there _ 0x3C _ (c .before .stands .result) (c .before .stands .ensures) (not-true _ (c .if1 .taken)))
+returns c = open-star _ (c .before .before .before .args .low) (c .before .before .before .pre .0) (c .before .before .before .pre .1) (not-there (c .before .stands .ensures) (not-true _ (c .if1 .taken)))
 
 -- src/symbol.rt:32:21
 add-stands-2 : tie.Need-add-stands-2
@@ -39,7 +39,7 @@ add-t14 c = search needs
 -- src/symbol.rt:33:9
 returns-2 : tie.Need-returns-2
 returns-2 c =
-    lessEqual-star _ (c .before .before .before .before .before .args .low) (c .before .before .before .before .before .pre .0) (c .before .before .before .before .before .pre .1) (there _ 0x3C _ (c .before .before .before .stands .result) (c .before .before .before .stands .ensures) (not-false _ (c .before .before .if1 .left))) (there _ 0x3D _ (c .before .stands2 .result) (c .before .stands2 .ensures) (c .if2 .taken))
+    lessEqual-star _ (c .before .before .before .before .before .args .low) (c .before .before .before .before .before .pre .0) (c .before .before .before .before .before .pre .1) (there (c .before .before .before .stands .ensures) (not-false _ (c .before .before .if1 .left))) (there (c .before .stands2 .ensures) (c .if2 .taken))
 
 -- src/symbol.rt:46:14
 add-t6 : tie.Need-add-t6
@@ -48,7 +48,7 @@ add-t6 c = search needs
 -- src/symbol.rt:19:1
 returns-3 : tie.Need-returns-3
 returns-3 c =
-    less-star _ (c .before .before .before .before .before .args .low) (c .before .before .before .before .before .pre .0) (c .before .before .before .before .before .pre .1) (there _ 0x3C _ (c .before .before .before .stands .result) (c .before .before .before .stands .ensures) (not-false _ (c .before .before .if1 .left))) (not-there _ 0x3D _ (c .before .stands2 .result) (c .before .stands2 .ensures) (c .if2 .left))
+    less-star _ (c .before .before .before .before .before .args .low) (c .before .before .before .before .before .pre .0) (c .before .before .before .before .before .pre .1) (there (c .before .before .before .stands .ensures) (not-false _ (c .before .before .if1 .left))) (not-there (c .before .stands2 .ensures) (c .if2 .left))
 
 pub star-spec : {M : Type 1} → statement M
 star-spec =

@@ -1,5 +1,5 @@
 use Rattle.token.proofs.Dispatch.{bits-is, blob-is, code-is, zero-only}
-use Rattle.number.proofs.Fractions.{judged-at, judged-none, found-at, found-none}
+use Rattle.lexicon.proofs.Answers.{judged-at, judged-none, found-at, found-none}
 use mathlib.Core.Path.{refl}
 use borrow.Author.Needs.{needs}
 use Rattle.token.proofs.zero.marked.Statement.{statement}
@@ -21,7 +21,7 @@ enum-known-end c = search needs
 
 -- src/zero.rt:55:9
 returns : tie.Need-returns
-returns c = (refl, bits-is _ (found-at _ _ _ _ (c .before .before .before .bits .result) (c .before .before .before .bits .ensures) (c .before .end .given .1)))
+returns c = (refl, bits-is _ (found-at (c .before .end .given .1) (c .before .before .before .bits .ensures)))
 
 enum-told : tie.Need-enum-told
 enum-told c = search needs
@@ -36,7 +36,7 @@ enum-known-end-2 c = search needs
 
 -- src/zero.rt:63:9
 returns-2 : tie.Need-returns-2
-returns-2 c = (refl, blob-is _ (judged-at _ _ _ _ _ _ (c .before .before .before .blob .result) (c .before .before .before .blob .ensures) (c .before .end2 .given .1)))
+returns-2 c = (refl, blob-is _ (judged-at _ (c .before .end2 .given .1) (c .before .before .before .blob .ensures)))
 
 enum-told-2 : tie.Need-enum-told-2
 enum-told-2 c = search needs
@@ -51,7 +51,7 @@ enum-known-end-3 c = search needs
 
 -- src/zero.rt:71:9
 returns-3 : tie.Need-returns-3
-returns-3 c = (refl, code-is _ (judged-at _ _ _ _ _ _ (c .before .before .before .code-point .result) (c .before .before .before .code-point .ensures) (c .before .end3 .given .1)))
+returns-3 c = (refl, code-is _ (judged-at _ (c .before .end3 .given .1) (c .before .before .before .code-point .ensures)))
 
 enum-told-3 : tie.Need-enum-told-3
 enum-told-3 c = search needs
@@ -59,7 +59,7 @@ enum-told-3 c = search needs
 -- src/zero.rt:78:5
 number-token-requires : tie.Need-number-token-requires
 number-token-requires c κs =
-    (c .before .before .before .before .before .before .before .before .before .before .pre .0 .0, zero-only _ (c .before .before .before .before .before .before .before .before .before .before .pre .0) (c .before .before .before .before .before .before .before .before .before .before .pre .1) (found-none _ _ _ (c .before .before .before .before .before .before .before .before .bits .result) (c .before .before .before .before .before .before .before .before .bits .ensures) (c .before .before .before .before .before .before .enum-told .given .1)) (judged-none _ _ _ _ (c .before .before .before .before .before .blob .result) (c .before .before .before .before .before .blob .ensures) (c .before .before .before .enum-told2 .given .1)) (judged-none _ _ _ _ (c .before .before .code-point .result) (c .before .before .code-point .ensures) (c .enum-told3 .given .1)))
+    (c .before .before .before .before .before .before .before .before .before .before .pre .0 .0, zero-only _ (c .before .before .before .before .before .before .before .before .before .before .pre .0) (c .before .before .before .before .before .before .before .before .before .before .pre .1) (found-none (c .before .before .before .before .before .before .enum-told .given .1) (c .before .before .before .before .before .before .before .before .bits .ensures)) (judged-none _ (c .before .before .before .enum-told2 .given .1) (c .before .before .before .before .before .blob .ensures)) (judged-none _ (c .enum-told3 .given .1) (c .before .before .code-point .ensures)))
 
 -- src/zero.rt:50:1
 returns-4 : tie.Need-returns-4

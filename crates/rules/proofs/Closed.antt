@@ -5,33 +5,22 @@ use mathlib.Core.List.{List}
 use Prim.Native.Nat.{ℕ, _+_}
 use native.Mathlib.Nat.{le-antisymm}
 use native.Mathlib.Omega.{arith}
 use Rattle.rules.specs.Class.{Class}
 use Rattle.rules.specs.Rule.{Rule, one, _then_, many, Takes, byte, both, stop, more, At, Longest, Fails}
 use Rattle.rules.proofs.Matches.{forward, one-at}
 use Rattle.rules.proofs.Chains.{Single, reaches}
-use Rattle.rules.proofs.Ways.{never, never-takes}
+use Rattle.rules.proofs.Ways.{never, begins-none}
 
 module _ {text : List ℕ} where
   -- from one place to one place only
   pub agree : {r : Rule} → Single text r → {i j : ℕ} → Takes text r i j → Longest text r i j
   agree single t = record { takes = t; most = λ u. let e = single .same u t in omega arith }
 
-  -- one byte is single
-  pub byte-single : (c : Class) → Single text (one c)
-  byte-single c = record { same = go }
-    where
-      go : {i j k : ℕ} → Takes text (one c) i j → Takes text (one c) i k → j ≡ k
-      go (byte a e) (byte b f) = omega arith
-
-  -- no match where a byte stands that begins none
-  pub begins-none : (c : Class) (r : Rule) → never c r ≡ true → {i : ℕ} → At text c i → Fails text r i
-  begins-none c r e a = record { none = λ t. never-takes text c r e a t }
-
 module _ {text : List ℕ} (r : Rule) (c : Class) (single : Single text r) (free : never c r ≡ true) where
   -- two rows from one place, each with the closing byte at its end, end in one place
   row-same : {i j k : ℕ} → Takes text (many r) i j → At text c j → Takes text (many r) i k → At text c k → j ≡ k
   row-same t a u b =
-      le-antisymm (forward (reaches single u (begins-none c r free b) t)) (forward (reaches single t (begins-none c r free a) u))
+      le-antisymm (forward (reaches single u (begins-none text c r free b) t)) (forward (reaches single t (begins-none text c r free a) u))
 
   pub closed-single : Single text (many r then one c)
   closed-single = record { same = go }
@@ -49,7 +38,7 @@ module _ {text : List ℕ} (r : Rule) (c : Class) (single : Single text r) (free
     where
       same : {k : ℕ} → Takes text (many r) k j → At text c k → ⊥
       same (stop e) a = n (subst (λ (x : ℕ). At text c x) e a)
-      same (more s d) a = begins-none c r free a .none s
+      same (more s d) a = begins-none text c r free a .none s
 
       go : {k : ℕ} → Takes text (many r then one c) i k → ⊥
       go (both u (byte a e)) = same (reaches single t f u) a

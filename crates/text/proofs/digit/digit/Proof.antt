@@ -1,12 +1,12 @@
--- `string::code_point::digit` meets its contract: the three parts of the byte table.
+-- `text::digit::digit` meets its contract: the three parts of the byte table.
 -- Assumes nothing.
 use borrow.Author.Needs.{needs}
-use Rattle.string.proofs.Numbers.{digit-low, digit-ten, digit-letter}
-use Rattle.string.proofs.code_point.digit.Statement.{statement}
-use Rattle.string.proofs.code_point.digit.Tie as tie
+use Rattle.text.proofs.Digits.{digit-below, digit-ten, digit-letter}
+use Rattle.text.proofs.digit.digit.Statement.{statement}
+use Rattle.text.proofs.digit.digit.Tie as tie
 
 returns : tie.Need-returns
-returns c = search (digit-low, needs)
+returns c = search (digit-below, needs)
 
 cast-result : tie.Need-cast-result
 cast-result c = search needs

@@ -1,0 +1,36 @@
+-- The number of a digit, and of one digit more. Assumes nothing.
+use mathlib.Core.Path.{_≡_, refl}
+use mathlib.Core.Bool.{Bool, true, false, cond}
+use Prim.Native.Nat.{ℕ, _+_, _-_, _*_, _≤_, _<_, _^_}
+use native.Mathlib.Nat.{mul-le-mul}
+use native.Mathlib.Omega.{arith}
+use borrow.Author.Tests.{le-leb, lt-leb}
+use lib.Dec.{leb}
+use Rattle.lexicon.specs.Values.{digit}
+
+pub digit-below : (b : ℕ) → b < 0x30 → 0 ≡ digit b
+digit-below b h = rw (le-leb b 0x39 (omega arith)) (omega arith)
+
+pub digit-ten : (b : ℕ) → b ≤ 0x39 → b - 0x30 ≡ digit b
+digit-ten b h = rw (le-leb b 0x39 h) refl
+
+pub digit-letter : (b : ℕ) → 0x39 < b → b - 0x37 ≡ digit b
+digit-letter b h = rw (lt-leb b 0x39 h) refl
+
+digit-most : (b : ℕ) → digit b ≤ b
+digit-most b = go (leb b 0x39)
+  where
+    go : (o : Bool) → cond o (b - 0x30) (b - 0x37) ≤ b
+    go true = omega arith
+    go false = omega arith
+
+-- the product and the sum fit 64 bits
+module _ (v r : ℕ) (h : v < 2 ^ 32) (k : r < 2 ^ 32) where
+  product : v * r ≤ (2 ^ 32 - 1) * (2 ^ 32 - 1)
+  product = let x : v ≤ 2 ^ 32 - 1 = omega arith in let y : r ≤ 2 ^ 32 - 1 = omega arith in mul-le-mul x y
+
+  pub product-fits : v * r < 2 ^ 64
+  product-fits = omega (arith, product)
+
+  pub sum-fits : (b d : ℕ) → b < 256 → d ≡ digit b → v * r + d < 2 ^ 64
+  sum-fits b d l e = omega (arith, product, digit-most b)
