@@ -9,3 +9,5 @@ pub mod Fractions
 pub mod Powers
 pub mod Tokens
 pub mod Unique
+pub mod Determined
+pub mod Examples
