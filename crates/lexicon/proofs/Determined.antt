@@ -30,10 +30,10 @@ module _ (text : List ℕ) where
       let f : t .first ≡ u .first = skips-same (x .0) (y .0) in
       let o = one-token text (x .2) (subst (λ (i : ℕ). Is text (u .kind) i (u .end)) (sym f) (y .2)) in
       let b : t .bad ≡ u .bad =
-        says-same (t .bad) (u .bad) (x .3)
-        (subst (λ (i : ℕ). Says (u .bad) (Bad text (t .kind) i (t .end))) (sym f)
-        (subst (λ (k : Kind). Says (u .bad) (Bad text k (u .first) (t .end))) (sym (o .0))
-        (subst (λ (e : ℕ). Says (u .bad) (Bad text (u .kind) (u .first) e)) (sym (o .1)) (y .3)))) in
+      says-same (t .bad) (u .bad) (x .3)
+      (subst (λ (i : ℕ). Says (u .bad) (Bad text (t .kind) i (t .end))) (sym f)
+      (subst (λ (k : Kind). Says (u .bad) (Bad text k (u .first) (t .end))) (sym (o .0))
+      (subst (λ (e : ℕ). Says (u .bad) (Bad text (u .kind) (u .first) e)) (sym (o .1)) (y .3)))) in
       λ i. Next.Token (made (o .0 i) (f i) (o .1 i) (b i))
   one-answer at (Next.Token t) (Next.End p) x y =
       absurd (omega (arith, x .1, skips-same (x .0) (y .2), y .3))
