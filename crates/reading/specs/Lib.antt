@@ -1,0 +1,5 @@
+-- 01, 'Sizes', 'Table of refusals' and what an accepted reading writes.
+pub mod Sizes
+pub mod Tokens
+pub mod Faults
+pub mod Answers
