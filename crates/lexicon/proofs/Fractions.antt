@@ -1,29 +1,27 @@
 -- A Fraction: a significand, by its view a number, a point or a slash, and digits or a number; and a power. A significand that is
 -- shorter than another is followed by a byte of a word, so a power stands only behind the longest one. Assumes nothing.
-use mathlib.Core.Path.{_≡_, refl, subst, sym, ap, _∙_}
-use mathlib.Core.Logic.{_⊎_, inl, inr, ⊎-elim}
+use mathlib.Core.Path.{_≡_, refl, subst}
 use mathlib.Core.Bool.{true}
-use mathlib.Core.List.{List, [], _∷_}
+use mathlib.Core.List.{List}
 use Prim.Native.Nat.{ℕ, _+_, _≤_, _<_}
 use native.Mathlib.Decide.{decLe}
 use native.Mathlib.Nat.{le-antisymm}
 use native.Mathlib.Omega.{arith}
-use lib.ListN.{length, getD}
-use Rattle.rules.specs.Class.{Class, In, just}
-use Rattle.rules.specs.Rule.{Rule, one, _then_, _or_, opt, At, Takes, nothing, byte, both, left, right, Longest, Fails}
-use Rattle.rules.proofs.Classes.{apart, apartSpan, apart-no}
-use Rattle.rules.proofs.Matches.{forward, starting, ending}
+use Rattle.rules.specs.Class.{Class, just}
+use Rattle.rules.specs.Rule.{one, _then_, opt, At, Takes, byte, both, left, right}
+use Rattle.rules.proofs.Classes.{apart, apartSpan}
+use Rattle.rules.proofs.Matches.{starting}
 use Rattle.rules.proofs.Ways.{never}
 use Rattle.lexicon.specs.declared.Base.{Base}
-use Rattle.lexicon.specs.declared.Base.the-variants.{Two, Eight, Ten, Sixteen}
 use Rattle.lexicon.specs.Bytes.{decimal, wordRest, digits}
 use Rattle.lexicon.specs.Space.{blank, sp, Skips}
-use Rattle.lexicon.specs.Literals.{sign, nonsigned, integer, groups, prefix, spaced, pointOfBase, nonsignedPoint, radixPoint, ratio, significand, power, fraction}
+use Rattle.lexicon.specs.Literals.{sign, pointOfBase, nonsignedPoint, significand}
 use Rattle.lexicon.specs.Values.{Digits}
+use Rattle.lexicon.proofs.Bases.{some-base, any-base}
 use Rattle.lexicon.proofs.Spaces.{skips-same, landed, Ahead, ahead-apart}
 use Rattle.lexicon.proofs.Groups.{digits-cut, digits-at, to-row, of-row}
-use Rattle.lexicon.proofs.Numbers.{Numeral, SomeNumeral, clear, view, numeral-at, numeral-cut, numeral-same, valued, of-nonsigned, to-nonsigned, to-base, further-ahead}
-use Rattle.lexicon.proofs.Integers.{Start, decimal-blank, start-sign, start-same, start-of, to-integer, of-integer, some-cut}
+use Rattle.lexicon.proofs.Numbers.{Numeral, SomeNumeral, clear, view, numeral-at, numeral-same, valued, of-nonsigned, to-nonsigned, to-base, further-ahead}
+use Rattle.lexicon.proofs.Integers.{Start, decimal-blank, start-sign, start-same, start-of, to-integer, some-cut}
 
 -- ---- a symbol with dividing space on both sides
 
@@ -91,10 +89,7 @@ module _ (text : List ℕ) where
       pointed (view b p (to-row text 1 (digits b) m .1)) (of-spaced text 0x2E point-apart s) (to-row text 1 (digits b) n .1)
 
   some-point : {h j : ℕ} → Takes text nonsignedPoint h j → Significand text h j
-  some-point (left t) = point-view Two t
-  some-point (right (left t)) = point-view Eight t
-  some-point (right (right (left t))) = point-view Ten t
-  some-point (right (right (right t))) = point-view Sixteen t
+  some-point t = let s = some-base pointOfBase t in point-view (s .0) (s .1)
 
   significand-at : {g j : ℕ} → Significand text g j → At text decimal g
   significand-at (pointed n s d) = numeral-at text n
@@ -113,10 +108,7 @@ module _ (text : List ℕ) where
   significand-start (right (both (both t n) u)) = (_, start-of text t (numeral-at text (of-nonsigned text n .is)))
 
   to-point : (b : Base) {h j : ℕ} → Takes text (pointOfBase b) h j → Takes text nonsignedPoint h j
-  to-point Two t = left t
-  to-point Eight t = right (left t)
-  to-point Ten t = right (right (left t))
-  to-point Sixteen t = right (right (right t))
+  to-point b t = any-base pointOfBase b t
 
   pub to-significand : {i g j : ℕ} → Start text i g → Significand text g j → Takes text significand i j
   to-significand st (pointed {b} n s d) =

@@ -1,6 +1,7 @@
 -- The laws of the token rules.
 pub mod Answers
 pub mod Limits
+pub mod Bases
 pub mod Spaces
 pub mod Groups
 pub mod Numbers

@@ -2,25 +2,24 @@
 -- number that is shorter than another from the same place is followed by a byte of a word (dividing space aside), and the ends
 -- fix base and digits. Assumes nothing.
 use mathlib.Core.Path.{_≡_, refl, subst, sym, ap, _∙_}
-use mathlib.Core.Logic.{_⊎_, inl, inr}
 use mathlib.Core.Bool.{true, cond}
-use mathlib.Core.List.{List, [], _∷_, _++_}
-use Prim.Native.Nat.{ℕ, zero, suc, _+_, _≤_, _<_}
-use native.Mathlib.Decide.{decLe}
+use mathlib.Core.List.{List}
+use Prim.Native.Nat.{ℕ, _+_, _<_}
 use native.Mathlib.Omega.{arith}
 use lib.Dec.{eqb}
-use lib.ListN.{length, getD}
+use lib.ListN.{getD}
 use Rattle.rules.specs.Class.{Class, In, has, just, anyOf}
-use Rattle.rules.specs.Rule.{Rule, one, _then_, _or_, many, plus, opt, At, Takes, nothing, byte, both, left, right, stop, more, Longest, Fails}
-use Rattle.rules.proofs.Classes.{apart, apartSpan, apart-no, includes, inSome, includes-in, just-is, in-just}
-use Rattle.rules.proofs.Matches.{forward, starting, ending}
+use Rattle.rules.specs.Rule.{one, _then_, opt, At, Takes, nothing, byte, both, left, right}
+use Rattle.rules.proofs.Classes.{apart, apartSpan, apart-no, includes, inSome, includes-in, just-is}
+use Rattle.rules.proofs.Matches.{forward, starting}
 use Rattle.rules.proofs.Ways.{never, never-takes}
 use Rattle.lexicon.specs.declared.Base.{Base}
 use Rattle.lexicon.specs.declared.Base.the-variants.{Two, Eight, Ten, Sixteen}
-use Rattle.lexicon.specs.Bytes.{binary, octal, decimal, hexadecimal, wordRest, digits, radix}
-use Rattle.lexicon.specs.Space.{blank, sp, Skips}
-use Rattle.lexicon.specs.Literals.{joint, unit, groups, prefix, ofBase, nonsigned}
+use Rattle.lexicon.specs.Bytes.{decimal, wordRest, digits, radix}
+use Rattle.lexicon.specs.Space.{blank, sp}
+use Rattle.lexicon.specs.Literals.{joint, prefix, ofBase, nonsigned}
 use Rattle.lexicon.specs.Values.{Digits, lastUnit, nextUnit, OfBase, Number, value}
+use Rattle.lexicon.proofs.Bases.{some-base, any-base}
 use Rattle.lexicon.proofs.Spaces.{skips-same, landed, landed-here, Ahead}
 use Rattle.lexicon.proofs.Groups.{Clear, Further, digits-same, digits-cut, digits-forward, digits-at, underscore-blank, to-row, of-row, unit-end, unit-at}
 
@@ -209,10 +208,7 @@ module _ (text : List ℕ) where
   to-base {b} n = let v = valued n in both (v .before) (of-row text 1 (digits b) (v .digits-are))
 
   pub to-nonsigned : (b : Base) {i j : ℕ} → Takes text (ofBase b) i j → Takes text nonsigned i j
-  to-nonsigned Two t = left t
-  to-nonsigned Eight t = right (left t)
-  to-nonsigned Ten t = right (right (left t))
-  to-nonsigned Sixteen t = right (right (right t))
+  to-nonsigned b t = any-base ofBase b t
 
   -- a match of the rule, as a numeral of some base
   pub record SomeNumeral (i j : ℕ) : Type 0 where
@@ -221,10 +217,8 @@ module _ (text : List ℕ) where
     pub is : Numeral text of i j bytes
 
   pub of-nonsigned : {i j : ℕ} → Takes text nonsigned i j → SomeNumeral i j
-  of-nonsigned (left t) = let r = of-base Two t in record { of = Two; bytes = r .0; is = r .1 }
-  of-nonsigned (right (left t)) = let r = of-base Eight t in record { of = Eight; bytes = r .0; is = r .1 }
-  of-nonsigned (right (right (left t))) = let r = of-base Ten t in record { of = Ten; bytes = r .0; is = r .1 }
-  of-nonsigned (right (right (right t))) = let r = of-base Sixteen t in record { of = Sixteen; bytes = r .0; is = r .1 }
+  of-nonsigned t =
+      let s = some-base ofBase t in let r = of-base (s .0) (s .1) in record { of = s .0; bytes = r .0; is = r .1 }
 
   -- the ends fix the value
   pub number-same : {b : Base} {i j v : ℕ} {ds : List ℕ} → Numeral text b i j ds → Number text i j v → v ≡ value (radix b) ds

@@ -1,6 +1,6 @@
 -- The byte sets, and the class of a byte: 01, 'Bytes and tokens'. Assumes nothing.
 use mathlib.Core.Bool.{Bool, true, false}
-use mathlib.Core.List.{List, [], _∷_, _++_}
+use mathlib.Core.List.{List, [], _∷_}
 use Prim.Native.Nat.{ℕ, _+_, _*_}
 use Rattle.rules.specs.Class.{Class, _to_, anyOf, anyIn, has}
 use Rattle.lexicon.specs.declared.Set.{Set}

@@ -1,14 +1,13 @@
 -- The values that the grammar gives: the integer of an Integer, the characters of a Text. Assumes nothing.
 use mathlib.Core.Path.{_≡_}
-use mathlib.Core.Logic.{_⊎_}
-use mathlib.Core.Bool.{Bool, true, false, cond}
+use mathlib.Core.Bool.{cond}
 use mathlib.Core.List.{List, [], _∷_, _++_}
 use Prim.Native.Nat.{ℕ, zero, suc, _+_, _-_, _*_, min}
 use lib.Dec.{leb, eqb}
 use lib.IntN.{ℤ, pos, negℤ}
 use lib.ListN.{getD}
 use Rattle.rules.specs.Class.{Class, In, anyOf}
-use Rattle.rules.specs.Rule.{Rule, one, _then_, many, plus, opt, lit, At, Takes}
+use Rattle.rules.specs.Rule.{one, plus, opt, lit, Takes}
 use Rattle.lexicon.specs.declared.Base.{Base}
 use Rattle.lexicon.specs.Bytes.{digits, radix}
 use Rattle.lexicon.specs.Space.{sp}
@@ -33,7 +32,7 @@ valueFrom r v (d ∷ ds) = valueFrom r (v * r + digit d) ds
 abbrev pub value : ℕ → List ℕ → ℕ
 value r ds = valueFrom r 0 ds
 
--- a number is counted up to a limit, the least number beyond all code points: what is asked of a number is asked of less
+-- numbers are counted up to a limit: from it on a number is no code point, no denominator 0 and no radix below 2
 abbrev pub limit : ℕ
 limit = 0x110000
 

@@ -9,7 +9,7 @@ use borrow.Author.Tests.{not-true, not-false}
 use lib.ListN.{length, getD}
 use Rattle.rules.specs.Test.{Says}
 use Rattle.rules.specs.Class.{Class, just}
-use Rattle.rules.specs.Rule.{one, many, plus, lit, Takes, byte, both, left, right, more, At, Longest, Fails}
+use Rattle.rules.specs.Rule.{one, many, plus, lit, Takes, byte, both, more, At, Longest, Fails}
 use Rattle.rules.proofs.Classes.{apart, apartSpan}
 use Rattle.rules.proofs.Matches.{forward, starting, ending}
 use Rattle.rules.proofs.Chains.{reaches}
@@ -27,6 +27,7 @@ use Rattle.lexicon.proofs.Numbers.{letter}
 use Rattle.string.specs.Parts.{number, numberAt, BadNumber}
 use Rattle.string.proofs.Marks.{Marked, marked, by-mark, by-digit, begins, mark-long}
 use Rattle.rules.proofs.Tests.{refuted, not-there}
+use Rattle.lexicon.proofs.Bases.{some-base, any-base}
 use Rattle.lexicon.proofs.Spaces.{byte-single}
 
 -- the closing angle is no digit
@@ -38,19 +39,6 @@ angle-digit Ten = refl
 angle-digit Sixteen = refl
 
 module _ {text : List ℕ} where
-  -- a literal is one of some base
-  of-some : {i j : ℕ} → Takes text codePoint i j → (b : Base) × Takes text (codeOfBase b) i j
-  of-some (left t) = (Two, t)
-  of-some (right (left t)) = (Eight, t)
-  of-some (right (right (left t))) = (Ten, t)
-  of-some (right (right (right t))) = (Sixteen, t)
-
-  of-base : (b : Base) {i j : ℕ} → Takes text (codeOfBase b) i j → Takes text codePoint i j
-  of-base Two t = left t
-  of-base Eight t = right (left t)
-  of-base Ten t = right (right (left t))
-  of-base Sixteen t = right (right (right t))
-
   first-digit : {c : Class} {i j : ℕ} → Takes text (plus (one c)) i j → At text c i
   first-digit (both (byte a e) u) = a
 
@@ -59,7 +47,7 @@ module _ {text : List ℕ} where
 
   -- its digits stand behind the only mark
   digits-of : {i s k : ℕ} (b : Base) → Marked text i b s → Takes text codePoint i k → Takes text (number b) s k
-  digits-of {i} {s} {k} b m t = go (of-some t .0) (of-some t .1)
+  digits-of {i} {s} {k} b m t = let s = some-base codeOfBase t in go (s .0) (s .1)
     where
       go : (a : Base) → Takes text (codeOfBase a) i k → Takes text (number b) s k
       go a (both u d) =
@@ -67,7 +55,7 @@ module _ {text : List ℕ} where
           subst₂ (λ (x : Base) (y : ℕ). Takes text (number x) y k) (e .0) (e .1) d
 
   mark-of : {i j : ℕ} → Takes text codePoint i j → (b : Base) × (s : ℕ) × Marked text i b s
-  mark-of t = go (of-some t .0) (of-some t .1)
+  mark-of t = let s = some-base codeOfBase t in go (s .0) (s .1)
     where
       go : (a : Base) {i j : ℕ} → Takes text (codeOfBase a) i j → (b : Base) × (s : ℕ) × Marked text i b s
       go a (both u d) = (a, _, marked text a u (first-digit d))
@@ -75,7 +63,7 @@ module _ {text : List ℕ} where
   -- ---- what the digits' answer says of the literal
 
   judged : (b : Base) {i s j : ℕ} → Marked text i b s → Longest text (number b) s j → Longest text codePoint i j
-  judged b m l = record { takes = of-base b (both (m .mark) (l .takes)); most = λ t. l .most (digits-of b m t) }
+  judged b m l = record { takes = any-base codeOfBase b (both (m .mark) (l .takes)); most = λ t. l .most (digits-of b m t) }
 
   value-same : (b : Base) {i s j v : ℕ} → Marked text i b s → CodeOf text i j v → v ≡ numberAt text b s j
   value-same b {s = s} {j = j} m c =
@@ -101,7 +89,7 @@ module _ {text : List ℕ} where
   -- ---- a literal begins with `0c` and has a byte behind it
 
   zero-of : {i j : ℕ} → Takes text codePoint i j → Takes text (lit "0c") i (i + 2)
-  zero-of t = go (of-some t .0) (of-some t .1)
+  zero-of t = let s = some-base codeOfBase t in go (s .0) (s .1)
     where
       go : (b : Base) {i j : ℕ} → Takes text (codeOfBase b) i j → Takes text (lit "0c") i (i + 2)
       go b (both u d) = begins text b u
@@ -119,7 +107,7 @@ module _ {text : List ℕ} where
   no-c {i} {o} s e = record { none = λ t. refuted s (not-true o e) (ending (omega arith) (c-at (zero-of t))) }
 
   pub no-more : {i : ℕ} → length text ≤ i + 2 → Fails text codePoint i
-  no-more {i} h = record { none = λ t. go (of-some t .0) (of-some t .1) }
+  no-more {i} h = record { none = λ t. let s = some-base codeOfBase t in go (s .0) (s .1) }
     where
       go : (b : Base) {j : ℕ} → Takes text (codeOfBase b) i j → ⊥
       go b (both u d) = let x = mark-long text b u in omega (arith, first-digit d .0)

@@ -5,7 +5,7 @@ ghost use mathlib.Core.Path.{_≡_};
 ghost use Rattle.lexicon.specs.Bytes.{digitSet, size};
 ghost use Rattle.lexicon.specs.Values.{digit as digitOf, limited as limitedOf};
 
-// The least number beyond all code points, and beyond a denominator 0 and a radix below 2.
+// From it on a number is no code point, no denominator 0 and no radix below 2.
 const LIMIT: u32 = 0x11_0000;
 
 // The digits of a base.
