@@ -9,7 +9,7 @@ use lexicon::Token;
 use number::blob::bits;
 use number::blob::blob;
 use string::code_point::code_point;
-use string::spelling::spells;
+use word::spelling::spells;
 ghost use Rattle.rules.specs.Class.{just};
 ghost use Rattle.rules.specs.Rule.{At};
 ghost use Rattle.token.specs.Answers.{StartsAt, FixedAt, Marked};

@@ -4,7 +4,7 @@ use Rattle.token.proofs.zero.fixed_at.Statement.{statement}
 use Rattle.token.proofs.zero.fixed_at.Tie as tie
 use Rattle.token.proofs.zero.fixed_at.Reads as reads
 use Rattle.token.proofs.zero.fixed_at.Lts as lts
-use Rattle.string.proofs.spelling.spells.Reads as spells-reads
+use Rattle.word.proofs.spelling.spells.Reads as spells-reads
 
 -- src/zero.rt:22:25
 add-spells : tie.Need-add-spells

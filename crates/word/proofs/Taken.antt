@@ -12,7 +12,7 @@ use Rattle.lexicon.specs.declared.Head.{Head}
 use Rattle.lexicon.specs.declared.Form as Form
 use Rattle.lexicon.specs.declared.Form.{Form}
 use Rattle.lexicon.specs.Token.{headWord}
-use Rattle.string.specs.Parts.{NoneOf, TellsOf}
+use Rattle.word.specs.Heads.{NoneOf, TellsOf}
 
 module _ (text : List ℕ) (hs : List Head) (i j : ℕ) where
   pub head-at : {f : Form} {h : Head} → f ≡ Form.the-variants.HeadWord h → TellsOf text hs i j f → Takes text (lit (headWord h)) i j

@@ -7,7 +7,7 @@ use lexicon::Set;
 use text::class::in_set;
 ghost use Rattle.lexicon.specs.Found.{Finds};
 ghost use Rattle.lexicon.specs.Literals as Literals;
-ghost use Rattle.string.specs.Parts.{Tells, TellsOf, collections};
+ghost use Rattle.word.specs.Heads.{Tells, TellsOf, collections};
 
 // Where the word at the place ends.
 pub fn word(text: &[u8], at: usize) -> Found

@@ -1,9 +1,9 @@
--- `string::word::collection` meets its contract: one comparison a word.
+-- `word::word::collection` meets its contract: one comparison a word.
 -- Assumes nothing.
 use mathlib.Core.Path.{refl}
 use Rattle.rules.proofs.Tests.{refuted}
-use Rattle.string.proofs.word.collection.Statement.{statement}
-use Rattle.string.proofs.word.collection.Tie as tie
+use Rattle.word.proofs.word.collection.Statement.{statement}
+use Rattle.word.proofs.word.collection.Tie as tie
 
 slice-aggregate-spells : tie.Need-slice-aggregate-spells
 slice-aggregate-spells c = refl

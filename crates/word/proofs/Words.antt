@@ -19,7 +19,7 @@ use Rattle.lexicon.specs.declared.Head.the-variants.{Array, Set, Bag, Mix, Inte
 use Rattle.lexicon.specs.Bytes.{wordStart, wordRest}
 use Rattle.lexicon.specs.Literals.{word}
 use Rattle.lexicon.specs.Token.{headWord}
-use Rattle.string.specs.Parts.{NoneOf, collections}
+use Rattle.word.specs.Heads.{NoneOf, collections}
 use Rattle.rules.proofs.Tests.{says-no, says-yes, there, not-there}
 use Rattle.lexicon.proofs.Spaces.{byte-single}
 

@@ -1,13 +1,13 @@
--- `string::word::form` meets its contract: the head words of collections first, then one comparison a word.
+-- `word::word::form` meets its contract: the head words of collections first, then one comparison a word.
 -- Assumes nothing.
 use borrow.Author.Needs.{needs}
 use mathlib.Core.Path.{refl}
-use Rattle.string.specs.Parts.{collections}
+use Rattle.word.specs.Heads.{collections}
 use Rattle.rules.proofs.Tests.{refuted}
-use Rattle.string.proofs.Taken.{head-at, head-none}
-use Rattle.string.proofs.Words.{no-head}
-use Rattle.string.proofs.word.form.Statement.{statement}
-use Rattle.string.proofs.word.form.Tie as tie
+use Rattle.word.proofs.Taken.{head-at, head-none}
+use Rattle.word.proofs.Words.{no-head}
+use Rattle.word.proofs.word.form.Statement.{statement}
+use Rattle.word.proofs.word.form.Tie as tie
 
 collection-requires : tie.Need-collection-requires
 collection-requires c κs = tt

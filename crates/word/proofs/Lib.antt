@@ -1,0 +1,3 @@
+-- The laws of words.
+pub mod Taken
+pub mod Words
