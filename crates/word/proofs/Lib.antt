@@ -1,3 +1,2 @@
 -- The laws of words.
-pub mod Taken
 pub mod Words

@@ -8,9 +8,15 @@ use Rattle.lexicon.specs.declared.Form.{Form}
 use Rattle.lexicon.specs.declared.Form.the-variants.{Quoted, Word, HeadWord, CodePoint}
 use Rattle.lexicon.specs.Token.{headWord}
 
--- the head words of collections
+-- the head words of collections: of tuples, with those of intervals, and all
+abbrev pub tuples : List Head
+tuples = TupleArray ∷ Relation ∷ TupleBag ∷ []
+
+abbrev pub intervals : List Head
+intervals = IntervalSet ∷ IntervalBag ∷ tuples
+
 abbrev pub collections : List Head
-collections = Array ∷ Set ∷ Bag ∷ Mix ∷ IntervalSet ∷ IntervalBag ∷ TupleArray ∷ Relation ∷ TupleBag ∷ []
+collections = Array ∷ Set ∷ Bag ∷ Mix ∷ intervals
 
 module _ (text : List ℕ) where
   -- none of these head words stands from i to j

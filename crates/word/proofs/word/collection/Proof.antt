@@ -2,6 +2,10 @@
 -- Assumes nothing.
 use mathlib.Core.Path.{refl}
 use Rattle.rules.proofs.Tests.{refuted}
+use mathlib.Core.List.{_∷_}
+use Rattle.lexicon.specs.declared.Head.the-variants.{Array, Set, Bag, Mix}
+use Rattle.word.specs.Heads.{intervals}
+use Rattle.word.proofs.Words.{also}
 use Rattle.word.proofs.word.collection.Statement.{statement}
 use Rattle.word.proofs.word.collection.Tie as tie
 
@@ -41,53 +45,18 @@ spells-requires-4 c κs = tt
 returns-4 : tie.Need-returns-4
 returns-4 c = c .before .spells4 .ensures .true-holds (c .if4 .taken)
 
-slice-aggregate-spells-5 : tie.Need-slice-aggregate-spells-5
-slice-aggregate-spells-5 c = refl
-
-spells-requires-5 : tie.Need-spells-requires-5
-spells-requires-5 c κs = tt
+of-intervals-requires : tie.Need-of-intervals-requires
+of-intervals-requires c κs = tt
 
 returns-5 : tie.Need-returns-5
-returns-5 c = c .before .spells5 .ensures .true-holds (c .if5 .taken)
-
-slice-aggregate-spells-6 : tie.Need-slice-aggregate-spells-6
-slice-aggregate-spells-6 c = refl
-
-spells-requires-6 : tie.Need-spells-requires-6
-spells-requires-6 c κs = tt
-
-returns-6 : tie.Need-returns-6
-returns-6 c = c .before .spells6 .ensures .true-holds (c .if6 .taken)
-
-slice-aggregate-spells-7 : tie.Need-slice-aggregate-spells-7
-slice-aggregate-spells-7 c = refl
-
-spells-requires-7 : tie.Need-spells-requires-7
-spells-requires-7 c κs = tt
-
-returns-7 : tie.Need-returns-7
-returns-7 c = c .before .spells7 .ensures .true-holds (c .if7 .taken)
-
-slice-aggregate-spells-8 : tie.Need-slice-aggregate-spells-8
-slice-aggregate-spells-8 c = refl
-
-spells-requires-8 : tie.Need-spells-requires-8
-spells-requires-8 c κs = tt
-
-returns-8 : tie.Need-returns-8
-returns-8 c = c .before .spells8 .ensures .true-holds (c .if8 .taken)
-
-slice-aggregate-spells-9 : tie.Need-slice-aggregate-spells-9
-slice-aggregate-spells-9 c = refl
-
-spells-requires-9 : tie.Need-spells-requires-9
-spells-requires-9 c κs = tt
-
-returns-9 : tie.Need-returns-9
-returns-9 c = c .before .spells9 .ensures .true-holds (c .if9 .taken)
-
-returns-10 : tie.Need-returns-10
-returns-10 c = (refuted (c .before .before .before .before .before .before .before .before .before .before .before .before .before .before .before .before .before .before .before .before .before .before .before .before .before .spells .ensures) (c .before .before .before .before .before .before .before .before .before .before .before .before .before .before .before .before .before .before .before .before .before .before .before .before .if1 .left), (refuted (c .before .before .before .before .before .before .before .before .before .before .before .before .before .before .before .before .before .before .before .before .before .before .spells2 .ensures) (c .before .before .before .before .before .before .before .before .before .before .before .before .before .before .before .before .before .before .before .before .before .if2 .left), (refuted (c .before .before .before .before .before .before .before .before .before .before .before .before .before .before .before .before .before .before .before .spells3 .ensures) (c .before .before .before .before .before .before .before .before .before .before .before .before .before .before .before .before .before .before .if3 .left), (refuted (c .before .before .before .before .before .before .before .before .before .before .before .before .before .before .before .before .spells4 .ensures) (c .before .before .before .before .before .before .before .before .before .before .before .before .before .before .before .if4 .left), (refuted (c .before .before .before .before .before .before .before .before .before .before .before .before .before .spells5 .ensures) (c .before .before .before .before .before .before .before .before .before .before .before .before .if5 .left), (refuted (c .before .before .before .before .before .before .before .before .before .before .spells6 .ensures) (c .before .before .before .before .before .before .before .before .before .if6 .left), (refuted (c .before .before .before .before .before .before .before .spells7 .ensures) (c .before .before .before .before .before .before .if7 .left), (refuted (c .before .before .before .before .spells8 .ensures) (c .before .before .before .if8 .left), (refuted (c .before .spells9 .ensures) (c .if9 .left), (tt))))))))))
+returns-5 c =
+    let a = c .before .before .before .before .before .before .before .before .before .before .before .before .before .before .args in
+    let r = c .of-intervals .result in
+    also (a .text .now) (a .at) (a .end) Array (Set ∷ Bag ∷ Mix ∷ intervals) r (refuted (c .before .before .before .before .before .before .before .before .before .before .before .spells .ensures) (c .before .before .before .before .before .before .before .before .before .before .if1 .left))
+    (also (a .text .now) (a .at) (a .end) Set (Bag ∷ Mix ∷ intervals) r (refuted (c .before .before .before .before .before .before .before .before .spells2 .ensures) (c .before .before .before .before .before .before .before .if2 .left))
+    (also (a .text .now) (a .at) (a .end) Bag (Mix ∷ intervals) r (refuted (c .before .before .before .before .before .spells3 .ensures) (c .before .before .before .before .if3 .left))
+    (also (a .text .now) (a .at) (a .end) Mix intervals r (refuted (c .before .before .spells4 .ensures) (c .before .if4 .left))
+    (c .of-intervals .ensures))))
 
 pub collection-spec : {M : Type 1} → statement M
 collection-spec =
@@ -105,19 +74,5 @@ collection-spec =
     slice-aggregate-spells-4
     spells-requires-4
     returns-4
-    slice-aggregate-spells-5
-    spells-requires-5
-    returns-5
-    slice-aggregate-spells-6
-    spells-requires-6
-    returns-6
-    slice-aggregate-spells-7
-    spells-requires-7
-    returns-7
-    slice-aggregate-spells-8
-    spells-requires-8
-    returns-8
-    slice-aggregate-spells-9
-    spells-requires-9
-    returns-9
-    returns-10)
+    of-intervals-requires
+    returns-5)
