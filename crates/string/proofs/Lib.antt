@@ -1,10 +1,8 @@
 -- The laws of Text literals.
-pub mod Taken
 pub mod Among
 pub mod Marks
 pub mod Codes
 pub mod Numbers
-pub mod Words
 pub mod Items
 pub mod Characters
 pub mod Escapes

@@ -1,18 +1,13 @@
 -- What the answers of the parts of a Text literal say. Assumes nothing.
 use mathlib.Core.Path.{_≡_}
-use mathlib.Core.List.{List, [], _∷_}
+use mathlib.Core.List.{List}
 use Prim.Native.Nat.{ℕ, _-_, min}
 use Rattle.rules.specs.Rule.{Rule, one, _then_, _or_, many, plus, lit, Takes, Fails, Among}
 use Rattle.lexicon.specs.declared.Base.{Base}
-use Rattle.lexicon.specs.declared.Head.{Head}
-use Rattle.lexicon.specs.declared.Head.the-variants.{Array, Set, Bag, Mix, IntervalSet, IntervalBag, TupleArray, Relation, TupleBag}
-use Rattle.lexicon.specs.declared.Form.{Form}
-use Rattle.lexicon.specs.declared.Form.the-variants.{Quoted, Word, HeadWord, CodePoint}
 use Rattle.lexicon.specs.Bytes.{digits, radix}
 use Rattle.lexicon.specs.Literals.{codePoint, unescaped, restricted, escape}
 use Rattle.lexicon.specs.Values.{read, value, limit}
 use Rattle.lexicon.specs.Bad.{Scalar, BadCode, BadEscape}
-use Rattle.lexicon.specs.Token.{headWord}
 
 -- the digits of a number, one at least
 abbrev pub number : Base → Rule
@@ -31,10 +26,6 @@ item = unescaped or escape
 
 abbrev pub escapedRest : Rule
 escapedRest = many item then lit "\""
-
--- the head words of collections
-abbrev pub collections : List Head
-collections = Array ∷ Set ∷ Bag ∷ Mix ∷ IntervalSet ∷ IntervalBag ∷ TupleArray ∷ Relation ∷ TupleBag ∷ []
 
 module _ (text : List ℕ) where
   -- the number of the digits from i to j
@@ -61,22 +52,3 @@ module _ (text : List ℕ) where
     pub end : ℕ
     pub content : Among text item (BadEscape text) i end
     pub behind : Takes text (lit "\"") end j
-
-  -- none of these head words stands from i to j
-  abbrev pub NoneOf : List Head → ℕ → ℕ → Type 0
-  NoneOf [] i j = Unit {0}
-  NoneOf (h ∷ hs) i j = (Takes text (lit (headWord h)) i j → ⊥) × NoneOf hs i j
-
-  -- a head word stands there, or none of these does
-  abbrev pub TellsOf : List Head → ℕ → ℕ → Form → Type 0
-  TellsOf hs i j (HeadWord h) = Takes text (lit (headWord h)) i j
-  TellsOf hs i j Word = NoneOf hs i j
-  TellsOf hs i j Quoted = ⊥
-  TellsOf hs i j CodePoint = ⊥
-
-  -- which head word stands there, or that none does
-  abbrev pub Tells : ℕ → ℕ → Form → Type 0
-  Tells i j (HeadWord h) = Takes text (lit (headWord h)) i j
-  Tells i j Word = (h : Head) → Takes text (lit (headWord h)) i j → ⊥
-  Tells i j Quoted = ⊥
-  Tells i j CodePoint = ⊥

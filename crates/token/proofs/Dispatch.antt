@@ -33,7 +33,7 @@ use Rattle.lexicon.specs.Token.{Lexeme, anIgnorance, aBoolean, anInteger, aFrac
 use Rattle.lexicon.proofs.Tokens.{every, for-every, begins, begins-with, outreaches, alone, oneOf, is-one}
 use Rattle.lexicon.proofs.Unique.{integer-below}
 use Rattle.text.proofs.Ranges.{in-first, low-in, in-high}
-use Rattle.string.specs.Parts.{Tells}
+use Rattle.word.specs.Heads.{Tells}
 use Rattle.lexicon.specs.declared.Next.{Next}
 use Rattle.lexicon.specs.declared.Next.the-variants as Next
 use Rattle.token.specs.declared.symbol.Symbol as Symbols

@@ -9,7 +9,7 @@ use lexicon::Token;
 use number::blob::bits;
 use number::blob::blob;
 use string::code_point::code_point;
-use string::spelling::spells;
+use word::spelling::spells;
 ghost use Rattle.rules.specs.Class.{just};
 ghost use Rattle.rules.specs.Rule.{At};
 ghost use Rattle.token.specs.Answers.{StartsAt, FixedAt, Marked};
@@ -25,28 +25,32 @@ fn fixed_at(text: &[u8], at: usize) -> Fixed
     requires { ⌜ At (now text) (just 0x30) at ⌝ }
     ensures { λ r. ⌜ FixedAt (now (text .entry)) at r ⌝ }
 {
-    if spells(text, at, at + 11, b"0sIGNORANCE") {
+    let end = at + 11;
+    if spells(text, at, end, b"0sIGNORANCE") {
         return Fixed::At {
             kind: Kind::Ignorance,
-            end: at + 11,
+            end,
         };
     }
-    if spells(text, at, at + 7, b"0bFALSE") {
+    let end = at + 7;
+    if spells(text, at, end, b"0bFALSE") {
         return Fixed::At {
             kind: Kind::Boolean(false),
-            end: at + 7,
+            end,
         };
     }
-    if spells(text, at, at + 6, b"0bTRUE") {
+    let end = at + 6;
+    if spells(text, at, end, b"0bTRUE") {
         return Fixed::At {
             kind: Kind::Boolean(true),
-            end: at + 6,
+            end,
         };
     }
-    if spells(text, at, at + 2, b"0L") {
+    let end = at + 2;
+    if spells(text, at, end, b"0L") {
         return Fixed::At {
             kind: Kind::Later,
-            end: at + 2,
+            end,
         };
     }
     Fixed::Nothing

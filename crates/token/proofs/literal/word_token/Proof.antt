@@ -6,8 +6,8 @@ use Rattle.token.proofs.literal.word_token.Statement.{statement}
 use Rattle.token.proofs.literal.word_token.Tie as tie
 use Rattle.token.proofs.literal.word_token.Reads as reads
 use Rattle.token.proofs.literal.word_token.Lts as lts
-use Rattle.string.proofs.word.form.Reads as form-reads
-use Rattle.string.proofs.word.word.Reads as word-reads
+use Rattle.word.proofs.word.form.Reads as form-reads
+use Rattle.word.proofs.word.word.Reads as word-reads
 
 -- src/literal.rt:36:26
 word-requires : tie.Need-word-requires

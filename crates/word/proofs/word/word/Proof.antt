@@ -1,11 +1,11 @@
--- `string::word::word` meets its contract: the bytes up to `i` go on with the word.
+-- `word::word::word` meets its contract: the bytes up to `i` go on with the word.
 -- Assumes nothing.
 use borrow.Author.Needs.{needs}
 use Prim.Native.Nat.{_-_}
 use lib.ListN.{length}
-use Rattle.string.proofs.Words.{Passed, word-beyond, word-other, word-first, word-more, word-ends, word-all}
-use Rattle.string.proofs.word.word.Statement.{statement}
-use Rattle.string.proofs.word.word.Tie as tie
+use Rattle.word.proofs.Words.{Passed, word-beyond, word-other, word-first, word-more, word-ends, word-all}
+use Rattle.word.proofs.word.word.Statement.{statement}
+use Rattle.word.proofs.word.word.Tie as tie
 
 abbrev Inv-loop : tie.InvT-loop
 Inv-loop text at i₀ i = Passed text at i

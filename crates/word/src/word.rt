@@ -7,7 +7,7 @@ use lexicon::Set;
 use text::class::in_set;
 ghost use Rattle.lexicon.specs.Found.{Finds};
 ghost use Rattle.lexicon.specs.Literals as Literals;
-ghost use Rattle.string.specs.Parts.{Tells, TellsOf, collections};
+ghost use Rattle.word.specs.Heads.{Tells, TellsOf, tuples, intervals, collections};
 
 // Where the word at the place ends.
 pub fn word(text: &[u8], at: usize) -> Found
@@ -29,7 +29,36 @@ pub fn word(text: &[u8], at: usize) -> Found
     Found::At(i)
 }
 
-// Which head word of a collection stands from one place to the other, if any.
+// Which head word of tuples stands from one place to the other, if any.
+fn of_tuples(text: &[u8], at: usize, end: usize) -> Form
+    ensures { λ r. ⌜ TellsOf (now (text .entry)) tuples at end r ⌝ }
+{
+    if spells(text, at, end, b"Tuple_Array") {
+        return Form::HeadWord(Head::TupleArray);
+    }
+    if spells(text, at, end, b"Relation") {
+        return Form::HeadWord(Head::Relation);
+    }
+    if spells(text, at, end, b"Tuple_Bag") {
+        return Form::HeadWord(Head::TupleBag);
+    }
+    Form::Word
+}
+
+// The same with the head words of intervals.
+fn of_intervals(text: &[u8], at: usize, end: usize) -> Form
+    ensures { λ r. ⌜ TellsOf (now (text .entry)) intervals at end r ⌝ }
+{
+    if spells(text, at, end, b"Interval_Set") {
+        return Form::HeadWord(Head::IntervalSet);
+    }
+    if spells(text, at, end, b"Interval_Bag") {
+        return Form::HeadWord(Head::IntervalBag);
+    }
+    of_tuples(text, at, end)
+}
+
+// The same with the other head words of collections.
 fn collection(text: &[u8], at: usize, end: usize) -> Form
     ensures { λ r. ⌜ TellsOf (now (text .entry)) collections at end r ⌝ }
 {
@@ -45,31 +74,13 @@ fn collection(text: &[u8], at: usize, end: usize) -> Form
     if spells(text, at, end, b"Mix") {
         return Form::HeadWord(Head::Mix);
     }
-    if spells(text, at, end, b"Interval_Set") {
-        return Form::HeadWord(Head::IntervalSet);
-    }
-    if spells(text, at, end, b"Interval_Bag") {
-        return Form::HeadWord(Head::IntervalBag);
-    }
-    if spells(text, at, end, b"Tuple_Array") {
-        return Form::HeadWord(Head::TupleArray);
-    }
-    if spells(text, at, end, b"Relation") {
-        return Form::HeadWord(Head::Relation);
-    }
-    if spells(text, at, end, b"Tuple_Bag") {
-        return Form::HeadWord(Head::TupleBag);
-    }
-    Form::Word
+    of_intervals(text, at, end)
 }
 
 // Which head word stands from one place to the other, if any.
 pub fn form(text: &[u8], at: usize, end: usize) -> Form
     ensures { λ r. ⌜ Tells (now (text .entry)) at end r ⌝ }
 {
-    if let Form::HeadWord(h) = collection(text, at, end) {
-        return Form::HeadWord(h);
-    }
     if spells(text, at, end, b"Article") {
         return Form::HeadWord(Head::Article);
     }
@@ -82,5 +93,5 @@ pub fn form(text: &[u8], at: usize, end: usize) -> Form
     if spells(text, at, end, b"Renaming") {
         return Form::HeadWord(Head::Renaming);
     }
-    Form::Word
+    collection(text, at, end)
 }

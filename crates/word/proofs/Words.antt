@@ -16,10 +16,12 @@ use Rattle.rules.proofs.Matches.{starting, one-at, row-end}
 use Rattle.rules.proofs.Chains.{snoc, longest}
 use Rattle.lexicon.specs.declared.Head.{Head}
 use Rattle.lexicon.specs.declared.Head.the-variants.{Array, Set, Bag, Mix, IntervalSet, IntervalBag, TupleArray, Relation, TupleBag, Article, Excuse, Heading, Renaming}
+use Rattle.lexicon.specs.declared.Form.{Form}
+use Rattle.lexicon.specs.declared.Form.the-variants.{Quoted, Word, HeadWord, CodePoint}
 use Rattle.lexicon.specs.Bytes.{wordStart, wordRest}
 use Rattle.lexicon.specs.Literals.{word}
 use Rattle.lexicon.specs.Token.{headWord}
-use Rattle.string.specs.Parts.{NoneOf, collections}
+use Rattle.word.specs.Heads.{NoneOf, TellsOf, Tells, collections}
 use Rattle.rules.proofs.Tests.{says-no, says-yes, there, not-there}
 use Rattle.lexicon.proofs.Spaces.{byte-single}
 
@@ -146,19 +148,35 @@ module _ (text w : List ℕ) (i j : ℕ) where
 
 -- ---- head words
 
-pub no-head :
-    (text : List ℕ) (i j : ℕ) → NoneOf text collections i j → (Takes text (lit "Article") i j → ⊥) → (Takes text (lit "Excuse") i j → ⊥) →
-    (Takes text (lit "Heading") i j → ⊥) → (Takes text (lit "Renaming") i j → ⊥) → (h : Head) → Takes text (lit (headWord h)) i j → ⊥
-no-head text i j n a e d r Array = n .0
-no-head text i j n a e d r Set = n .1 .0
-no-head text i j n a e d r Bag = n .1 .1 .0
-no-head text i j n a e d r Mix = n .1 .1 .1 .0
-no-head text i j n a e d r IntervalSet = n .1 .1 .1 .1 .0
-no-head text i j n a e d r IntervalBag = n .1 .1 .1 .1 .1 .0
-no-head text i j n a e d r TupleArray = n .1 .1 .1 .1 .1 .1 .0
-no-head text i j n a e d r Relation = n .1 .1 .1 .1 .1 .1 .1 .0
-no-head text i j n a e d r TupleBag = n .1 .1 .1 .1 .1 .1 .1 .1 .0
-no-head text i j n a e d r Article = a
-no-head text i j n a e d r Excuse = e
-no-head text i j n a e d r Heading = d
-no-head text i j n a e d r Renaming = r
+abbrev heads : List Head
+heads = Article ∷ Excuse ∷ Heading ∷ Renaming ∷ collections
+
+module _ (text : List ℕ) (i j : ℕ) where
+  -- one more head word does not stand there
+  pub also : (h : Head) (hs : List Head) (f : Form) → (Takes text (lit (headWord h)) i j → ⊥) → TellsOf text hs i j f → TellsOf text (h ∷ hs) i j f
+  also h hs (HeadWord g) n t = t
+  also h hs Word n t = (n, t)
+  also h hs Quoted n t = t
+  also h hs CodePoint n t = t
+
+  no-head : NoneOf text heads i j → (h : Head) → Takes text (lit (headWord h)) i j → ⊥
+  no-head n Article = n .0
+  no-head n Excuse = n .1 .0
+  no-head n Heading = n .1 .1 .0
+  no-head n Renaming = n .1 .1 .1 .0
+  no-head n Array = n .1 .1 .1 .1 .0
+  no-head n Set = n .1 .1 .1 .1 .1 .0
+  no-head n Bag = n .1 .1 .1 .1 .1 .1 .0
+  no-head n Mix = n .1 .1 .1 .1 .1 .1 .1 .0
+  no-head n IntervalSet = n .1 .1 .1 .1 .1 .1 .1 .1 .0
+  no-head n IntervalBag = n .1 .1 .1 .1 .1 .1 .1 .1 .1 .0
+  no-head n TupleArray = n .1 .1 .1 .1 .1 .1 .1 .1 .1 .1 .0
+  no-head n Relation = n .1 .1 .1 .1 .1 .1 .1 .1 .1 .1 .1 .0
+  no-head n TupleBag = n .1 .1 .1 .1 .1 .1 .1 .1 .1 .1 .1 .1 .0
+
+  -- they are all the head words
+  pub of-all : (f : Form) → TellsOf text heads i j f → Tells text i j f
+  of-all (HeadWord g) t = t
+  of-all Word t = no-head t
+  of-all Quoted t = t
+  of-all CodePoint t = t

@@ -1,11 +1,11 @@
--- `string::spelling::spells` meets its contract: the bytes before `k` are equal, and the answer is that of the first that differs or of them all.
+-- `word::spelling::spells` meets its contract: the bytes before `k` are equal, and the answer is that of the first that differs or of them all.
 -- Assumes nothing.
 use borrow.Author.Needs.{needs}
 use Prim.Native.Nat.{_-_}
 use lib.ListN.{length}
-use Rattle.string.proofs.Words.{Matched, spells-back, spells-longer, spells-all, spells-other, spells-more, spells-none}
-use Rattle.string.proofs.spelling.spells.Statement.{statement}
-use Rattle.string.proofs.spelling.spells.Tie as tie
+use Rattle.word.proofs.Words.{Matched, spells-back, spells-longer, spells-all, spells-other, spells-more, spells-none}
+use Rattle.word.proofs.spelling.spells.Statement.{statement}
+use Rattle.word.proofs.spelling.spells.Tie as tie
 
 abbrev Inv-loop : tie.InvT-loop
 Inv-loop text at end bytes k₀ k = Matched text bytes at k

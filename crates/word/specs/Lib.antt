@@ -1,0 +1,2 @@
+-- What is told of a word.
+pub mod Heads

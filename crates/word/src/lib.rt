@@ -1,0 +1,3 @@
+// Bare words, which head word one is, and given bytes at a place.
+pub mod spelling;
+pub mod word;
