@@ -5,7 +5,8 @@ use Prim.Native.Nat.{ℕ, zero, suc, _+_, _*_, _≤_, min}
 use native.Mathlib.Nat.{add-zero, mul-le-mul-left, mul-le-mul-right}
 use native.Mathlib.Omega.{arith, min-cases}
 use lib.ListN.{getD}
-use Rattle.lexicon.specs.Values.{read, digit, valueFrom, limit, limited}
+use Rattle.lexicon.specs.Values.{read, digit, valueFrom}
+use Rattle.lexicon.specs.Limited.{limit, limited}
 
 -- one digit more, for any limit and any base: a number beyond the limit stays there, also in base 0, where only the digit counts
 pub limit-step : (c r v d : ℕ) → min c (min c v * r + d) ≡ min c (v * r + d)

@@ -1,6 +1,5 @@
--- Document 01's tokens, in its order: bytes, UTF-8, the front, dividing space, the literals of source document 003, symbols,
--- the token at a place, the values of literals and the bad ones.
-pub mod Found
+-- Document 01's tokens, in its order: bytes, UTF-8, the front, dividing space, the literals of source document 003, symbols, the
+-- values of literals and the bad ones, the token at a place.
 pub mod Bytes
 pub mod Utf8
 pub mod Space
@@ -10,3 +9,6 @@ pub mod Symbols
 pub mod Values
 pub mod Bad
 pub mod Token
+-- no rules: what the answers of searches say, and what the code holds of a number of any size
+pub mod Found
+pub mod Limited

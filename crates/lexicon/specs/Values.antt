@@ -2,7 +2,7 @@
 use mathlib.Core.Path.{_≡_}
 use mathlib.Core.Bool.{cond}
 use mathlib.Core.List.{List, [], _∷_, _++_}
-use Prim.Native.Nat.{ℕ, zero, suc, _+_, _-_, _*_, min}
+use Prim.Native.Nat.{ℕ, zero, suc, _+_, _-_, _*_}
 use lib.Dec.{leb, eqb}
 use lib.IntN.{ℤ, pos, negℤ}
 use lib.ListN.{getD}
@@ -31,14 +31,6 @@ valueFrom r v (d ∷ ds) = valueFrom r (v * r + digit d) ds
 
 abbrev pub value : ℕ → List ℕ → ℕ
 value r ds = valueFrom r 0 ds
-
--- numbers are counted up to a limit: from it on a number is no code point, no denominator 0 and no radix below 2
-abbrev pub limit : ℕ
-limit = 0x110000
-
--- the number v with one digit more, up to the limit
-unfoldable pub limited : ℕ → ℕ → ℕ → ℕ
-limited r v d = min limit (v * r + digit d)
 
 -- ---- characters
 

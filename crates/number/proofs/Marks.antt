@@ -16,7 +16,8 @@ use Rattle.lexicon.specs.Bytes.{members, digits, digitSet, radix, decimal}
 use Rattle.lexicon.specs.Space.{sp, Skips}
 use Rattle.lexicon.specs.Literals.{unit, plusMinus}
 use Rattle.lexicon.proofs.Integers.{Start, behind, unsigned}
-use Rattle.lexicon.specs.Values.{Digits, value, limit}
+use Rattle.lexicon.specs.Values.{Digits, value}
+use Rattle.lexicon.specs.Limited.{limit}
 use Rattle.lexicon.proofs.Limits.{limited-value}
 use Rattle.lexicon.proofs.Spaces.{skips-same, landed}
 use Rattle.lexicon.proofs.Groups.{Clear, digits-most, digits-forward, digits-unit, digits-at}

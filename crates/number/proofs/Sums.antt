@@ -7,7 +7,8 @@ use borrow.Author.Tests.{eq-eqb, ne-eqb}
 use lib.ListN.{getD}
 use Rattle.lexicon.specs.declared.Set.{Set}
 use Rattle.lexicon.specs.Bytes.{size}
-use Rattle.lexicon.specs.Values.{read, limited}
+use Rattle.lexicon.specs.Values.{read}
+use Rattle.lexicon.specs.Limited.{limited}
 use Rattle.lexicon.proofs.Limits.{read-more}
 use Rattle.number.specs.Tally.{paddedOf, tallyOf, tallies}
 

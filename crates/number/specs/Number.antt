@@ -8,7 +8,8 @@ use Rattle.lexicon.specs.declared.Base.{Base}
 use Rattle.lexicon.specs.Bytes.{digits, digitSet, radix}
 use Rattle.lexicon.specs.Space.{sp}
 use Rattle.lexicon.specs.Literals.{unit}
-use Rattle.lexicon.specs.Values.{Digits, value, limit}
+use Rattle.lexicon.specs.Values.{Digits, value}
+use Rattle.lexicon.specs.Limited.{limit}
 use Rattle.lexicon.proofs.Numbers.{letter, Numeral, SomeNumeral}
 use Rattle.number.specs.declared.integer.Mark as Mark
 use Rattle.number.specs.declared.integer.Mark.{Mark}

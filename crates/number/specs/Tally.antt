@@ -5,7 +5,7 @@ use Prim.Native.Nat.{ℕ}
 use lib.Dec.{eqb}
 use Rattle.lexicon.specs.declared.Set.{Set}
 use Rattle.lexicon.specs.Bytes.{size}
-use Rattle.lexicon.specs.Values.{limited}
+use Rattle.lexicon.specs.Limited.{limited}
 
 -- `=` among base-64 characters: 0 before the first, 1 behind it, 2 once another character stands behind one
 unfoldable pub paddedOf : ℕ → ℕ → ℕ

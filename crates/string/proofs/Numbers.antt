@@ -19,7 +19,8 @@ use Rattle.lexicon.specs.declared.Set.{Set}
 use Rattle.lexicon.specs.declared.Literal as Literal
 use Rattle.lexicon.specs.Bytes.{members, digitSet, digits, radix, size}
 use Rattle.lexicon.specs.Found.{Judges}
-use Rattle.lexicon.specs.Values.{read, limit, limited}
+use Rattle.lexicon.specs.Values.{read}
+use Rattle.lexicon.specs.Limited.{limit, limited}
 use Rattle.lexicon.specs.Bad.{Scalar}
 use Rattle.lexicon.proofs.Limits.{limited-value, read-more}
 use Rattle.string.specs.Parts.{number, BadNumber, Counts}

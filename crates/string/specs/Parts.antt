@@ -6,7 +6,8 @@ use Rattle.rules.specs.Rule.{Rule, one, _then_, _or_, many, plus, lit, Takes, F
 use Rattle.lexicon.specs.declared.Base.{Base}
 use Rattle.lexicon.specs.Bytes.{digits, radix}
 use Rattle.lexicon.specs.Literals.{codePoint, unescaped, restricted, escape}
-use Rattle.lexicon.specs.Values.{read, value, limit}
+use Rattle.lexicon.specs.Values.{read, value}
+use Rattle.lexicon.specs.Limited.{limit}
 use Rattle.lexicon.specs.Bad.{Scalar, BadCode, BadEscape}
 
 -- the digits of a number, one at least

@@ -3,7 +3,8 @@ use lexicon::Base;
 use lexicon::Set;
 ghost use mathlib.Core.Path.{_≡_};
 ghost use Rattle.lexicon.specs.Bytes.{digitSet, size};
-ghost use Rattle.lexicon.specs.Values.{digit as digitOf, limited as limitedOf};
+ghost use Rattle.lexicon.specs.Values.{digit as digitOf};
+ghost use Rattle.lexicon.specs.Limited.{limited as limitedOf};
 
 // From it on a number is no code point, no denominator 0 and no radix below 2.
 const LIMIT: u32 = 0x11_0000;

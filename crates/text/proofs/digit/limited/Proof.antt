@@ -2,7 +2,7 @@
 -- Assumes nothing.
 use borrow.Author.Needs.{needs}
 use native.Mathlib.Omega.{arith}
-use Rattle.lexicon.specs.Values.{limited}
+use Rattle.lexicon.specs.Limited.{limited}
 use Rattle.text.proofs.Digits.{product-fits, sum-fits}
 use Rattle.text.proofs.digit.limited.Statement.{statement}
 use Rattle.text.proofs.digit.limited.Tie as tie
