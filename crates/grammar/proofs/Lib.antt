@@ -1,0 +1,5 @@
+-- The machine that reads values, and the laws of the grammar.
+pub mod Frames
+pub mod Machine
+pub mod Places
+pub mod Complete
