@@ -3,3 +3,5 @@ pub mod Frames
 pub mod Machine
 pub mod Places
 pub mod Complete
+pub mod Behind
+pub mod Sound
