@@ -5,7 +5,6 @@ use mathlib.Core.List.{List, [], _∷_}
 use mathlib.Core.Option.{Option, none, some}
 use Rattle.grammar.specs.Tokens
 use Rattle.grammar.specs.Tokens.{Span, Tok, tok, headWord}
-use Rattle.grammar.specs.Tree
 use Rattle.grammar.specs.Tree.{Names, Collection, Style}
 use Rattle.grammar.specs.Yield.{sign, arrowMark, joinerMark, sideBound, betweenMark, collectionHead, yieldNames, yieldName, yieldValue, yieldPlain, yieldItem, yieldRow, yieldListing, yieldBounds}
 use Rattle.lexicon.specs.declared.Bound.the-variants.{Open}

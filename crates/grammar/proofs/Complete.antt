@@ -1,18 +1,18 @@
 -- Completeness: the machine reads the tokens of every tree of the level, whatever stands before and behind them. Assumes nothing.
-use mathlib.Core.Path.{_≡_, refl, sym, ap, _∙_}
-use mathlib.Core.Bool.{Bool, true, _&&_}
+use mathlib.Core.Path.{_≡_, refl, ap, _∙_}
+use mathlib.Core.Bool.{true, _&&_}
 use mathlib.Core.List.{List, [], _∷_}
-use mathlib.Core.Option.{Option, none, some}
+use mathlib.Core.Option.{Option, some}
 use Rattle.rules.proofs.Bools.{and-left, and-right}
 use Rattle.grammar.specs.Tokens
 use Rattle.grammar.specs.Tokens.{Span, Tok, tok}
 use Rattle.grammar.specs.Tree
-use Rattle.grammar.specs.Tree.{Names, oneName, moreNames, PlainName, textName, nestingName, Name, plainName, bareName, Arrow, rightward, leftward, Joiner, Collection, array, set, bag, Measure, countedBy, Count, number, truth, Side, less, lessEqual, Between, twoDots, starSign, Style, opening, attribute, member, copy, Value, Plain, Item, Row, Listing, Attributes, Bounds}
-use Rattle.grammar.specs.Yield.{sign, arrowMark, joinerMark, yieldNames, yieldPlainName, yieldName, yieldCount, yieldValue, yieldPlain, yieldItem, yieldRow, yieldListing, yieldAttributes, yieldBounds}
+use Rattle.grammar.specs.Tree.{Names, oneName, moreNames, PlainName, textName, nestingName, Name, plainName, bareName, Joiner, Measure, Count, number, truth, Style, opening, attribute, member, copy, Value, Plain, Item, Row, Listing, Attributes, Bounds}
+use Rattle.grammar.specs.Yield.{sign, yieldNames, yieldPlainName, yieldName, yieldCount, yieldValue, yieldPlain, yieldItem, yieldRow, yieldListing, yieldAttributes, yieldBounds}
 use Rattle.grammar.specs.Level.{Level, intervals, hasCollection, hasArrow, hasJoiner, keeps, keepsPlain, keepsItem, keepsRow, keepsListing, keepsAttributes, keepsBounds}
-use Rattle.grammar.proofs.Frames.{Lead, leadComma, leadRow, Front, start, led, row, Curly, lotCurly, countedCurly, RoundFrame, opened, pairColon, pairArrow, inTuple, attributeName, CurlyFrame, memberJoined, SquareFrame, squareOpened, lowAnd, upTo, Frame, inRound, inSquare, Stack, Closing, twoCommas, headed, bounded, Config, want, have, wantText, wantCurly, wantCount, haveItem, wantClose, nextNames, nextAttribute, lastAttribute, nextItem, lastItem, noFurther, shut, plainNameOf, nameOf, namesOf}
+use Rattle.grammar.proofs.Frames.{Lead, leadComma, leadRow, Front, start, led, row, Curly, lotCurly, countedCurly, opened, pairColon, pairArrow, inTuple, attributeName, squareOpened, lowAnd, upTo, Frame, inRound, inSquare, Stack, twoCommas, Config, want, have, wantCount, haveItem, lastAttribute, lastItem, shut}
 use Rattle.grammar.proofs.Machine.{advance, run, runs}
-use Rattle.grammar.proofs.Places.{nameValue, Place, firstPlace, nextPlace, lotPlace, countedPlace, frameAt, frameAfter, itemRead, Holder, tupleHolder, curlyHolder, placeIn, firstIn, ledIn, rowIn, afterFirst, afterLed, afterNext, whenTrue, itemComma, attributeClose, itemClose, noItemClose, ledComma, secondComma, arrowStep, joinStep, betweenStep, fromStep, upToStep, headStep, nameStep}
+use Rattle.grammar.proofs.Places.{nameValue, Place, firstPlace, nextPlace, lotPlace, countedPlace, frameAt, itemRead, Holder, tupleHolder, curlyHolder, placeIn, firstIn, ledIn, rowIn, afterFirst, afterLed, afterNext, whenTrue, itemComma, attributeClose, itemClose, noItemClose, ledComma, secondComma, arrowStep, joinStep, betweenStep, fromStep, upToStep, headStep, nameStep}
 
 module _ (l : Level) where
   -- one step, and the rest of the run

@@ -1,5 +1,5 @@
 -- Configurations of the machine: a mode and a stack of frames, each with the part of its construct that was read. Assumes nothing.
-use mathlib.Core.List.{List, [], _∷_}
+use mathlib.Core.List.{List}
 use mathlib.Core.Option.{Option, none, some}
 use Rattle.grammar.specs.Tokens.{Span, Wording}
 use Rattle.grammar.specs.Tree

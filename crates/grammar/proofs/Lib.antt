@@ -4,4 +4,5 @@ pub mod Machine
 pub mod Places
 pub mod Complete
 pub mod Behind
+pub mod Parts
 pub mod Sound

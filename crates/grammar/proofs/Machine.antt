@@ -11,7 +11,6 @@ use Rattle.grammar.specs.Tokens.{Span, Tok, Atom, Wording, Mark, Class}
 use Rattle.grammar.specs.Tree
 use Rattle.grammar.specs.Tree.{Names, PlainName, Name, Arrow, rightward, leftward, Collection, array, set, bag, Measure, byNumber, byTruth, Count, Side, less, lessEqual, Between, twoDots, starSign, Style, member, copy, Value, Plain}
 use Rattle.grammar.specs.Level.{Level, intervals, arrays, sets, bags, hasArrow}
-use Rattle.grammar.proofs.Frames
 use Rattle.grammar.proofs.Frames.{Lead, leadComma, leadRow, Front, start, led, row, Curly, lotCurly, countedCurly, RoundFrame, opened, pairColon, pairArrow, inTuple, attributeName, CurlyFrame, memberJoined, SquareFrame, squareOpened, lowAnd, upTo, Frame, inRound, inSquare, Stack, Closing, twoCommas, headed, bounded, Config, want, have, wantText, wantCurly, wantCount, haveItem, wantClose, nextNames, nextAttribute, lastAttribute, nextItem, lastItem, noFurther, shut, plainNameOf, nameOf, namesOf}
 
 -- a form that the level may lack

@@ -1,17 +1,17 @@
 -- Places of items on the stack, and the steps that end an item: what completeness is put together from. Assumes nothing.
-use mathlib.Core.Path.{_≡_, refl, sym, ap, _∙_}
+use mathlib.Core.Path.{_≡_, refl}
 use mathlib.Core.Bool.{Bool, true, false, false≢true}
-use mathlib.Core.List.{List, [], _∷_}
-use mathlib.Core.Option.{Option, none, some}
+use mathlib.Core.List.{_∷_}
+use mathlib.Core.Option.{some}
 use Rattle.lexicon.specs.declared.Bound.the-variants.{Open}
 use Rattle.grammar.specs.Tokens
-use Rattle.grammar.specs.Tokens.{Span, Tok, tok}
+use Rattle.grammar.specs.Tokens.{Span, tok}
 use Rattle.grammar.specs.Tree
-use Rattle.grammar.specs.Tree.{Names, oneName, moreNames, PlainName, textName, nestingName, Name, plainName, bareName, Arrow, rightward, leftward, Joiner, Collection, array, set, bag, Measure, countedBy, Count, number, truth, Side, less, lessEqual, Between, twoDots, starSign, Style, opening, attribute, member, copy, Value, Plain, Item, Row, Listing, Attributes, Bounds}
+use Rattle.grammar.specs.Tree.{PlainName, textName, nestingName, plainName, Arrow, rightward, leftward, Joiner, Collection, array, set, bag, countedBy, Side, less, lessEqual, Between, twoDots, starSign, Style, opening, attribute, member, copy, Value, Plain, Item, Row}
 use Rattle.grammar.specs.Yield.{arrowMark, joinerMark, sideBound, betweenMark, collectionHead}
-use Rattle.grammar.specs.Level.{Level, intervals, hasCollection, hasArrow, hasJoiner, keeps, keepsPlain, keepsItem, keepsRow, keepsListing, keepsAttributes, keepsBounds}
-use Rattle.grammar.proofs.Frames.{Lead, leadComma, leadRow, Front, start, led, row, Curly, lotCurly, countedCurly, RoundFrame, opened, pairColon, pairArrow, inTuple, attributeName, CurlyFrame, memberJoined, SquareFrame, squareOpened, lowAnd, upTo, Frame, inRound, inSquare, Stack, Closing, twoCommas, headed, bounded, Config, want, have, wantText, wantCurly, wantCount, haveItem, wantClose, nextNames, nextAttribute, lastAttribute, nextItem, lastItem, noFurther, shut, plainNameOf, nameOf, namesOf}
-use Rattle.grammar.proofs.Machine.{when, round, curly, square, joined, textValue, countOf, counted, step, run, runs}
+use Rattle.grammar.specs.Level.{Level, hasCollection, hasArrow, hasJoiner}
+use Rattle.grammar.proofs.Frames.{Lead, leadComma, leadRow, Front, start, led, row, Curly, lotCurly, countedCurly, opened, pairColon, pairArrow, inTuple, attributeName, CurlyFrame, memberJoined, squareOpened, lowAnd, upTo, Frame, inRound, inSquare, Stack, twoCommas, bounded, Config, want, have, wantCurly, haveItem, wantClose, nextAttribute, lastAttribute, nextItem, lastItem, noFurther, shut}
+use Rattle.grammar.proofs.Machine.{when, curly, joined, step}
 
 -- a name as the value that the machine takes it for at first
 abbrev pub nameValue : PlainName → Plain
