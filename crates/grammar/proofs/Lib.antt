@@ -6,3 +6,6 @@ pub mod Complete
 pub mod Behind
 pub mod Parts
 pub mod Sound
+pub mod Accepts
+pub mod OneTree
+pub mod Viable
