@@ -16,7 +16,7 @@ use Rattle.grammar.proofs.Places.{nameValue, Place, firstPlace, nextPla
 
 module _ (l : Level) where
   -- one step, and the rest of the run
-  onward : {m n : Option Config} (r : List Tok) → m ≡ n → run l m r ≡ run l n r
+  pub onward : {m n : Option Config} (r : List Tok) → m ≡ n → run l m r ≡ run l n r
   onward r e = ap (λ (x : Option Config). run l x r) e
 
   runNames : (n : Names) (K : Stack) (r : List Tok) → run l (some (want K)) (yieldNames n r) ≡ run l (some (have (Tree.plain (Tree.nesting n)) K)) r
@@ -28,7 +28,7 @@ module _ (l : Level) where
   runPlainName (nestingName n) K r = runNames n K r
 
   -- a name and its `:`, in a Tuple behind a comma
-  runName : (n : Name) (o : Span) (f : Lead) (k : Span) (K : Stack) (r : List Tok) →
+  pub runName : (n : Name) (o : Span) (f : Lead) (k : Span) (K : Stack) (r : List Tok) →
       run l (some (want (inRound (inTuple o f) ∷ K))) (yieldName n (sign Tokens.colon k r)) ≡ run l (some (want (inRound (attributeName o f n k) ∷ K))) r
   runName (plainName n) o f k K r = runPlainName n _ _ ∙ onward r (nameStep l n o f k K)
   runName (bareName h s) o f k K r = refl
@@ -84,7 +84,7 @@ module _ (l : Level) where
     runPlain (Tree.interval o b c) e K r =
         onward (yieldBounds b (sign Tokens.squareClose c r)) (whenTrue (l intervals) _ (and-left (l intervals) _ e)) ∙ runBounds b (and-right (l intervals) _ e) o K c r
 
-    runItem : {s : Style} (i : Item s) → keepsItem l i ≡ true → (p : Place s) (K : Stack) (r : List Tok) →
+    pub runItem : {s : Style} (i : Item s) → keepsItem l i ≡ true → (p : Place s) (K : Stack) (r : List Tok) →
         run l (some (want (frameAt p ∷ K))) (yieldItem i r) ≡ run l (some (itemRead i p K)) r
     runItem (Tree.alone v) e p K r = runValue v e (frameAt p ∷ K) r
     runItem (Tree.openNamed n k v) e p K r = readsOpenNamed p n k v (λ L t. runValue v e L t) K r
@@ -94,7 +94,7 @@ module _ (l : Level) where
         readsJoined p v j k w (and-right (keeps l v) _ d) (λ L t. runValue v (and-left (keeps l v) _ d) L t) (λ L t. runValue w (and-right (keeps l v && hasJoiner l j) _ e) L t) K r
     runItem (Tree.times v k n) e p K r = readsTimes p v k n (λ L t. runValue v e L t) K r
 
-    runRow : {f s : Style} (r : Row f s) → keepsRow l r ≡ true → (h : Holder f s) (K : Stack) (t : List Tok) →
+    pub runRow : {f s : Style} (r : Row f s) → keepsRow l r ≡ true → (h : Holder f s) (K : Stack) (t : List Tok) →
         run l (some (want (frameAt (firstIn h) ∷ K))) (yieldRow r t) ≡ run l (some (want (frameAt (rowIn h r) ∷ K))) t
     runRow (Tree.rowFirst i c) e h K t =
         runItem i e (firstIn h) K _ ∙ onward t (itemComma l i (firstIn h) K c ∙ ap (λ (f : Frame). some (want (f ∷ K))) (afterFirst h i c))

@@ -9,3 +9,4 @@ pub mod Sound
 pub mod Accepts
 pub mod OneTree
 pub mod Viable
+pub mod Rebuild

@@ -93,7 +93,7 @@ module _ (l : Level) where
 
   -- ---- a token in the wrong place
 
-  oneMore : (ts : List Tok) (c : Config) (t : Tok) → runs l ts ≡ some c → runs l (ts ++ (t ∷ [])) ≡ step l c t
+  pub oneMore : (ts : List Tok) (c : Config) (t : Tok) → runs l ts ≡ some c → runs l (ts ++ (t ∷ [])) ≡ step l c t
   oneMore ts c t e = runAppend l (some (want [])) ts (t ∷ []) ∙ ap (λ (m : Option Config). advance l m t) e
 
   clash : (c : Config) → none ≡ some c → ⊥
