@@ -10,3 +10,5 @@ pub mod Accepts
 pub mod OneTree
 pub mod Viable
 pub mod Rebuild
+pub mod SameSteps
+pub mod Levels
