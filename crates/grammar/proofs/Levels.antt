@@ -3,6 +3,7 @@ use mathlib.Core.Path.{_≡_, refl, sym, ap, subst, _∙_}
 use mathlib.Core.Bool.{Bool, true, false, false≢true}
 use mathlib.Core.List.{List, [], _∷_, _++_, append-assoc, append-nil}
 use mathlib.Core.Option.{Option, none, some}
+use mathlib.Core.Logic.{_↔_}
 use Rattle.lexicon.specs.declared.Head.{Head}
 use Rattle.lexicon.specs.declared.Head.the-variants as Head
 use Rattle.grammar.specs.Tokens
@@ -13,8 +14,9 @@ use Rattle.grammar.specs.Place.{Sentence, Begins, Wrong, ForValue, Beyon
 use Rattle.grammar.proofs.Frames.{opened, inRound, Stack, Config, want, have}
 use Rattle.grammar.proofs.Machine.{step, run, runs}
 use Rattle.grammar.proofs.Behind.{behindStack}
-use Rattle.grammar.proofs.Accepts.{runNone, reached}
-use Rattle.grammar.proofs.Viable.{oneMore, wants, wantsValue}
+use Rattle.grammar.proofs.Accepts.{runNone, reached, accepts, sentenceRuns}
+use Rattle.grammar.proofs.Viable.{oneMore, wrongRuns, runsWrong, wants, wantsValue, placeRuns}
+use Rattle.grammar.proofs.NewerForms.{newerBegins}
 use Rattle.grammar.proofs.Rebuild.{rebuild}
 use Rattle.grammar.proofs.SameSteps.{SameForms, stepSame}
 
@@ -26,6 +28,28 @@ pub record Known (l : Level) (ts vs : List Tok) : Type 0 where
 same : {x y : Bool} → (x ≡ true → y ≡ true) → (x ≡ false → ⊥) → x ≡ y
 same {x = true} f g = sym (f refl)
 same {x = false} f g = absurd (g refl)
+
+lacks : {x y : Bool} → (x ≡ true → y ≡ true) → y ≡ false → x ≡ false
+lacks {x = true} f e = absurd (false≢true (sym e ∙ f refl))
+lacks {x = false} f e = refl
+
+-- of fewer tokens it is known as well
+pub knownFirst : (l : Level) (us ws vs : List Tok) → Known l (us ++ ws) vs → Known l us (ws ++ vs)
+knownFirst l us ws vs k =
+    record {
+      none = λ xs t ys e n.
+          k .none xs t (ys ++ ws) (ap (λ (x : List Tok). x ++ ws) e ∙ append-assoc xs (t ∷ ys) ws)
+          (subst (λ (x : List Tok). Newer l xs t x) (sym (append-assoc ys ws vs)) n);
+    }
+
+-- a text of the level has no newer form
+pub sentenceKnown : (l : Level) (ts : List Tok) → Sentence l ts → Known l ts []
+sentenceKnown l ts s =
+    record {
+      none = λ xs t ys e n.
+          newerBegins l xs t ys (subst (λ (x : List Tok). Newer l xs t x) (append-nil ys) n)
+          (record { rest = []; sentence = subst (Sentence l) (e ∙ sym (append-nil (xs ++ (t ∷ ys)))) s });
+    }
 
 module _ (a b : Level) (within : _Within_ a b) (arrows : a leftArrows ≡ b leftArrows) where
   headWithin : (h : Head) → hasHead a h ≡ true → hasHead b h ≡ true
@@ -94,3 +118,30 @@ module _ (a b : Level) (within : _Within_ a b) (arrows : a leftArrows ≡ b left
   -- tokens with no newer form are read alike
   pub alike : (ts vs : List Tok) → Known a ts vs → runs a ts ≡ runs b ts
   alike ts vs k = agree ts [] vs (want []) refl k
+
+  -- ---- what the definitions of texts, wrong places, places for a value and newer forms have of it
+
+  pub sentenceAlike : (ts vs : List Tok) → Known a ts vs → Sentence a ts → Sentence b ts
+  sentenceAlike ts vs k s = accepts b ts (s .tree) (sym (alike ts vs k) ∙ sentenceRuns a ts s)
+
+  pub sentenceAlikeBack : (ts vs : List Tok) → Known a ts vs → Sentence b ts → Sentence a ts
+  sentenceAlikeBack ts vs k s = accepts a ts (s .tree) (alike ts vs k ∙ sentenceRuns b ts s)
+
+  pub wrongAlike : (us : List Tok) (t : Tok) (vs : List Tok) → Known a (us ++ (t ∷ [])) vs → Wrong a us t ↔ Wrong b us t
+  wrongAlike us t vs k =
+      (λ w. runsWrong b us t (sym (alike _ vs k) ∙ wrongRuns a us t w), λ w. runsWrong a us t (alike _ vs k ∙ wrongRuns b us t w))
+
+  pub placeAlike : (us vs : List Tok) (s : Span) → Known a us vs → ForValue a us s ↔ ForValue b us s
+  placeAlike us vs s k = (
+    λ p. let w = placeRuns a us s p in wantsValue b us (wants (w .0)) (sym (alike us vs k) ∙ w .1) s,
+    λ p. let w = placeRuns b us s p in wantsValue a us (wants (w .0)) (alike us vs k ∙ w .1) s,
+  )
+
+  -- what the higher level lacks the lower one lacks
+  beyondBelow : {ts : List Tok} → Beyond b ts → Beyond a ts
+  beyondBelow (newerHead {h = h} e) = newerHead (lacks (headWithin h) e)
+  beyondBelow (newerBracket e) = newerBracket (lacks (within .has-too intervals) e)
+  beyondBelow laterLiteral = laterLiteral
+
+  pub newerBelow : (us : List Tok) (t : Tok) (ys vs : List Tok) → Known a us vs → Newer b us t ys → Newer a us t ys
+  newerBelow us t ys vs k n = record { beyond = beyondBelow (n .beyond); place = placeAlike us vs (t .at) k .1 (n .place) }

@@ -10,5 +10,6 @@ pub mod Accepts
 pub mod OneTree
 pub mod Viable
 pub mod Rebuild
+pub mod NewerForms
 pub mod SameSteps
 pub mod Levels

@@ -115,6 +115,17 @@ module _ (l : Level) where
       go none s = s
       go (some d) s = absurd (w .none (begins (ts ++ (t ∷ [])) d (oneMore ts c t e ∙ s)))
 
+  -- the same without the configuration before the token
+  pub wrongRuns : (ts : List Tok) (t : Tok) → Wrong l ts t → runs l (ts ++ (t ∷ [])) ≡ none
+  wrongRuns ts t w = go (runs l (ts ++ (t ∷ []))) refl
+    where
+      go : (m : Option Config) → runs l (ts ++ (t ∷ [])) ≡ m → runs l (ts ++ (t ∷ [])) ≡ none
+      go none e = e
+      go (some d) e = absurd (w .none (begins (ts ++ (t ∷ [])) d e))
+
+  pub runsWrong : (ts : List Tok) (t : Tok) → runs l (ts ++ (t ∷ [])) ≡ none → Wrong l ts t
+  runsWrong ts t e = record { none = noneBegins (ts ++ (t ∷ [])) e }
+
   -- ---- the end
 
   -- a whole value, with no bracket left
@@ -155,3 +166,14 @@ module _ (l : Level) where
   valueWants ts (wantCount {u} c f v k K) e s b = absurd (stuckWrong ts _ (literal s) e (noCount u c f v k K s) .none b)
   valueWants ts (haveItem c f i K) e s b = absurd (stuckWrong ts _ (literal s) e refl .none b)
   valueWants ts (wantClose c K) e s b = absurd (stuckWrong ts _ (literal s) e refl .none b)
+
+  -- at a place for a value the machine stands, and wants one
+  pub placeRuns : (ts : List Tok) (s : Span) → ForValue l ts s → (K : Stack) × (runs l ts ≡ some (want K))
+  placeRuns ts s b = go (runs l ts) refl
+    where
+      stack : (c : Config) → runs l ts ≡ some c → Wants c → (K : Stack) × (runs l ts ≡ some (want K))
+      stack c e (wants K) = (K, e)
+
+      go : (m : Option Config) → runs l ts ≡ m → (K : Stack) × (runs l ts ≡ some (want K))
+      go none e = absurd (noneBegins (ts ++ (literal s ∷ [])) (runAppend l (some (want [])) ts (literal s ∷ []) ∙ ap (λ (m : Option Config). advance l m (literal s)) e) b)
+      go (some c) e = stack c e (valueWants ts c e s b)
