@@ -1,4 +1,4 @@
--- What comes next is determined: one answer at most for every text and place. Assumes nothing.
+-- The answers on bytes are determined: the UTF-8 test and the front of a text, and what comes next at a place. Assumes nothing.
 use mathlib.Core.Path.{_≡_, refl, sym, ap, subst, _∙_}
 use mathlib.Core.Bool.{Bool, true, false}
 use mathlib.Core.List.{List}
@@ -6,6 +6,15 @@ use Prim.Native.Nat.{ℕ, _≤_, _<_}
 use native.Mathlib.Omega.{arith}
 use lib.ListN.{length}
 use Rattle.rules.specs.Test.{Says}
+use Rattle.rules.specs.Rule.{Longest, opt}
+use Rattle.rules.proofs.Classes.{apart, apartSpan}
+use Rattle.rules.proofs.Matches.{forward, longest-same}
+use Rattle.rules.proofs.Chains.{Single, reaches, longest}
+use Rattle.rules.proofs.Ways.{covers, single}
+use Rattle.lexicon.specs.declared.Encoding.{Encoding}
+use Rattle.lexicon.specs.declared.Encoding.the-variants as Encoding
+use Rattle.lexicon.specs.Utf8.{sequence, WellFormed, BadAt, Encoded}
+use Rattle.lexicon.specs.Front.{Front, firstLine}
 use Rattle.lexicon.specs.declared.Kind.{Kind}
 use Rattle.lexicon.specs.declared.Token as Token
 use Rattle.lexicon.specs.declared.Next.{Next}
@@ -24,7 +33,28 @@ says-same false false s t = refl
 abbrev made : Kind → ℕ → ℕ → Bool → Token.Token
 made k i j b = record { kind = k; first = i; end = j; bad = b }
 
+-- from each place there is one well-formed sequence at most
+sequence-single : (text : List ℕ) → Single text sequence
+unfolding covers apart apartSpan
+sequence-single text = single 5 refl
+
 module _ (text : List ℕ) where
+  pub formed-or-bad : {p : ℕ} → WellFormed text → BadAt text p → ⊥
+  formed-or-bad w b = omega (arith, forward (reaches (sequence-single text) (b .reached) (b .none) w), b .within)
+
+  pub one-bad : {p q : ℕ} → BadAt text p → BadAt text q → p ≡ q
+  one-bad a b = longest-same (longest (sequence-single text) (a .reached) (a .none)) (longest (sequence-single text) (b .reached) (b .none))
+
+  pub one-encoding : (r s : Encoding) → Encoded text r → Encoded text s → r ≡ s
+  one-encoding Encoding.WellFormed Encoding.WellFormed x y = refl
+  one-encoding Encoding.WellFormed (Encoding.BadAt q) x y = absurd (formed-or-bad x y)
+  one-encoding (Encoding.BadAt p) Encoding.WellFormed x y = absurd (formed-or-bad y x)
+  one-encoding (Encoding.BadAt p) (Encoding.BadAt q) x y = ap Encoding.BadAt (one-bad x y)
+
+  pub one-front : {p q : ℕ} → Front text p → Front text q → p ≡ q
+  one-front {p} {q} f g =
+      longest-same (f .line) (subst (λ (m : ℕ). Longest text (opt firstLine) m q) (longest-same (g .mark) (f .mark)) (g .line))
+
   pub one-answer : (at : ℕ) (r s : Next) → Comes text at r → Comes text at s → r ≡ s
   one-answer at (Next.Token t) (Next.Token u) x y =
       let f : t .first ≡ u .first = skips-same (x .0) (y .0) in

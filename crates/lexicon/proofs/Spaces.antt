@@ -3,13 +3,12 @@ use mathlib.Core.Path.{_≡_, refl, subst, sym, _∙_}
 use mathlib.Core.Bool.{true}
 use mathlib.Core.List.{List}
 use Prim.Native.Nat.{ℕ, _<_}
-use native.Mathlib.Nat.{le-antisymm}
 use native.Mathlib.Omega.{arith}
 use lib.ListN.{getD}
 use Rattle.rules.specs.Class.{Class, In}
 use Rattle.rules.specs.Rule.{one, _then_, many, opt, At, Takes, nothing, byte, both, left, right, Fails}
 use Rattle.rules.proofs.Classes.{apart, apartSpan, apart-no}
-use Rattle.rules.proofs.Matches.{forward, starting}
+use Rattle.rules.proofs.Matches.{forward, starting, longest-same}
 use Rattle.rules.proofs.Chains.{Single, reaches, snoc, many-of-opt, opt-of-many}
 use Rattle.rules.proofs.Ways.{never, begins-none}
 use Rattle.rules.proofs.Closed.{closed-single}
@@ -66,7 +65,7 @@ module _ {text : List ℕ} where
       record { none = λ b. let x = s .most (opt-of-many (snoc (many-of-opt (s .takes)) b)) in let y = blank-forward b in absurd (omega arith) }
 
   pub skips-same : {i j k : ℕ} → Skips text i j → Skips text i k → j ≡ k
-  skips-same s t = le-antisymm (t .most (s .takes)) (s .most (t .takes))
+  skips-same s t = longest-same s t
 
   -- space that is left part of the way ends where the whole ends
   pub skips-on : {i u k : ℕ} → Takes text (opt sp) i u → Skips text i k → Skips text u k

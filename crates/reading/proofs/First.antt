@@ -3,16 +3,13 @@ use mathlib.Core.Path.{_≡_, refl, sym, ap, subst, _∙_}
 use mathlib.Core.Bool.{true}
 use mathlib.Core.List.{List, [], _∷_, _++_}
 use Prim.Native.Nat.{ℕ, zero, suc, _≤_, _<_}
-use native.Mathlib.Nat.{le-antisymm}
 use native.Mathlib.Omega.{arith}
 use lib.ListN.{length}
-use Rattle.rules.specs.Rule.{Rule, Longest}
 use Rattle.lexicon.specs.declared.Token as Token
 use Rattle.lexicon.specs.declared.Next.{Next}
 use Rattle.lexicon.specs.declared.Next.the-variants as Next
-use Rattle.lexicon.specs.Front.{Front, firstLine}
 use Rattle.lexicon.specs.Token.{Comes}
-use Rattle.lexicon.proofs.Determined.{one-answer}
+use Rattle.lexicon.proofs.Determined.{one-front, one-answer}
 use Rattle.grammar.specs.Tokens.{Tok}
 use Rattle.grammar.specs.Level.{Level}
 use Rattle.grammar.specs.Place.{Wrong, WrongEnd}
@@ -40,13 +37,6 @@ order (suc m) (suc n) = further (order m n)
 
 module _ (bytes : List ℕ) where
   -- ---- one token comes next
-
-  longest-same : {r : Rule} {i j k : ℕ} → Longest bytes r i j → Longest bytes r i k → j ≡ k
-  longest-same s t = le-antisymm (t .most (s .takes)) (s .most (t .takes))
-
-  front-same : {p q : ℕ} → Front bytes p → Front bytes q → p ≡ q
-  front-same f g =
-      longest-same (f .line) (subst (λ (m : ℕ). Longest bytes _ m _) (longest-same (g .mark) (f .mark)) (g .line))
 
   abbrev tokenOr : Token.Token → Next → Token.Token
   tokenOr d (Next.Token t) = t
@@ -130,7 +120,7 @@ module _ (bytes : List ℕ) where
 
     -- after as many tokens, the same tokens and place
     level-with : {ts us : List Tok} {p q : ℕ} (a : Passed sizes l bytes ts p) (b : Passed sizes l bytes us q) → steps a ≡ steps b → (ts ≡ us) × (p ≡ q)
-    level-with (begun f) (begun g) e = (refl , front-same f g)
+    level-with (begun f) (begun g) e = (refl , one-front bytes f g)
     level-with (begun f) (passed b d m) e = absurd (omega (arith, e))
     level-with (passed a c n) (begun g) e = absurd (omega (arith, e))
     level-with (passed {p} {ts} {t} a c n) (passed {p = q} {ts = us} {t = u} b d m) e =

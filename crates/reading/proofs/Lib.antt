@@ -1,2 +1,3 @@
 -- The laws of readings.
 pub mod First
+pub mod Unique

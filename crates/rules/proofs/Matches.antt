@@ -2,10 +2,11 @@
 use mathlib.Core.Path.{_≡_, refl, subst}
 use mathlib.Core.List.{List, [], _∷_}
 use Prim.Native.Nat.{ℕ, _+_, _≤_}
+use native.Mathlib.Nat.{le-antisymm}
 use native.Mathlib.Omega.{arith}
 use lib.ListN.{length}
 use Rattle.rules.specs.Class.{Class}
-use Rattle.rules.specs.Rule.{Rule, one, _then_, row, Takes, nothing, byte, both, left, right, stop, more, At, Fails}
+use Rattle.rules.specs.Rule.{Rule, one, _then_, row, Takes, nothing, byte, both, left, right, stop, more, At, Longest, Fails}
 
 module _ {text : List ℕ} where
   -- a match goes forward
@@ -61,3 +62,7 @@ module _ {text : List ℕ} where
 -- a byte at a place that is given in another way
 pub move-at : (text : List ℕ) (c : Class) {i j : ℕ} → i ≡ j → At text c i → At text c j
 move-at text c e a = subst (λ (x : ℕ). At text c x) e a
+
+-- the longest match is one
+pub longest-same : {text : List ℕ} {r : Rule} {i j k : ℕ} → Longest text r i j → Longest text r i k → j ≡ k
+longest-same s t = le-antisymm (t .most (s .takes)) (s .most (t .takes))

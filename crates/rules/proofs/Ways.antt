@@ -13,6 +13,7 @@ use Rattle.rules.specs.Rule.{Rule, empty, one, _then_, _or_, many, Takes
 use Rattle.rules.proofs.Bools.{and-left, and-right, and-both, or-cases, or-left, or-right, decide, clash, not-both}
 use Rattle.rules.proofs.Classes.{apart, apart-no, includes, includes-in}
 use Rattle.rules.proofs.Matches.{forward}
+use Rattle.rules.proofs.Chains.{Single}
 
 pub record Way : Type 0 where
   pub class : Class
@@ -225,3 +226,7 @@ module _ (text : List ℕ) where
       go : Entered text r i j → At text c i
       go (inl x) = absurd (not-both (nullable r) (x .1) (and-left (not (nullable r)) _ e))
       go (inr u) = all-in c (ways r) i j (and-right (not (nullable r)) _ e) u
+
+-- where no match reaches further than another, each place has one at most
+pub single : {text : List ℕ} (n : ℕ) {r : Rule} → covers n r r ≡ true → Single text r
+single {text} n {r} e = record { same = λ t u. omega (arith, covers-all text n r r e t u, covers-all text n r r e u t) }

@@ -10,10 +10,9 @@ use Rattle.rules.specs.Test.{Says}
 use Rattle.rules.specs.Class.{Class}
 use Rattle.rules.specs.Rule.{Rule, one, _then_, _or_, opt, Takes, nothing, both, left, right, Longest, Fails}
 use Rattle.rules.proofs.Bools.{clash}
-use Rattle.rules.proofs.Chains.{Single}
 use Rattle.rules.proofs.Matches.{forward, byte-at, byte-end, fails-first}
 use Rattle.rules.proofs.Tests.{there, not-there}
-use Rattle.rules.proofs.Ways.{Way, nullable, Through, enter, ways, never, never-takes, begins-none, end-takes, covers, covers-all}
+use Rattle.rules.proofs.Ways.{Way, nullable, Through, enter, ways, never, never-takes, begins-none, end-takes}
 use Rattle.lexicon.specs.declared.Found.{Found}
 use Rattle.lexicon.specs.declared.Found.the-variants.{At as FoundAt, Nothing}
 use Rattle.lexicon.specs.Found.{Finds}
@@ -102,10 +101,6 @@ module _ {text : List ℕ} where
   -- a rule that never begins with the byte is not found
   pub fails : {c : Class} {r : Rule} {i : ℕ} → never c r ≡ true → Takes text (one c) i (i + 1) → Fails text r i
   fails {c} {r} n a = begins-none text c r n (byte-at a)
-
-  -- where two matches from one place reach equally far, there is one at most
-  pub single : (n : ℕ) {r : Rule} → covers n r r ≡ true → Single text r
-  single n {r} e = record { same = λ t u. omega (arith, covers-all text n r r e t u, covers-all text n r r e u t) }
 
   -- the sequence of three rules is one whichever two are taken together
   pub regroup : {a b r : Rule} {i : ℕ} → Same text ((a then b) then r) i (a then b then r) i

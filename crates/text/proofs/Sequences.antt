@@ -5,15 +5,14 @@ use Prim.Native.Nat.{ℕ, _+_, _≤_, _<_}
 use lib.ListN.{length, getD}
 use native.Mathlib.Omega.{arith}
 use Rattle.rules.specs.Rule.{Rule, _then_, Takes, Longest, Fails}
-use Rattle.rules.proofs.Chains.{Single}
 use Rattle.rules.proofs.Classes.{apart, apartSpan}
-use Rattle.rules.proofs.Ways.{never, covers}
+use Rattle.rules.proofs.Ways.{never}
 use Rattle.lexicon.specs.Utf8.{range, tail, sequence}
 use Rattle.lexicon.specs.Found.{Finds}
 use Rattle.lexicon.specs.declared.Found.{Found}
 use Rattle.lexicon.specs.declared.Found.the-variants.{At}
 use Rattle.text.proofs.Ranges.{in-range}
-use Rattle.text.proofs.Searches.{Same, found, first, whole, this, past, fails, byte-longest, single}
+use Rattle.text.proofs.Searches.{Same, found, first, whole, this, past, fails, byte-longest}
 
 module _ {text : List ℕ} {i : ℕ} where
   pub row-ascii : Takes text (range 0x00 0x7F) i (i + 1) → Same text sequence i (range 0x00 0x7F) i
@@ -74,8 +73,3 @@ module _ (text : List ℕ) (i : ℕ) (here : i < length text) where
 
   pub too-high : 0xF5 ≤ getD text i 0 → getD text i 0 < 256 → Fails text sequence i
   too-high l h = no-row-F5 (in-range text 0xF5 0xFF i here l (omega arith))
-
--- from each place there is one sequence at most
-pub sequence-single : (text : List ℕ) → Single text sequence
-unfolding covers apart apartSpan
-sequence-single text = single 5 refl
