@@ -13,3 +13,4 @@ pub mod Rebuild
 pub mod NewerForms
 pub mod SameSteps
 pub mod Levels
+pub mod Examples
