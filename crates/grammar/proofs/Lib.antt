@@ -14,4 +14,5 @@ pub mod NewerForms
 pub mod SameSteps
 pub mod Levels
 pub mod FirstNewer
+pub mod Compared
 pub mod Examples

@@ -1,6 +1,6 @@
 -- Every configuration has a completion, so a token that cannot be taken is in the wrong place, and no other is. Assumes nothing.
 use mathlib.Core.Path.{_≡_, refl, sym, ap, subst, _∙_}
-use mathlib.Core.Bool.{Bool, true, false}
+use mathlib.Core.Bool.{true, false}
 use mathlib.Core.List.{List, [], _∷_, _++_}
 use mathlib.Core.Option.{Option, none, some}
 use Prim.Native.Nat.{ℕ}
@@ -9,12 +9,10 @@ use Rattle.grammar.specs.Tokens
 use Rattle.grammar.specs.Tokens.{Span, Tok, tok}
 use Rattle.grammar.specs.Tree
 use Rattle.grammar.specs.Tree.{Measure, byNumber, byTruth, Style, copy, Value, Listing}
-use Rattle.grammar.specs.Yield.{yieldValue}
-use Rattle.grammar.specs.Level.{Level, keeps}
+use Rattle.grammar.specs.Level.{Level}
 use Rattle.grammar.specs.Place.{Sentence, Begins, Wrong, WrongEnd, ForValue}
-use Rattle.grammar.proofs.Frames.{Front, Curly, lotCurly, countedCurly, opened, pairColon, pairArrow, inTuple, attributeName, CurlyFrame, memberJoined, squareOpened, lowAnd, upTo, Frame, inRound, inSquare, Stack, Closing, twoCommas, headed, bounded, Config, want, have, wantText, wantCurly, wantCount, haveItem, wantClose, lastItem, shut}
+use Rattle.grammar.proofs.Frames.{Front, Curly, lotCurly, countedCurly, opened, pairColon, pairArrow, inTuple, attributeName, CurlyFrame, memberJoined, squareOpened, lowAnd, upTo, Frame, inRound, inSquare, Stack, twoCommas, headed, bounded, Config, want, have, wantText, wantCurly, wantCount, haveItem, wantClose, lastItem, shut}
 use Rattle.grammar.proofs.Machine.{step, advance, run, runs}
-use Rattle.grammar.proofs.Behind.{behind, kept}
 use Rattle.grammar.proofs.Parts.{Goes, goes, itemShut}
 use Rattle.grammar.proofs.Sound.{soundCloseRound, soundCloseCurly, soundCloseSquare, soundNesting, soundCount, soundClosing, soundWantCurly}
 use Rattle.grammar.proofs.Accepts.{runNone, runAppend, reached, accepts, sentenceRuns}
