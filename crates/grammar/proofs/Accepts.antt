@@ -53,3 +53,6 @@ module _ (l : Level) where
   sameTree v w d e y =
       let p : some (have v []) ≡ some (have w []) = sym (accepted l v d) ∙ ap (runs l) y ∙ accepted l w e in
       cc
+
+  pub oneSentence : (ts : List Tok) (s r : Sentence l ts) → s .tree ≡ r .tree
+  oneSentence ts s r = sameTree (s .tree) (r .tree) (s .of-level) (r .of-level) (s .yields ∙ sym (r .yields))

@@ -46,6 +46,17 @@ splitLast [] t (a ∷ zs) u bs e = absurd (noEmpty zs u bs (sameRest e))
 splitLast (x ∷ xs) t [] u bs e = before xs (λ i. sameHead e i ∷ xs) (sym (sameRest e))
 splitLast (x ∷ xs) t (a ∷ zs) u bs e = longer x a xs t zs u bs (sameHead e) (splitLast xs t zs u bs (sameRest e))
 
+-- a value is wanted
+abbrev pub wanting : Option Config → Bool
+wanting none = false
+wanting (some (want K)) = true
+wanting (some (have v K)) = false
+wanting (some (wantText n o K)) = false
+wanting (some (wantCurly o h t k K)) = false
+wanting (some (wantCount c f v k K)) = false
+wanting (some (haveItem c f i K)) = false
+wanting (some (wantClose c K)) = false
+
 module _ (l : Level) where
   -- ---- the test
 
@@ -167,16 +178,6 @@ module _ (l : Level) where
   holdsBeyond (t ∷ ts) e = firstBeyond (t .class) (t .at) ts e
 
   -- ---- at a place for a value
-
-  abbrev wanting : Option Config → Bool
-  wanting none = false
-  wanting (some (want K)) = true
-  wanting (some (have v K)) = false
-  wanting (some (wantText n o K)) = false
-  wanting (some (wantCurly o h t k K)) = false
-  wanting (some (wantCount c f v k K)) = false
-  wanting (some (haveItem c f i K)) = false
-  wanting (some (wantClose c K)) = false
 
   wantingPlace : (xs : List Tok) (s : Span) (m : Option Config) → runs l xs ≡ m → wanting m ≡ true → ForValue l xs s
   wantingPlace xs s none e w = absurd (false≢true w)

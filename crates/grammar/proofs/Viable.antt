@@ -25,6 +25,14 @@ here = record { first = 0; end = 0 }
 abbrev literal : Span → Tok
 literal s = tok (Tokens.atom Tokens.ignorance) s
 
+-- a whole value, with no bracket left
+pub data Final : Config → Type 0 where
+  final : (v : Value) → Final (have v [])
+
+-- a value is wanted
+pub data Wants : Config → Type 0 where
+  wants : (K : Stack) → Wants (want K)
+
 module _ (l : Level) where
   -- tokens that end the text, and its tree
   record Completion (c : Config) : Type 0 where
@@ -126,10 +134,6 @@ module _ (l : Level) where
 
   -- ---- the end
 
-  -- a whole value, with no bracket left
-  pub data Final : Config → Type 0 where
-    final : (v : Value) → Final (have v [])
-
   pub finalSentence : {c : Config} (ts : List Tok) → Final c → runs l ts ≡ some c → Sentence l ts
   finalSentence ts (final v) e = accepts l ts v e
 
@@ -145,9 +149,6 @@ module _ (l : Level) where
   wrongEnd ts c e f = record { none = λ s. f (sentenceFinal ts c e s) }
 
   -- ---- a place for a value
-
-  pub data Wants : Config → Type 0 where
-    wants : (K : Stack) → Wants (want K)
 
   pub wantsValue : {c : Config} (ts : List Tok) → Wants c → runs l ts ≡ some c → (s : Span) → ForValue l ts s
   wantsValue ts (wants K) e s = begins (ts ++ (literal s ∷ [])) _ (oneMore ts (want K) (literal s) e)
