@@ -1,6 +1,6 @@
 -- What the machine accepts: exactly the texts of the level, each with its one tree. Assumes nothing.
 use mathlib.Core.Path.{_≡_, refl, sym, ap, subst, _∙_}
-use mathlib.Core.Bool.{Bool, true, _&&_}
+use mathlib.Core.Bool.{true}
 use mathlib.Core.List.{List, [], _∷_, _++_, append-nil}
 use mathlib.Core.Option.{Option, none, some}
 use Rattle.grammar.specs.Tokens.{Tok}
@@ -10,7 +10,6 @@ use Rattle.grammar.specs.Level.{Level, keeps}
 use Rattle.grammar.specs.Place.{Sentence}
 use Rattle.grammar.proofs.Frames.{Config, want, have}
 use Rattle.grammar.proofs.Machine.{step, advance, run, runs}
-use Rattle.grammar.proofs.Behind.{behind, kept}
 use Rattle.grammar.proofs.Parts.{Goes, Sound, goes}
 use Rattle.grammar.proofs.Sound.{sound}
 use Rattle.grammar.proofs.Complete.{accepted}
@@ -54,3 +53,6 @@ module _ (l : Level) where
   sameTree v w d e y =
       let p : some (have v []) ≡ some (have w []) = sym (accepted l v d) ∙ ap (runs l) y ∙ accepted l w e in
       cc
+
+  pub oneSentence : (ts : List Tok) (s r : Sentence l ts) → s .tree ≡ r .tree
+  oneSentence ts s r = sameTree (s .tree) (r .tree) (s .of-level) (r .of-level) (s .yields ∙ sym (r .yields))

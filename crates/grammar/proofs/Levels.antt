@@ -9,8 +9,8 @@ use Rattle.lexicon.specs.declared.Head.the-variants as Head
 use Rattle.grammar.specs.Tokens
 use Rattle.grammar.specs.Tokens.{Span, Tok, tok, Class}
 use Rattle.grammar.specs.Tree
-use Rattle.grammar.specs.Level.{Level, Feature, arrays, sets, bags, intervals, leftArrows, hasHead, _Within_}
-use Rattle.grammar.specs.Place.{Sentence, Begins, Wrong, ForValue, Beyond, newerHead, newerBracket, laterLiteral, Newer}
+use Rattle.grammar.specs.Level.{Level, level1, level2, Feature, arrays, sets, bags, intervals, leftArrows, hasHead, _Within_}
+use Rattle.grammar.specs.Place.{Sentence, Wrong, ForValue, Beyond, newerHead, newerBracket, laterLiteral, Newer}
 use Rattle.grammar.proofs.Frames.{opened, inRound, Stack, Config, want, have}
 use Rattle.grammar.proofs.Machine.{step, run, runs}
 use Rattle.grammar.proofs.Behind.{behindStack}
@@ -145,3 +145,18 @@ module _ (a b : Level) (within : _Within_ a b) (arrows : a leftArrows ≡ b left
 
   pub newerBelow : (us : List Tok) (t : Tok) (ys vs : List Tok) → Known a us vs → Newer b us t ys → Newer a us t ys
   newerBelow us t ys vs k n = record { beyond = beyondBelow (n .beyond); place = placeAlike us vs (t .at) k .1 (n .place) }
+
+  -- every text of the lower level is one of the higher
+  pub sentenceBelow : (ts : List Tok) → Sentence a ts → Sentence b ts
+  sentenceBelow ts s = sentenceAlike ts [] (sentenceKnown a ts s) s
+
+-- levels 1 and 2 are such levels
+pub oneWithinTwo : _Within_ level1 level2
+oneWithinTwo = record { has-too = has }
+  where
+    has : (f : Feature) → level1 f ≡ true → level2 f ≡ true
+    has arrays e = refl
+    has sets e = refl
+    has bags e = refl
+    has intervals e = refl
+    has leftArrows e = refl

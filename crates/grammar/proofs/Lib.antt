@@ -13,4 +13,6 @@ pub mod Rebuild
 pub mod NewerForms
 pub mod SameSteps
 pub mod Levels
+pub mod FirstNewer
+pub mod Compared
 pub mod Examples

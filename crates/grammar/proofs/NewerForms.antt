@@ -1,13 +1,13 @@
 -- A newer form stands in no text of the level. Assumes nothing.
 use mathlib.Core.Path.{_≡_, refl, ap, _∙_}
-use mathlib.Core.Bool.{Bool, true, false}
+use mathlib.Core.Bool.{Bool, false}
 use mathlib.Core.List.{List, [], _∷_, _++_}
 use mathlib.Core.Option.{Option, none, some}
 use Rattle.lexicon.specs.declared.Head.{Head}
 use Rattle.lexicon.specs.declared.Head.the-variants as Head
 use Rattle.grammar.specs.Tokens.{Span, Tok}
 use Rattle.grammar.specs.Level.{Level, hasHead}
-use Rattle.grammar.specs.Place.{Sentence, Begins, Beyond, newerHead, newerBracket, laterLiteral, Newer}
+use Rattle.grammar.specs.Place.{Begins, Beyond, newerHead, newerBracket, laterLiteral, Newer}
 use Rattle.grammar.proofs.Frames.{Stack, Config, want}
 use Rattle.grammar.proofs.Machine.{when, headColon, run, runs}
 use Rattle.grammar.proofs.Accepts.{runNone, runAppend}

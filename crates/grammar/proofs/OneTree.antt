@@ -1,6 +1,6 @@
 -- Tokens have one tree at most: every tree is of the level that has all forms. Assumes nothing.
 use mathlib.Core.Path.{_≡_, refl}
-use mathlib.Core.Bool.{Bool, true}
+use mathlib.Core.Bool.{true}
 use mathlib.Core.List.{[]}
 use Rattle.rules.proofs.Bools.{and-both}
 use Rattle.grammar.specs.Tree

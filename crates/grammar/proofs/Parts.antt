@@ -9,7 +9,7 @@ use Rattle.grammar.specs.Tree.{Style, attribute, Item, Listing}
 use Rattle.grammar.specs.Yield.{sign, yieldItem, yieldRow, yieldListing, yieldAttributes}
 use Rattle.grammar.specs.Level.{Level, keepsItem, keepsRow, keepsListing, keepsAttributes}
 use Rattle.grammar.proofs.Frames.{Lead, leadComma, leadRow, Front, start, led, row, Curly, lotCurly, countedCurly, Stack, Config, haveItem, nextAttribute, lastAttribute, nextItem, lastItem, noFurther, shut}
-use Rattle.grammar.proofs.Machine.{when, curly, step}
+use Rattle.grammar.proofs.Machine.{when, curly}
 use Rattle.grammar.proofs.Behind.{behindLead, behindFront, behindCurly, behindStack, behind, keptLead, keptFront, keptCurly, keptStack, kept}
 
 -- ---- a part more, as tokens

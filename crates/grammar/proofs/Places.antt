@@ -11,7 +11,7 @@ use Rattle.grammar.specs.Tree.{PlainName, textName, nestingName, plainNa
 use Rattle.grammar.specs.Yield.{arrowMark, joinerMark, sideBound, betweenMark, collectionHead}
 use Rattle.grammar.specs.Level.{Level, hasCollection, hasArrow, hasJoiner}
 use Rattle.grammar.proofs.Frames.{Lead, leadComma, leadRow, Front, start, led, row, Curly, lotCurly, countedCurly, opened, pairColon, pairArrow, inTuple, attributeName, CurlyFrame, memberJoined, squareOpened, lowAnd, upTo, Frame, inRound, inSquare, Stack, twoCommas, bounded, Config, want, have, wantCurly, haveItem, wantClose, nextAttribute, lastAttribute, nextItem, lastItem, noFurther, shut}
-use Rattle.grammar.proofs.Machine.{when, curly, joined, step}
+use Rattle.grammar.proofs.Machine.{when, joined, step}
 
 -- a name as the value that the machine takes it for at first
 abbrev pub nameValue : PlainName → Plain

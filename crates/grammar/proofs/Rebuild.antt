@@ -1,5 +1,5 @@
 -- The tokens that a stack stands for lead to that stack, wanting a value. Assumes nothing.
-use mathlib.Core.Path.{_≡_, refl, sym, ap, subst, _∙_}
+use mathlib.Core.Path.{_≡_, refl, ap, subst, _∙_}
 use mathlib.Core.Bool.{Bool, true, _&&_}
 use mathlib.Core.List.{List, [], _∷_}
 use mathlib.Core.Option.{Option, some}
@@ -7,15 +7,14 @@ use Rattle.rules.proofs.Bools.{and-left, and-right}
 use Rattle.lexicon.specs.declared.Bound.the-variants.{Open}
 use Rattle.grammar.specs.Tokens
 use Rattle.grammar.specs.Tokens.{Span, Tok, tok}
-use Rattle.grammar.specs.Tree
 use Rattle.grammar.specs.Tree.{Style}
 use Rattle.grammar.specs.Yield.{sign, arrowMark, joinerMark, sideBound, betweenMark, yieldName, yieldValue}
 use Rattle.grammar.specs.Level.{Level, intervals, hasCollection, hasArrow, hasJoiner, keeps, keepsPlain, keepsRow}
 use Rattle.grammar.proofs.Frames.{Lead, leadComma, leadRow, Front, start, led, row, Curly, lotCurly, countedCurly, RoundFrame, opened, pairColon, pairArrow, inTuple, attributeName, CurlyFrame, memberJoined, SquareFrame, squareOpened, lowAnd, upTo, Frame, inRound, inSquare, Stack, Config, want}
-use Rattle.grammar.proofs.Machine.{when, curly, square, advance, run, runs}
+use Rattle.grammar.proofs.Machine.{curly, advance, run, runs}
 use Rattle.grammar.proofs.Places.{tupleHolder, curlyHolder, placeIn, frameAt, whenTrue, ledComma, arrowStep, joinStep, betweenStep, upToStep, headStep}
 use Rattle.grammar.proofs.Complete.{onward, runName, runValue, runPlain, runRow}
-use Rattle.grammar.proofs.Behind.{behindLead, behindFront, behindCurly, behindRound, behindCurlyFrame, behindSquare, behindFrame, behindStack, keptLead, keptFront, keptCurly, keptRound, keptCurlyFrame, keptSquare, keptFrame, keptStack}
+use Rattle.grammar.proofs.Behind.{behindLead, behindFront, behindRound, behindCurlyFrame, behindSquare, behindFrame, behindStack, keptLead, keptFront, keptCurly, keptRound, keptCurlyFrame, keptSquare, keptFrame, keptStack}
 
 module _ (l : Level) where
   -- ---- of a stack that is of the level, each part is

@@ -1,8 +1,7 @@
 -- Two levels: a step is the same at both unless the token needs a form that one of them lacks. Assumes nothing.
 use mathlib.Core.Path.{_≡_, refl, ap}
 use mathlib.Core.Bool.{Bool}
-use mathlib.Core.List.{List, [], _∷_}
-use mathlib.Core.Option.{Option}
+use mathlib.Core.List.{[], _∷_}
 use Rattle.lexicon.specs.declared.Head.{Head}
 use Rattle.lexicon.specs.declared.Head.the-variants as Head
 use Rattle.grammar.specs.Tokens

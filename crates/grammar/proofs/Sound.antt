@@ -15,7 +15,7 @@ use Rattle.grammar.specs.Yield.{sign, arrowMark, sideBound, betweenMark}
 use Rattle.grammar.specs.Level.{Level, intervals, arrays, sets, bags, hasArrow, keeps, keepsPlain, keepsRow}
 use Rattle.grammar.proofs.Frames.{Lead, leadComma, leadRow, Front, start, led, row, Curly, lotCurly, countedCurly, RoundFrame, opened, pairColon, pairArrow, inTuple, attributeName, CurlyFrame, memberJoined, SquareFrame, squareOpened, lowAnd, upTo, Frame, inRound, inSquare, Stack, Closing, twoCommas, headed, bounded, Config, want, have, wantText, wantCurly, wantCount, haveItem, wantClose, nextNames, nextAttribute, noFurther, plainNameOf, nameOf, namesOf}
 use Rattle.grammar.proofs.Machine.{curly, textValue, emptyRound, emptyCurly, emptySquare, leadRound, leadCurly, starRight, leadStar, leadMark, wantMark, closeRound, closeCurly, closeSquare, commaPair, commaRound, commaCurly, colonAttribute, colonIn, colonCurly, lowSign, lowOpen, starSide, starSquare, namesGo, countOf, counted, itemMark, closing, headColon, colonFirst, colonRound, arrowRound, arrowIn, arrow, behindMark, haveMark, wantClass, haveClass, textClass, curlyClass, countClass, itemClass, closeClass, step}
-use Rattle.grammar.proofs.Behind.{behindCurly, behindStack, behind, keptFront, keptCurly, keptStack}
+use Rattle.grammar.proofs.Behind.{behindCurly, behindStack, keptFront, keptCurly, keptStack}
 use Rattle.grammar.proofs.Parts.{shutBehind, noneBehind, nextAttributeBehind, lastAttributeBehind, noneKept, nextAttributeKept, lastAttributeKept, shutKept, Sound, Takes, goes, soundWhen, itemShut, itemNext}
 
 module _ (l : Level) where

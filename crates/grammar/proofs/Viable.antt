@@ -1,6 +1,6 @@
 -- Every configuration has a completion, so a token that cannot be taken is in the wrong place, and no other is. Assumes nothing.
 use mathlib.Core.Path.{_≡_, refl, sym, ap, subst, _∙_}
-use mathlib.Core.Bool.{Bool, true, false}
+use mathlib.Core.Bool.{true, false}
 use mathlib.Core.List.{List, [], _∷_, _++_}
 use mathlib.Core.Option.{Option, none, some}
 use Prim.Native.Nat.{ℕ}
@@ -9,12 +9,10 @@ use Rattle.grammar.specs.Tokens
 use Rattle.grammar.specs.Tokens.{Span, Tok, tok}
 use Rattle.grammar.specs.Tree
 use Rattle.grammar.specs.Tree.{Measure, byNumber, byTruth, Style, copy, Value, Listing}
-use Rattle.grammar.specs.Yield.{yieldValue}
-use Rattle.grammar.specs.Level.{Level, keeps}
+use Rattle.grammar.specs.Level.{Level}
 use Rattle.grammar.specs.Place.{Sentence, Begins, Wrong, WrongEnd, ForValue}
-use Rattle.grammar.proofs.Frames.{Front, Curly, lotCurly, countedCurly, opened, pairColon, pairArrow, inTuple, attributeName, CurlyFrame, memberJoined, squareOpened, lowAnd, upTo, Frame, inRound, inSquare, Stack, Closing, twoCommas, headed, bounded, Config, want, have, wantText, wantCurly, wantCount, haveItem, wantClose, lastItem, shut}
+use Rattle.grammar.proofs.Frames.{Front, Curly, lotCurly, countedCurly, opened, pairColon, pairArrow, inTuple, attributeName, CurlyFrame, memberJoined, squareOpened, lowAnd, upTo, Frame, inRound, inSquare, Stack, twoCommas, headed, bounded, Config, want, have, wantText, wantCurly, wantCount, haveItem, wantClose, lastItem, shut}
 use Rattle.grammar.proofs.Machine.{step, advance, run, runs}
-use Rattle.grammar.proofs.Behind.{behind, kept}
 use Rattle.grammar.proofs.Parts.{Goes, goes, itemShut}
 use Rattle.grammar.proofs.Sound.{soundCloseRound, soundCloseCurly, soundCloseSquare, soundNesting, soundCount, soundClosing, soundWantCurly}
 use Rattle.grammar.proofs.Accepts.{runNone, runAppend, reached, accepts, sentenceRuns}
@@ -26,6 +24,14 @@ here = record { first = 0; end = 0 }
 -- the Ignorance literal
 abbrev literal : Span → Tok
 literal s = tok (Tokens.atom Tokens.ignorance) s
+
+-- a whole value, with no bracket left
+pub data Final : Config → Type 0 where
+  final : (v : Value) → Final (have v [])
+
+-- a value is wanted
+pub data Wants : Config → Type 0 where
+  wants : (K : Stack) → Wants (want K)
 
 module _ (l : Level) where
   -- tokens that end the text, and its tree
@@ -128,10 +134,6 @@ module _ (l : Level) where
 
   -- ---- the end
 
-  -- a whole value, with no bracket left
-  pub data Final : Config → Type 0 where
-    final : (v : Value) → Final (have v [])
-
   pub finalSentence : {c : Config} (ts : List Tok) → Final c → runs l ts ≡ some c → Sentence l ts
   finalSentence ts (final v) e = accepts l ts v e
 
@@ -147,9 +149,6 @@ module _ (l : Level) where
   wrongEnd ts c e f = record { none = λ s. f (sentenceFinal ts c e s) }
 
   -- ---- a place for a value
-
-  pub data Wants : Config → Type 0 where
-    wants : (K : Stack) → Wants (want K)
 
   pub wantsValue : {c : Config} (ts : List Tok) → Wants c → runs l ts ≡ some c → (s : Span) → ForValue l ts s
   wantsValue ts (wants K) e s = begins (ts ++ (literal s ∷ [])) _ (oneMore ts (want K) (literal s) e)
