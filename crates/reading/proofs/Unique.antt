@@ -36,21 +36,21 @@ module _ (sizes : Sizes) (bytes lent : List ℕ) where
   Alike r t s u = (r ≡ s) × (t ≡ u)
 
   pub one-reading : {number : ℕ} {r s : Answer} {t u : List ℕ} → Answers sizes bytes lent number r t → Answers sizes bytes lent number s u → Alike r t s u
-  one-reading (noLevel f) (noLevel g) = (refl , refl)
+  one-reading (noLevel f) (noLevel g) = (refl, refl)
   one-reading (noLevel f) (tooLong l h) = absurd (f _ l)
   one-reading (noLevel f) (notUtf8 l h b) = absurd (f _ l)
   one-reading (noLevel f) (faulty l h w d) = absurd (f _ l)
   one-reading (noLevel f) (noRoom l h w a m) = absurd (f _ l)
   one-reading (noLevel f) (accepted l h w a m) = absurd (f _ l)
   one-reading (tooLong l h) (noLevel g) = absurd (g _ l)
-  one-reading (tooLong l h) (tooLong k g) = (refl , refl)
+  one-reading (tooLong l h) (tooLong k g) = (refl, refl)
   one-reading (tooLong l h) (notUtf8 k g b) = absurd (omega (arith, h, g))
   one-reading (tooLong l h) (faulty k g w d) = absurd (omega (arith, h, g))
   one-reading (tooLong l h) (noRoom k g w a m) = absurd (omega (arith, h, g))
   one-reading (tooLong l h) (accepted k g w a m) = absurd (omega (arith, h, g))
   one-reading (notUtf8 l h b) (noLevel g) = absurd (g _ l)
   one-reading (notUtf8 l h b) (tooLong k g) = absurd (omega (arith, h, g))
-  one-reading (notUtf8 l h b) (notUtf8 k g c) = (ap (λ (p : ℕ). answer 3 p 0) (one-bad bytes b c) , refl)
+  one-reading (notUtf8 l h b) (notUtf8 k g c) = (ap (λ (p : ℕ). answer 3 p 0) (one-bad bytes b c), refl)
   one-reading (notUtf8 l h b) (faulty k g w d) = absurd (formed-or-bad bytes w b)
   one-reading (notUtf8 l h b) (noRoom k g w a m) = absurd (formed-or-bad bytes w b)
   one-reading (notUtf8 l h b) (accepted k g w a m) = absurd (formed-or-bad bytes w b)
@@ -59,7 +59,7 @@ module _ (sizes : Sizes) (bytes lent : List ℕ) where
   one-reading (faulty l h w d) (notUtf8 k g b) = absurd (formed-or-bad bytes w b)
   one-reading (faulty {n = m} {p = p} l h w d) (faulty {l = b} {n = n} {p = q} k g x e) =
       let o = one-first bytes sizes b (subst (λ (a : Level). FirstFault sizes a bytes m p) (one-level l k) d) e in
-      ((λ i. answer (o .0 i) (o .1 i) 0) , refl)
+      ((λ i. answer (o .0 i) (o .1 i) 0), refl)
   one-reading (faulty l h w d) (noRoom k g x a m) = absurd (sound (one-level k l) a d)
   one-reading (faulty l h w d) (accepted k g x a m) = absurd (sound (one-level k l) a d)
   one-reading (noRoom l h w a m) (noLevel g) = absurd (g _ l)
@@ -67,7 +67,7 @@ module _ (sizes : Sizes) (bytes lent : List ℕ) where
   one-reading (noRoom l h w a m) (notUtf8 k g b) = absurd (formed-or-bad bytes w b)
   one-reading (noRoom l h w a m) (faulty k g x d) = absurd (sound (one-level l k) a d)
   one-reading (noRoom l h w a m) (noRoom k g x b n) =
-      (ap (λ (v : Value). answer 8 (length bytes) (length (table v))) (one-tree (one-level l k) a b) , refl)
+      (ap (λ (v : Value). answer 8 (length bytes) (length (table v))) (one-tree (one-level l k) a b), refl)
   one-reading (noRoom l h w a m) (accepted k g x b n) =
       absurd (omega (arith, m, n, ap (λ (v : Value). length (table v)) (one-tree (one-level l k) a b)))
   one-reading (accepted l h w a m) (noLevel g) = absurd (g _ l)
@@ -78,4 +78,4 @@ module _ (sizes : Sizes) (bytes lent : List ℕ) where
       absurd (omega (arith, m, n, ap (λ (v : Value). length (table v)) (one-tree (one-level l k) a b)))
   one-reading (accepted l h w a m) (accepted k g x b n) =
       let e = one-tree (one-level l k) a b in
-      (ap (λ (v : Value). answer 0 (length bytes) (length (table v))) e , ap (λ (v : Value). tableWords (table v) ++ drop (sizes .words * length (table v)) lent) e)
+      (ap (λ (v : Value). answer 0 (length bytes) (length (table v))) e, ap (λ (v : Value). tableWords (table v) ++ drop (sizes .words * length (table v)) lent) e)
