@@ -1,3 +1,4 @@
 -- The laws of readings.
+pub mod Rows
 pub mod First
 pub mod Unique
