@@ -2,3 +2,4 @@
 pub mod Rows
 pub mod First
 pub mod Unique
+pub mod Agree
