@@ -19,12 +19,12 @@ use Rattle.reading.specs.Faults.{NewerAt, TooDeep, Fault, noToken, wrong
 
 -- ---- numbers in their order
 
-data Order (m n : ℕ) : Type 0 where
+pub data Order (m n : ℕ) : Type 0 where
   equal : m ≡ n → Order m n
   less : m < n → Order m n
   more : n < m → Order m n
 
-order : (m n : ℕ) → Order m n
+pub order : (m n : ℕ) → Order m n
 order zero zero = equal refl
 order zero (suc n) = less (omega arith)
 order (suc m) zero = more (omega arith)
@@ -53,7 +53,7 @@ module _ (bytes : List ℕ) where
   placeOf (Next.End p) = p
   placeOf (Next.NoToken p) = p
 
-  pick : {p : ℕ} {t u : Token.Token} → Comes bytes p (Next.Token t) → Comes bytes p (Next.Token u) → t ≡ u
+  pub pick : {p : ℕ} {t u : Token.Token} → Comes bytes p (Next.Token t) → Comes bytes p (Next.Token u) → t ≡ u
   pick {p} {t} {u} c d = ap (tokenOr t) (one-answer bytes p (Next.Token t) (Next.Token u) c d)
 
   alike : (p : ℕ) (r s : Next) → Comes bytes p r → Comes bytes p s → which r ≡ which s
@@ -62,13 +62,13 @@ module _ (bytes : List ℕ) where
   same-place : (p : ℕ) (r s : Next) → Comes bytes p r → Comes bytes p s → placeOf r ≡ placeOf s
   same-place p r s c d = ap placeOf (one-answer bytes p r s c d)
 
-  no-end : (p : ℕ) {t : Token.Token} {q : ℕ} → Comes bytes p (Next.Token t) → Comes bytes p (Next.End q) → ⊥
+  pub no-end : (p : ℕ) {t : Token.Token} {q : ℕ} → Comes bytes p (Next.Token t) → Comes bytes p (Next.End q) → ⊥
   no-end p {t} {q} c d = omega (arith, alike p (Next.Token t) (Next.End q) c d)
 
-  no-none : (p : ℕ) {t : Token.Token} {q : ℕ} → Comes bytes p (Next.Token t) → Comes bytes p (Next.NoToken q) → ⊥
+  pub no-none : (p : ℕ) {t : Token.Token} {q : ℕ} → Comes bytes p (Next.Token t) → Comes bytes p (Next.NoToken q) → ⊥
   no-none p {t} {q} c d = omega (arith, alike p (Next.Token t) (Next.NoToken q) c d)
 
-  none-end : (p : ℕ) {x q : ℕ} → Comes bytes p (Next.NoToken x) → Comes bytes p (Next.End q) → ⊥
+  pub none-end : (p : ℕ) {x q : ℕ} → Comes bytes p (Next.NoToken x) → Comes bytes p (Next.End q) → ⊥
   none-end p {x} {q} c d = omega (arith, alike p (Next.NoToken x) (Next.End q) c d)
 
   module _ (sizes : Sizes) (l : Level) where
