@@ -5,7 +5,7 @@ use mathlib.Core.List.{List, [], _∷_, _++_, append-assoc, append-nil}
 use mathlib.Core.Option.{Option, none, some}
 use Prim.Native.Nat.{ℕ}
 use native.Mathlib.Omega.{arith}
-use Rattle.rules.proofs.Bools.{and-left, and-right, and-both}
+use Rattle.rules.proofs.Bools.{and-left, and-right, and-both, not-true}
 use Rattle.lexicon.specs.declared.Head.{Head}
 use Rattle.grammar.specs.Tokens
 use Rattle.grammar.specs.Tokens.{Span, Tok, tok, Class, Wording, Mark}
@@ -15,10 +15,6 @@ use Rattle.grammar.proofs.Frames.{Config, want, have, wantText, wantCur
 use Rattle.grammar.proofs.Machine.{runs}
 use Rattle.grammar.proofs.Viable.{wants, wantsValue, placeRuns}
 use Rattle.grammar.proofs.Levels.{Known}
-
-fails : (b : Bool) → not b ≡ true → b ≡ false
-fails true e = sym e
-fails false e = refl
 
 -- ---- a list one token longer, taken apart at one of its tokens
 
@@ -95,7 +91,7 @@ module _ (l : Level) where
   textLacks (Tokens.mark m) k = false
   textLacks Tokens.later k = false
 
-  abbrev headNext : List Tok → Bool
+  abbrev pub headNext : List Tok → Bool
   headNext [] = false
   headNext (t ∷ []) = false
   headNext (t ∷ u ∷ ts) = textLacks (t .class) (u .class)
@@ -127,7 +123,7 @@ module _ (l : Level) where
   colonBeyond Tokens.curlyClose h o s k ts e = absurd (false≢true e)
   colonBeyond Tokens.squareClose h o s k ts e = absurd (false≢true e)
   colonBeyond Tokens.comma h o s k ts e = absurd (false≢true e)
-  colonBeyond Tokens.colon h o s k ts e = newerHead (fails (hasHead l h) e)
+  colonBeyond Tokens.colon h o s k ts e = newerHead (not-true (hasHead l h) e)
   colonBeyond Tokens.rightArrow h o s k ts e = absurd (false≢true e)
   colonBeyond Tokens.leftArrow h o s k ts e = absurd (false≢true e)
   colonBeyond Tokens.dots h o s k ts e = absurd (false≢true e)
@@ -169,13 +165,24 @@ module _ (l : Level) where
   firstBeyond Tokens.names o ts e = absurd (false≢true e)
   firstBeyond Tokens.round o ts e = roundBeyond o ts e
   firstBeyond Tokens.curly o ts e = absurd (false≢true e)
-  firstBeyond Tokens.square o ts e = newerBracket (fails (l intervals) e)
+  firstBeyond Tokens.square o ts e = newerBracket (not-true (l intervals) e)
   firstBeyond (Tokens.mark m) o ts e = absurd (false≢true e)
   firstBeyond Tokens.later o ts e = laterLiteral
 
   pub holdsBeyond : (ts : List Tok) → isBeyond ts ≡ true → Beyond l ts
   holdsBeyond [] e = absurd (false≢true e)
   holdsBeyond (t ∷ ts) e = firstBeyond (t .class) (t .at) ts e
+
+  -- of what stands behind, only a head counts
+  classFurther : (c : Class) (ts us : List Tok) → (headNext ts ≡ true → headNext us ≡ true) → classBeyond c ts ≡ true → classBeyond c us ≡ true
+  classFurther (Tokens.atom a) ts us f e = e
+  classFurther (Tokens.text w) ts us f e = e
+  classFurther Tokens.names ts us f e = e
+  classFurther Tokens.round ts us f e = f e
+  classFurther Tokens.curly ts us f e = e
+  classFurther Tokens.square ts us f e = e
+  classFurther (Tokens.mark m) ts us f e = e
+  classFurther Tokens.later ts us f e = e
 
   -- ---- at a place for a value
 
@@ -201,6 +208,10 @@ module _ (l : Level) where
         beyond = holdsBeyond (t ∷ ys) (and-right (wanting (runs l xs)) (isBeyond (t ∷ ys)) e);
         place = wantingPlace xs (t .at) (runs l xs) refl (and-left (wanting (runs l xs)) (isBeyond (t ∷ ys)) e);
       }
+
+  -- a newer form with these tokens behind it is one with others too, if a head in those is one in these
+  pub newerFurther : (xs : List Tok) (t : Tok) (ts us : List Tok) → (headNext ts ≡ true → headNext us ≡ true) → Newer l xs t ts → Newer l xs t us
+  newerFurther xs t ts us f n = record { beyond = holdsBeyond (t ∷ us) (classFurther (t .class) ts us f (beyondHolds (n .beyond))); place = n .place }
 
   -- ---- the first newer form
 

@@ -225,11 +225,3 @@ module _ (text : List ℕ) where
       go (ofRun n g c p f) (ofRun m g′ d q f′) =
           let o : n ≡ m = run-same n m c d in
           (p ∙ ap runKind o ∙ sym q, f ∙ ap (λ (x : ℕ). i + runSize x) o ∙ sym f′)
-
-  -- a token does not end before it begins
-  pub token-forward : {k : Kind} {i j : ℕ} → Is text k i j → i ≤ j
-  token-forward {k} {i} {j} t = go (view k i j (t .told))
-    where
-      go : View k i j → i ≤ j
-      go (ofRule l h c) = forward (h .takes)
-      go (ofRun n h c p e) = omega (arith, e)

@@ -2,4 +2,6 @@
 pub mod Rows
 pub mod First
 pub mod Unique
+pub mod Decide
+pub mod Exists
 pub mod Agree

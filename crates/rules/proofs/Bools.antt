@@ -47,3 +47,7 @@ clash p q = true≢false (sym p ∙ q)
 pub not-both : (b : Bool) → b ≡ true → not b ≡ true → ⊥
 not-both true p q = false≢true q
 not-both false p q = false≢true p
+
+pub not-true : (b : Bool) → not b ≡ true → b ≡ false
+not-true true e = sym e
+not-true false e = refl

@@ -230,3 +230,11 @@ module _ (text : List ℕ) where
 -- where no match reaches further than another, each place has one at most
 pub single : {text : List ℕ} (n : ℕ) {r : Rule} → covers n r r ≡ true → Single text r
 single {text} n {r} e = record { same = λ t u. omega (arith, covers-all text n r r e t u, covers-all text n r r e u t) }
+
+-- a rule that takes no fewer than one byte goes forward
+pub grows : {text : List ℕ} (r : Rule) {i j : ℕ} → nullable r ≡ false → Takes text r i j → i < j
+grows {text} r {i} {j} e t = go (enter text t)
+  where
+    go : Entered text r i j → i < j
+    go (inl x) = absurd (clash (x .1) e)
+    go (inr x) = through-forward text (ways r) i j x

@@ -11,9 +11,8 @@ use Rattle.rules.specs.Rule.{Rule, one, _then_, _or_, lit, Takes, byte, both, l
 use Rattle.rules.proofs.Classes.{apart, apartSpan, apart-no}
 use Rattle.rules.proofs.Matches.{starting}
 use Rattle.rules.proofs.Chains.{Single}
-use Rattle.rules.proofs.Ways.{nullable, never, never-takes, covers, single}
+use Rattle.rules.proofs.Ways.{nullable, never, never-takes, covers, single, grows}
 use Rattle.lexicon.specs.Literals.{unescaped, restricted, escapeLetter, escape, codePoint}
-use Rattle.text.proofs.Searches.{grows}
 use Rattle.string.specs.Parts.{item}
 use Rattle.string.proofs.Among.{Strict}
 use Rattle.string.proofs.Codes.{angle-same}

@@ -1,36 +1,21 @@
 -- Laws of searching: what is found of a rule whose first byte is known. Assumes nothing.
 use mathlib.Core.Path.{_≡_, refl, subst}
 use mathlib.Core.Bool.{Bool, true, false}
-use mathlib.Core.Logic.{_⊎_, inl, inr}
-use mathlib.Core.List.{List, [], _∷_}
+use mathlib.Core.List.{List}
 use Prim.Native.Nat.{ℕ, _+_, _≤_, _<_}
 use lib.ListN.{length}
 use native.Mathlib.Omega.{arith}
 use Rattle.rules.specs.Test.{Says}
 use Rattle.rules.specs.Class.{Class}
 use Rattle.rules.specs.Rule.{Rule, one, _then_, _or_, opt, Takes, nothing, both, left, right, Longest, Fails}
-use Rattle.rules.proofs.Bools.{clash}
 use Rattle.rules.proofs.Matches.{forward, byte-at, byte-end, fails-first}
 use Rattle.rules.proofs.Tests.{there, not-there}
-use Rattle.rules.proofs.Ways.{Way, nullable, Through, enter, ways, never, never-takes, begins-none, end-takes}
+use Rattle.rules.proofs.Ways.{nullable, never, never-takes, begins-none, end-takes}
 use Rattle.lexicon.specs.declared.Found.{Found}
 use Rattle.lexicon.specs.declared.Found.the-variants.{At as FoundAt, Nothing}
 use Rattle.lexicon.specs.Found.{Finds}
 
 module _ {text : List ℕ} where
-  -- a rule that takes no fewer than one byte goes forward
-  pub grows : (r : Rule) {i j : ℕ} → nullable r ≡ false → Takes text r i j → i < j
-  grows r {i} {j} e t = go (ways r) (enter text t)
-    where
-      thru : (ws : List Way) → Through text ws i j → i < j
-      thru [] x = absurd x
-      thru (w ∷ ws) (inl x) = omega (arith, forward (x .1))
-      thru (w ∷ ws) (inr x) = thru ws x
-
-      go : (ws : List Way) → ((i ≡ j) × (nullable r ≡ true)) ⊎ Through text ws i j → i < j
-      go ws (inl x) = absurd (clash (x .1) e)
-      go ws (inr x) = thru ws x
-
   -- a test of the byte at i decides a rule of one byte
   pub byte-longest : {c : Class} {i : ℕ} → Takes text (one c) i (i + 1) → Longest text (one c) i (i + 1)
   byte-longest a = record { takes = a; most = λ t. omega (arith, byte-end t) }

@@ -8,8 +8,8 @@ use native.Mathlib.Omega.{arith}
 use Rattle.rules.specs.Rule.{many, Takes, stop}
 use Rattle.rules.proofs.Matches.{ending, inside}
 use Rattle.rules.proofs.Chains.{snoc}
+use Rattle.rules.proofs.Ways.{grows}
 use Rattle.lexicon.specs.Utf8.{sequence}
-use Rattle.text.proofs.Searches.{grows}
 use Rattle.lexicon.proofs.Answers.{found-at, found-none}
 use Rattle.text.proofs.utf8.utf8.Statement.{statement}
 use Rattle.text.proofs.utf8.utf8.Tie as tie
