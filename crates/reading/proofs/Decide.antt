@@ -50,6 +50,20 @@ whole-final (wantCount c f v k K) e = absurd (false≢true e)
 whole-final (haveItem c f i K) e = absurd (false≢true e)
 whole-final (wantClose c K) e = absurd (false≢true e)
 
+module _ (bytes : List ℕ) (sizes : Sizes) (l : Level) where
+  -- a token that fails no test has no fault
+  pub faultless : {ts : List Tok} {p : ℕ} {t : Token.Token} → Comes bytes p (Next.Token t) → (NewerAt sizes l bytes ts t → ⊥) → (Wrong l ts (seen t) → ⊥) → (t .bad ≡ true → ⊥) → (TooDeep sizes l bytes ts t → ⊥) → (n q : ℕ) → Fault sizes l bytes ts p n q → ⊥
+  faultless {ts} {p} {t} c v w b d n q (noToken a) = no-none bytes p c a
+  faultless {ts} {p} {t} c v w b d n q (wrong a v' w') = w (subst (λ (x : Token.Token). Wrong l ts (seen x)) (pick bytes a c) w')
+  faultless {ts} {p} {t} c v w b d n q (wrongEnd a w') = no-end bytes p c a
+  faultless {ts} {p} {t} c v w b d n q (newer a v') = v (subst (NewerAt sizes l bytes ts) (pick bytes a c) v')
+  faultless {ts} {p} {t} c v w b d n q (badValue a v' w' b') = b (subst (λ (x : Token.Token). x .bad ≡ true) (pick bytes a c) b')
+  faultless {ts} {p} {t} c v w b d n q (tooDeep a v' w' b' d') = d (subst (TooDeep sizes l bytes ts) (pick bytes a c) d')
+
+-- no step is no configuration
+pub no-step : (d : Config) → none ≡ some d → ⊥
+no-step d x = let z : _≡_ {A = ℕ} 0 1 = cc in omega arith
+
 module _ (bytes : List ℕ) (comes : (p : ℕ) → (r : Next) × Comes bytes p r) (sizes : Sizes) (l : Level) where
   -- ---- what stands behind a token: two tokens are enough to see a head
 
@@ -128,15 +142,6 @@ module _ (bytes : List ℕ) (comes : (p : ℕ) → (r : Next) × Comes bytes p r
       deeper (less h) = beyond h (order (sizes .depth) (opened (ts ++ (seen t ∷ []))))
       deeper (more h) = inr λ d. omega (arith, h, d .deeper)
 
-  -- a token that fails no test has no fault
-  faultless : {ts : List Tok} {p : ℕ} {t : Token.Token} → Comes bytes p (Next.Token t) → (NewerAt sizes l bytes ts t → ⊥) → (Wrong l ts (seen t) → ⊥) → (t .bad ≡ true → ⊥) → (TooDeep sizes l bytes ts t → ⊥) → (n q : ℕ) → Fault sizes l bytes ts p n q → ⊥
-  faultless {ts} {p} {t} c v w b d n q (noToken a) = no-none bytes p c a
-  faultless {ts} {p} {t} c v w b d n q (wrong a v' w') = w (subst (λ (x : Token.Token). Wrong l ts (seen x)) (pick bytes a c) w')
-  faultless {ts} {p} {t} c v w b d n q (wrongEnd a w') = no-end bytes p c a
-  faultless {ts} {p} {t} c v w b d n q (newer a v') = v (subst (NewerAt sizes l bytes ts) (pick bytes a c) v')
-  faultless {ts} {p} {t} c v w b d n q (badValue a v' w' b') = b (subst (λ (x : Token.Token). x .bad ≡ true) (pick bytes a c) b')
-  faultless {ts} {p} {t} c v w b d n q (tooDeep a v' w' b' d') = d (subst (TooDeep sizes l bytes ts) (pick bytes a c) d')
-
   -- ---- the decision
 
   pub data Decided (ts : List Tok) (p : ℕ) : Type 0 where
@@ -149,7 +154,7 @@ module _ (bytes : List ℕ) (comes : (p : ℕ) → (r : Next) × Comes bytes p r
     where
       shallow : (t : Token.Token) (d : Config) → Comes bytes p (Next.Token t) → (NewerAt sizes l bytes ts t → ⊥) → step l c (seen t) ≡ some d → (Wrong l ts (seen t) → ⊥) → (t .bad ≡ true → ⊥) → TooDeep sizes l bytes ts t ⊎ (TooDeep sizes l bytes ts t → ⊥) → Decided ts p
       shallow t d a v s w b (inl x) = stops 11 (t .first) (tooDeep a v w b x)
-      shallow t d a v s w b (inr x) = goes t d a (λ n q f. faultless a v w b x n q f) (oneMore l ts c (seen t) e ∙ s)
+      shallow t d a v s w b (inr x) = goes t d a (λ n q f. faultless bytes sizes l a v w b x n q f) (oneMore l ts c (seen t) e ∙ s)
 
       valued : (t : Token.Token) (d : Config) → Comes bytes p (Next.Token t) → (NewerAt sizes l bytes ts t → ⊥) → step l c (seen t) ≡ some d → (Wrong l ts (seen t) → ⊥) → (b : Bool) → t .bad ≡ b → Decided ts p
       valued t d a v s w true b = stops 5 (t .first) (badValue a v w b)
@@ -158,9 +163,6 @@ module _ (bytes : List ℕ) (comes : (p : ℕ) → (r : Next) × Comes bytes p r
       stepped : (t : Token.Token) → Comes bytes p (Next.Token t) → (NewerAt sizes l bytes ts t → ⊥) → (m : Option Config) → step l c (seen t) ≡ m → Decided ts p
       stepped t a v none s = stops 6 (t .first) (wrong a v (stuckWrong l ts c (seen t) e s))
       stepped t a v (some d) s = valued t d a v s (λ w. no-step d (sym (wrongStuck l ts c (seen t) e w) ∙ s)) (t .bad) refl
-        where
-          no-step : (d : Config) → none ≡ some d → ⊥
-          no-step d x = let z : _≡_ {A = ℕ} 0 1 = cc in omega arith
 
       placed : (t : Token.Token) → Comes bytes p (Next.Token t) → NewerAt sizes l bytes ts t ⊎ (NewerAt sizes l bytes ts t → ⊥) → Decided ts p
       placed t a (inl v) = stops 7 (t .first) (newer a v)

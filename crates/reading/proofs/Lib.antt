@@ -3,5 +3,6 @@ pub mod Rows
 pub mod First
 pub mod Unique
 pub mod Decide
+pub mod Stands
 pub mod Exists
 pub mod Agree
