@@ -18,7 +18,7 @@ module _ (a b : Level) where
     apartAt : (xs : List Tok) (t : Tok) (ys : List Tok) (K : Stack) → ts ≡ xs ++ (t ∷ ys) → Known a xs (t ∷ ys) → Newer a xs t ys →
         runs a xs ≡ some (want K) → runs b xs ≡ some (want K) → Compared ts
 
-module _ (a b : Level) (within : _Within_ a b) (arrows : a leftArrows ≡ b leftArrows) where
+module _ (a b : Level) (within : a Within b) (arrows : a leftArrows ≡ b leftArrows) where
   pub compared : (ts : List Tok) → Compared a b ts
   compared ts = go (firstNewer a ts)
     where

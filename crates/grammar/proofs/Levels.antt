@@ -51,7 +51,7 @@ sentenceKnown l ts s =
           (record { rest = []; sentence = subst (Sentence l) (e ∙ sym (append-nil (xs ++ (t ∷ ys)))) s });
     }
 
-module _ (a b : Level) (within : _Within_ a b) (arrows : a leftArrows ≡ b leftArrows) where
+module _ (a b : Level) (within : a Within b) (arrows : a leftArrows ≡ b leftArrows) where
   headWithin : (h : Head) → hasHead a h ≡ true → hasHead b h ≡ true
   headWithin Head.Array e = within .has-too arrays e
   headWithin Head.Set e = within .has-too sets e
@@ -151,7 +151,7 @@ module _ (a b : Level) (within : _Within_ a b) (arrows : a leftArrows ≡ b left
   sentenceBelow ts s = sentenceAlike ts [] (sentenceKnown a ts s) s
 
 -- levels 1 and 2 are such levels
-pub oneWithinTwo : _Within_ level1 level2
+pub oneWithinTwo : level1 Within level2
 oneWithinTwo = record { has-too = has }
   where
     has : (f : Feature) → level1 f ≡ true → level2 f ≡ true

@@ -29,6 +29,7 @@ level2 bags = true
 level2 intervals = true
 level2 leftArrows = true
 
+infix 40 _Within_
 -- one level's forms are among another's
 pub record _Within_ (a b : Level) : Type 0 where
   pub has-too : (f : Feature) → a f ≡ true → b f ≡ true

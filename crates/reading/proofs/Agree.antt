@@ -31,7 +31,7 @@ use Rattle.reading.proofs.Rows.{Order, equal, less, more, order, pick, 
 use Rattle.reading.proofs.First.{follows, start, went}
 use Rattle.reading.proofs.Unique.{one-level, one-reading}
 
-module _ (bytes : List ℕ) (sizes : Sizes) (a b : Level) (within : _Within_ a b) (arrows : a leftArrows ≡ b leftArrows) where
+module _ (bytes : List ℕ) (sizes : Sizes) (a b : Level) (within : a Within b) (arrows : a leftArrows ≡ b leftArrows) where
   -- ---- tokens that pass at the lower level hold none of its newer forms
 
   known : {s p : ℕ} {ts : List Tok} → Follow bytes s ts p →
@@ -107,7 +107,7 @@ module _ (bytes : List ℕ) (sizes : Sizes) (a b : Level) (within : _Within_ a b
       record {
         from = x .from;
         good = passed-too (x .good);
-        ends = λ q c w. x .ends q c (record { none = λ s. w .none (sentenceAlike a b within arrows ts [] k s) });
+        ends = λ w. x .ends (record { none = λ s. w .none (sentenceAlike a b within arrows ts [] k s) });
         at-end = x .at-end;
       }
 

@@ -67,7 +67,7 @@ module _ (sizes : Sizes) (bytes : List ℕ) (comes : (p : ℕ) → (r : Next) ×
     where
       go : Decided bytes comes sizes l ts p → Outcome
       go (stops n q f) = stopped n q (record { before = ts; from = p; good = a; fault = f })
-      go (ends q b s) = finished s (record { from = p; good = a; ends = λ x y w. w .none s; at-end = (refl, b .1, b .2, b .3) })
+      go (ends q b s) = finished s (record { from = p; good = a; ends = λ w. w .none s; at-end = (refl, b .1, b .2, b .3) })
       go (goes t d b f r) = again t d b (passed a b f) r
 
   -- each token takes a byte at least, so the bytes left are tokens enough

@@ -138,7 +138,7 @@ module _ (bytes : List ℕ) where
         by : Order (length ts) (length (f .before)) → ⊥
         by (equal e) =
             let o = one-row bytes fs all (sym e) in
-            end-fault (a .at-end) (a .ends (length bytes) (a .at-end)) (subst (λ (p : ℕ). Fault sizes l bytes ts p n x) (o .1) (subst (λ (us : List Tok). Fault sizes l bytes us (f .from) n x) (o .0) (f .fault)))
+            end-fault (a .at-end) (a .ends) (subst (λ (p : ℕ). Fault sizes l bytes ts p n x) (o .1) (subst (λ (us : List Tok). Fault sizes l bytes us (f .from) n x) (o .0) (f .fault)))
         by (less h) = let w = went (at .1) all (f .good) h in no-end bytes (a .from) (w .comes) (a .at-end)
         by (more h) = went (at .1) fs (a .good) h .sound n x (f .fault)
 

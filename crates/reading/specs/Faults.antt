@@ -53,5 +53,5 @@ module _ (sizes : Sizes) (l : Level) (bytes : List ℕ) where
   pub record AllPassed (ts : List Tok) : Type 0 where
     pub from : ℕ
     pub good : Passed ts from
-    pub ends : (q : ℕ) → Comes bytes from (Next.End q) → (WrongEnd l ts → ⊥)
     pub at-end : Comes bytes from (Next.End (length bytes))
+    pub ends : WrongEnd l ts → ⊥

@@ -1,5 +1,6 @@
 -- The sizes of 01, as parameters of the definitions. Assumes nothing.
 use Prim.Native.Nat.{ℕ, _/_, min}
+use Rattle.grammar.specs.Nodes.{nodeWords}
 
 pub record Sizes : Type 0 where
   -- bytes of a text, open brackets at once, nodes of a table at most, words of a node
@@ -9,7 +10,7 @@ pub record Sizes : Type 0 where
   pub words : ℕ
 
 abbrev pub base : Sizes
-base = record { text = 32768; depth = 32; nodes = 1024; words = 6 }
+base = record { text = 32768; depth = 32; nodes = 1024; words = nodeWords }
 
 -- 01: 'Room in the table: the smaller of 1,024 and the number of words divided by 6, rounded down'
 abbrev pub room : Sizes → ℕ → ℕ
