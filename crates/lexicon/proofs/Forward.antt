@@ -1,17 +1,21 @@
--- A token takes a byte at least, so what comes next ends behind the place where it was looked for. Assumes nothing.
+-- A token takes a byte at least, so it ends behind the place where it was looked for; and behind the text comes the end.
+-- Assumes nothing.
 use mathlib.Core.Path.{refl}
 use mathlib.Core.Bool.{not}
 use mathlib.Core.List.{List}
-use Prim.Native.Nat.{ℕ, _<_}
+use Prim.Native.Nat.{ℕ, _≤_, _<_}
 use native.Mathlib.Omega.{arith}
+use lib.ListN.{length}
+use Rattle.rules.specs.Rule.{opt, Takes, nothing, left, right}
 use Rattle.rules.proofs.Bools.{not-true}
 use Rattle.rules.proofs.Matches.{forward}
-use Rattle.rules.proofs.Ways.{nullable, grows}
+use Rattle.rules.proofs.Ways.{nullable, end-takes, grows}
 use Rattle.lexicon.specs.declared.Form.the-variants.{Quoted, Word, HeadWord, CodePoint}
 use Rattle.lexicon.specs.declared.Kind.{Kind}
 use Rattle.lexicon.specs.declared.Kind.the-variants.{Ignorance, Boolean, Integer, Fraction, Bits, Blob, Text, Later, Symbol, Colon, TwoColons}
 use Rattle.lexicon.specs.declared.Token as Token
 use Rattle.lexicon.specs.declared.Next.the-variants as Next
+use Rattle.lexicon.specs.Space.{sp}
 use Rattle.lexicon.specs.Token.{Lexeme, rule, Here, Told, Comes}
 use Rattle.lexicon.proofs.Tokens.{for-every}
 
@@ -37,3 +41,11 @@ module _ (text : List ℕ) where
 
   pub token-forward : (p : ℕ) (t : Token.Token) → Comes text p (Next.Token t) → p < t .end
   token-forward p t c = omega (arith, forward (c .0 .takes), told-forward (t .kind) (t .first) (t .end) (c .2 .told))
+
+  -- behind the text comes the end
+  pub past-end : (p : ℕ) → length text ≤ p → Comes text p (Next.End (length text))
+  past-end p h = (refl, p, record { takes = right (nothing refl); most = most }, h)
+    where
+      most : {k : ℕ} → Takes text (opt sp) p k → k ≤ p
+      most (left t) = absurd (end-takes text sp refl h t)
+      most (right (nothing e)) = omega (arith, e)

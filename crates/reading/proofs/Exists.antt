@@ -4,7 +4,7 @@ use mathlib.Core.Path.{_≡_, refl, sym, subst}
 use mathlib.Core.Logic.{_⊎_, inl, inr}
 use mathlib.Core.List.{List, [], _∷_, _++_}
 use mathlib.Core.Option.{some}
-use Prim.Native.Nat.{ℕ, zero, suc, _+_, _≤_}
+use Prim.Native.Nat.{ℕ, zero, suc, _+_, _≤_, _<_}
 use native.Mathlib.Omega.{arith}
 use lib.ListN.{length}
 use Rattle.rules.proofs.Matches.{forward}
@@ -16,7 +16,7 @@ use Rattle.lexicon.specs.declared.Next.the-variants as Next
 use Rattle.lexicon.specs.Utf8.{WellFormed, Encoded}
 use Rattle.lexicon.specs.Front.{Front}
 use Rattle.lexicon.specs.Token.{Comes}
-use Rattle.lexicon.proofs.Forward.{token-forward}
+use Rattle.lexicon.proofs.Forward.{token-forward, past-end}
 use Rattle.grammar.specs.Tokens.{Tok}
 use Rattle.grammar.specs.Tree.{Value}
 use Rattle.grammar.specs.Level.{Level, level1, level2}
@@ -78,6 +78,15 @@ module _ (sizes : Sizes) (bytes : List ℕ) (comes : (p : ℕ) → (r : Next) ×
 
   outcome : (p : ℕ) → Front bytes p → Outcome
   outcome p f = onward (length bytes) [] p (want []) (omega arith) (begun f) refl
+
+-- what comes next is known everywhere if it is known inside the text
+pub everywhere : (bytes : List ℕ) → ((p : ℕ) → p < length bytes → (r : Next) × Comes bytes p r) → (p : ℕ) → (r : Next) × Comes bytes p r
+everywhere bytes f p = go (order p (length bytes))
+  where
+    go : Order p (length bytes) → (r : Next) × Comes bytes p r
+    go (equal e) = (Next.End (length bytes), past-end bytes p (omega (arith, e)))
+    go (less h) = f p h
+    go (more h) = (Next.End (length bytes), past-end bytes p (omega (arith, h)))
 
 -- ---- the answer
 
