@@ -23,7 +23,7 @@ use Rattle.grammar.proofs.FirstNewer.{headNext, isNewer, newerHolds, holdsNewer
 use Rattle.reading.specs.Sizes.{Sizes}
 use Rattle.reading.specs.Tokens.{seen, Follow, nothing, next, opened}
 use Rattle.reading.specs.Faults.{NewerAt, TooDeep, Fault, noToken, wrong, wrongEnd, newer, badValue, tooDeep}
-use Rattle.reading.proofs.First.{Order, equal, less, more, order, pick, no-end, no-none}
+use Rattle.reading.proofs.Rows.{Order, equal, less, more, order, pick, no-end, no-none}
 
 -- ---- the end of a text
 

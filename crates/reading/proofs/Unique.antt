@@ -17,7 +17,7 @@ use Rattle.reading.specs.Faults.{FirstFault, AllPassed}
 use Rattle.reading.specs.Answers.{LevelOf, first, second, answer, Accepted, Answers, noLevel, tooLong, notUtf8, faulty, noRoom, accepted}
 use Rattle.reading.proofs.First.{one-first, all-or-fault, one-passing}
 
-one-level : {n : ℕ} {a b : Level} → LevelOf n a → LevelOf n b → a ≡ b
+pub one-level : {n : ℕ} {a b : Level} → LevelOf n a → LevelOf n b → a ≡ b
 one-level first first = refl
 one-level second second = refl
 

@@ -3,3 +3,4 @@ pub mod Sizes
 pub mod Tokens
 pub mod Faults
 pub mod Answers
+pub mod Agree
