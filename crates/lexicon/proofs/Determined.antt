@@ -6,11 +6,11 @@ use Prim.Native.Nat.{ℕ, _≤_, _<_}
 use native.Mathlib.Omega.{arith}
 use lib.ListN.{length}
 use Rattle.rules.specs.Test.{Says}
-use Rattle.rules.specs.Rule.{Longest, opt}
+use Rattle.rules.specs.Rule.{opt, Takes, nothing, left, right, Longest}
 use Rattle.rules.proofs.Classes.{apart, apartSpan}
 use Rattle.rules.proofs.Matches.{forward, longest-same}
 use Rattle.rules.proofs.Chains.{Single, reaches, longest}
-use Rattle.rules.proofs.Ways.{covers, single}
+use Rattle.rules.proofs.Ways.{covers, single, end-takes}
 use Rattle.lexicon.specs.declared.Encoding.{Encoding}
 use Rattle.lexicon.specs.declared.Encoding.the-variants as Encoding
 use Rattle.lexicon.specs.Utf8.{sequence, WellFormed, BadAt, Encoded}
@@ -19,7 +19,7 @@ use Rattle.lexicon.specs.declared.Kind.{Kind}
 use Rattle.lexicon.specs.declared.Token as Token
 use Rattle.lexicon.specs.declared.Next.{Next}
 use Rattle.lexicon.specs.declared.Next.the-variants as Next
-use Rattle.lexicon.specs.Space.{Skips}
+use Rattle.lexicon.specs.Space.{sp, Skips}
 use Rattle.lexicon.specs.Token.{Is, Bad, Comes}
 use Rattle.lexicon.proofs.Spaces.{skips-same}
 use Rattle.lexicon.proofs.Unique.{one-token}
@@ -79,3 +79,11 @@ module _ (text : List ℕ) where
   one-answer at (Next.NoToken p) (Next.End q) x y =
       absurd (omega (arith, x .1, skips-same (x .0) (y .2), y .3))
   one-answer at (Next.NoToken p) (Next.NoToken q) x y = ap Next.NoToken (skips-same (x .0) (y .0))
+
+  -- behind the text comes the end
+  pub past-end : (p : ℕ) → length text ≤ p → Comes text p (Next.End (length text))
+  past-end p h = (refl, p, record { takes = right (nothing refl); most = most }, h)
+    where
+      most : {k : ℕ} → Takes text (opt sp) p k → k ≤ p
+      most (left t) = absurd (end-takes text sp refl h t)
+      most (right (nothing e)) = omega (arith, e)

@@ -11,5 +11,4 @@ pub mod Powers
 pub mod Tokens
 pub mod Unique
 pub mod Determined
-pub mod Forward
 pub mod Examples

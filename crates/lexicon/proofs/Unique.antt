@@ -2,7 +2,7 @@
 -- Fraction is told apart by its first bytes; a Fraction is longer than every Integer from its first byte. Assumes nothing.
 use mathlib.Core.Path.{_≡_, refl, sym, ap, subst, _∙_}
 use mathlib.Core.Logic.{_⊎_, inl, inr, ⊎-elim}
-use mathlib.Core.Bool.{Bool, true, false, _&&_, _||_, cond, false≢true}
+use mathlib.Core.Bool.{Bool, true, false, not, _&&_, _||_, cond, false≢true}
 use mathlib.Core.List.{List, [], _∷_}
 use Prim.Native.Nat.{ℕ, _+_, _≤_, _<_}
 use native.Mathlib.Nat.{le-antisymm}
@@ -11,11 +11,11 @@ use lib.Dec.{eqb}
 use lib.ListN.{length, getD}
 use Rattle.rules.specs.Class.{has, codes, anyOf}
 use Rattle.rules.specs.Rule.{one, many, lit, Takes, byte, both, stop, more}
-use Rattle.rules.proofs.Bools.{and-left, and-right, or-cases}
+use Rattle.rules.proofs.Bools.{and-left, and-right, or-cases, not-true}
 use Rattle.rules.proofs.Classes.{apart, apartSpan}
 use Rattle.rules.proofs.Matches.{forward, ending}
 use Rattle.rules.proofs.Plain.{row-same}
-use Rattle.rules.proofs.Ways.{never, differ, differ-no}
+use Rattle.rules.proofs.Ways.{nullable, never, differ, differ-no, grows}
 use Rattle.lexicon.specs.declared.Head.{Head}
 use Rattle.lexicon.specs.declared.Head.the-variants.{Array, Set, Bag, Mix, IntervalSet, IntervalBag, TupleArray, Relation, TupleBag, Article, Excuse, Heading, Renaming}
 use Rattle.lexicon.specs.declared.Form.the-variants.{Quoted, Word, HeadWord, CodePoint}
@@ -225,3 +225,15 @@ module _ (text : List ℕ) where
       go (ofRun n g c p f) (ofRun m g′ d q f′) =
           let o : n ≡ m = run-same n m c d in
           (p ∙ ap runKind o ∙ sym q, f ∙ ap (λ (x : ℕ). i + runSize x) o ∙ sym f′)
+
+  -- a token takes a byte at least
+  pub token-forward : {k : Kind} {i j : ℕ} → Is text k i j → i < j
+  token-forward {k} {i} {j} t = go (view k i j (t .told))
+    where
+      size : (b : Bool) → 0 < cond b 2 1
+      size true = omega arith
+      size false = omega arith
+
+      go : View k i j → i < j
+      go (ofRule l h c) = grows (rule l) (not-true (nullable (rule l)) (for-every (λ m. not (nullable (rule m))) refl l)) (h .takes)
+      go (ofRun n h c p e) = omega (arith, e, size (eqb n 2))

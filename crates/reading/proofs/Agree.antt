@@ -12,7 +12,7 @@ use Rattle.lexicon.specs.Utf8.{WellFormed}
 use Rattle.lexicon.specs.Front.{Front}
 use Rattle.lexicon.specs.Token.{Comes}
 use Rattle.rules.proofs.Matches.{forward}
-use Rattle.lexicon.proofs.Forward.{is-forward}
+use Rattle.lexicon.proofs.Unique.{token-forward}
 use Rattle.lexicon.proofs.Determined.{formed-or-bad}
 use Rattle.grammar.specs.Tokens.{Tok}
 use Rattle.grammar.specs.Tree.{Value}
@@ -161,7 +161,7 @@ module _ (bytes : List ℕ) (sizes : Sizes) (a b : Level) (within : a Within b) 
             arith,
             x .place-is,
             y .place-is,
-            is-forward bytes (x .comes .2),
+            token-forward bytes (x .comes .2),
             comes-forward bytes (y .comes),
             row-beyond bytes (follows bytes sizes a (y .front) (f .good)) (x .comes) (y .row) h,
           )
@@ -207,7 +207,7 @@ module _ (bytes : List ℕ) (sizes : Sizes) (a b : Level) (within : a Within b) 
           omega (arith, x .place-is, fault-there (x .comes) (subst (λ (r : ℕ). Fault sizes b bytes (g .before) r m q) (o .1) (g .fault)))
       by (less h) = absurd (went bytes sizes b (at .1) new (passed-too (f .good)) h .sound m q (g .fault))
       by (more h) =
-          fault-later (omega (arith, x .place-is, is-forward bytes (x .comes .2), row-beyond bytes old (x .comes) new h))
+          fault-later (omega (arith, x .place-is, token-forward bytes (x .comes .2), row-beyond bytes old (x .comes) new h))
           (omega (arith, x .place-is, x .comes .1)) (g .fault)
 
   -- ---- the answers

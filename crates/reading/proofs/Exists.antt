@@ -4,10 +4,9 @@ use mathlib.Core.Path.{_≡_, refl, sym, subst}
 use mathlib.Core.Logic.{_⊎_, inl, inr}
 use mathlib.Core.List.{List, [], _∷_, _++_}
 use mathlib.Core.Option.{some}
-use Prim.Native.Nat.{ℕ, zero, suc, _+_, _≤_}
+use Prim.Native.Nat.{ℕ, zero, suc, _+_, _≤_, _<_}
 use native.Mathlib.Omega.{arith}
 use lib.ListN.{length}
-use Rattle.rules.proofs.Matches.{forward}
 use Rattle.lexicon.specs.declared.Token as Token
 use Rattle.lexicon.specs.declared.Encoding.{Encoding}
 use Rattle.lexicon.specs.declared.Encoding.the-variants as Encoding
@@ -16,7 +15,8 @@ use Rattle.lexicon.specs.declared.Next.the-variants as Next
 use Rattle.lexicon.specs.Utf8.{WellFormed, Encoded}
 use Rattle.lexicon.specs.Front.{Front}
 use Rattle.lexicon.specs.Token.{Comes}
-use Rattle.lexicon.proofs.Forward.{token-forward}
+use Rattle.lexicon.proofs.Unique.{token-forward}
+use Rattle.lexicon.proofs.Determined.{past-end}
 use Rattle.grammar.specs.Tokens.{Tok}
 use Rattle.grammar.specs.Tree.{Value}
 use Rattle.grammar.specs.Level.{Level, level1, level2}
@@ -29,7 +29,7 @@ use Rattle.reading.specs.Sizes.{Sizes, room}
 use Rattle.reading.specs.Tokens.{seen}
 use Rattle.reading.specs.Faults.{Passed, begun, passed, FirstFault, AllPassed}
 use Rattle.reading.specs.Answers.{LevelOf, first, second, Accepted, Answers, noLevel, tooLong, notUtf8, faulty, noRoom, accepted}
-use Rattle.reading.proofs.Rows.{Order, equal, less, more, order}
+use Rattle.reading.proofs.Rows.{Order, equal, less, more, order, comes-forward}
 use Rattle.reading.proofs.Unique.{one-reading}
 use Rattle.reading.proofs.Decide.{Decided, stops, ends, goes, decided}
 
@@ -72,12 +72,21 @@ module _ (sizes : Sizes) (bytes : List ℕ) (comes : (p : ℕ) → (r : Next) ×
 
   -- each token takes a byte at least, so the bytes left are tokens enough
   onward : (left : ℕ) (ts : List Tok) (p : ℕ) (c : Config) → length bytes ≤ p + left → Passed sizes l bytes ts p → runs l ts ≡ some c → Outcome
-  onward zero ts p c h a e = one-more ts p c a e (λ t d b g r. absurd (omega (arith, h, forward (b .0 .takes), b .1)))
+  onward zero ts p c h a e = one-more ts p c a e (λ t d b g r. absurd (omega (arith, h, comes-forward bytes b, b .1)))
   onward (suc left) ts p c h a e =
-      one-more ts p c a e (λ t d b g r. onward left (ts ++ (seen t ∷ [])) (t .end) d (omega (arith, h, token-forward bytes p t b)) g r)
+      one-more ts p c a e (λ t d b g r. onward left (ts ++ (seen t ∷ [])) (t .end) d (omega (arith, h, comes-forward bytes b, token-forward bytes (b .2))) g r)
 
   outcome : (p : ℕ) → Front bytes p → Outcome
   outcome p f = onward (length bytes) [] p (want []) (omega arith) (begun f) refl
+
+-- what comes next is known everywhere if it is known inside the text
+pub everywhere : (bytes : List ℕ) → ((p : ℕ) → p < length bytes → (r : Next) × Comes bytes p r) → (p : ℕ) → (r : Next) × Comes bytes p r
+everywhere bytes f p = go (order p (length bytes))
+  where
+    go : Order p (length bytes) → (r : Next) × Comes bytes p r
+    go (equal e) = (Next.End (length bytes), past-end bytes p (omega (arith, e)))
+    go (less h) = f p h
+    go (more h) = (Next.End (length bytes), past-end bytes p (omega (arith, h)))
 
 -- ---- the answer
 

@@ -9,7 +9,7 @@ use Rattle.lexicon.specs.declared.Token as Token
 use Rattle.lexicon.specs.declared.Next.{Next}
 use Rattle.lexicon.specs.declared.Next.the-variants as Next
 use Rattle.lexicon.specs.Token.{Comes}
-use Rattle.lexicon.proofs.Forward.{is-forward}
+use Rattle.lexicon.proofs.Unique.{token-forward}
 use Rattle.lexicon.proofs.Determined.{one-answer}
 use Rattle.grammar.specs.Tokens.{Tok}
 use Rattle.reading.specs.Tokens.{seen, Follow, nothing, next}
@@ -75,7 +75,7 @@ module _ (bytes : List ℕ) where
 
   pub row-forward : {p q : ℕ} {ts : List Tok} → Follow bytes p ts q → p ≤ q
   row-forward nothing = omega arith
-  row-forward (next c f) = omega (arith, comes-forward c, is-forward bytes (c .2), row-forward f)
+  row-forward (next c f) = omega (arith, comes-forward c, token-forward bytes (c .2), row-forward f)
 
   -- rows of the same length are the same
   pub one-row : {p q r : ℕ} {ts us : List Tok} → Follow bytes p ts q → Follow bytes p us r → length ts ≡ length us → (ts ≡ us) × (q ≡ r)
