@@ -76,6 +76,9 @@ module _ (text : List ℕ) where
     pub small : radix < 2
     pub behind : Takes text (spaced "^" then integer) end j
 
+  abbrev pub BadFraction : ℕ → ℕ → Type 0
+  BadFraction i j = ZeroDenominator i j ⊎ SmallRadix i j
+
   -- ---- Blob
 
   pub record BadPadding (i j : ℕ) : Type 0 where

@@ -22,7 +22,7 @@ use Rattle.lexicon.specs.declared.Next.the-variants.{Token, End, NoToken
 use Rattle.lexicon.specs.Space.{Skips}
 use Rattle.lexicon.specs.Literals.{ignorance, boolean, integer, fraction, bits, blob, quoted, word, codePoint, later, plusMinus}
 use Rattle.lexicon.specs.Symbols.{symbol, Colons}
-use Rattle.lexicon.specs.Bad.{BadCode, BadQuoted, ZeroDenominator, SmallRadix, BadPadding}
+use Rattle.lexicon.specs.Bad.{BadCode, BadQuoted, BadFraction, BadPadding}
 
 -- the token rules
 pub data Lexeme : Type 0 where
@@ -99,7 +99,7 @@ module _ (text : List ℕ) where
   Bad Ignorance i j = ⊥
   Bad (Boolean b) i j = ⊥
   Bad (Integer signed) i j = ⊥
-  Bad Fraction i j = ZeroDenominator text i j ⊎ SmallRadix text i j
+  Bad Fraction i j = BadFraction text i j
   Bad Bits i j = ⊥
   Bad Blob i j = BadPadding text i j
   Bad (Text Quoted) i j = BadQuoted text i j

@@ -34,7 +34,8 @@ use Rattle.lexicon.proofs.Powers.{Found, SmallPower, exponent, no-caret, no-exp
 use Rattle.text.proofs.Searches.{fails-end}
 use Rattle.number.specs.declared.integer.Number as Numbers
 use Rattle.number.specs.Number.{IsNumber, NoNumber, OfBase as OfBaseAnswer}
-use Rattle.number.specs.Fraction.{PointDigits, NoDigits, Pointed, Denominator, NoDenominator, Divided, ZeroRatio, BadFraction}
+use Rattle.lexicon.specs.Bad.{BadFraction}
+use Rattle.number.specs.Fraction.{PointDigits, NoDigits, Pointed, Denominator, NoDenominator, Divided, ZeroRatio}
 use Rattle.number.proofs.Integers.{some-number}
 
 module _ (text : List ℕ) where

@@ -1,6 +1,5 @@
 -- What the searches for the parts of a Fraction answer. Assumes nothing.
 use mathlib.Core.Path.{_≡_}
-use mathlib.Core.Logic.{_⊎_}
 use mathlib.Core.Bool.{Bool, false}
 use mathlib.Core.List.{List}
 use Prim.Native.Nat.{ℕ}
@@ -13,7 +12,6 @@ use Rattle.lexicon.specs.Bytes.{digits, digitSet}
 use Rattle.lexicon.specs.Space.{Skips}
 use Rattle.lexicon.specs.Literals.{unit, integer, spaced}
 use Rattle.lexicon.specs.Values.{Number}
-use Rattle.lexicon.specs.Bad.{ZeroDenominator, SmallRadix}
 use Rattle.number.specs.Groups.{Row}
 use Rattle.number.specs.Number.{IsNumber, NoNumber}
 
@@ -56,6 +54,3 @@ pub record ZeroRatio (text : List ℕ) (i j : ℕ) : Type 0 where
   pub start : ℕ
   pub before : Takes text (integer then spaced "/") i start
   pub zero : Number text start j 0
-
-abbrev pub BadFraction : List ℕ → ℕ → ℕ → Type 0
-BadFraction text i j = ZeroDenominator text i j ⊎ SmallRadix text i j

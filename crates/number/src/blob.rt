@@ -1,4 +1,5 @@
 // Bits and Blobs: a mark of three bytes, and digits behind it if there are any.
+// A function with a `requires` is this crate's own: its place is within the text by its caller's search, so that sums of places fit.
 use crate::groups::Groups;
 use crate::groups::longest_row;
 use lexicon::Found;

@@ -1,4 +1,5 @@
 // Fractions: a significand with a point or a slash, and an optional power.
+// A function with a `requires` is this crate's own: its place is within the text by its caller's search, so that sums of places fit.
 use crate::integer::Number;
 use crate::integer::digits;
 use crate::integer::integer;
@@ -14,8 +15,9 @@ ghost use lib.ListN.{length};
 ghost use Rattle.rules.specs.Rule.{_then_};
 ghost use Rattle.lexicon.specs.Found.{Finds, Judges};
 ghost use Rattle.lexicon.specs.Literals.{integer as integerOf, spaced, fraction as fractionOf, significand as significandOf, power as powerOf};
+ghost use Rattle.lexicon.specs.Bad.{BadFraction};
 ghost use Rattle.lexicon.proofs.Powers.{SmallPower};
-ghost use Rattle.number.specs.Fraction.{Pointed, Divided, ZeroRatio, BadFraction};
+ghost use Rattle.number.specs.Fraction.{Pointed, Divided, ZeroRatio};
 
 // The digits behind a significand's point, of the base that stands before it.
 fn point(text: &[u8], at: usize, base: Base) -> Literal

@@ -1,4 +1,5 @@
 // Digit groups: units of so many bytes of a set, side by side or joined by one `_` or one stretch of dividing space.
+// A function with a `requires` is this crate's own: its place is within the text by its caller's search, so that sums of places fit.
 use crate::tally::tally_unit;
 use lexicon::Found;
 use lexicon::Set;

@@ -1,5 +1,5 @@
 // What a literal's digits add up to, as far as the tokens need it: of a number its value, up to the limit; of base-64 characters,
-// how `=` stands among them.
+// how `=` stands among them. `tally_unit` is this crate's own, and its caller has found the unit.
 use lexicon::Set;
 use text::digit::limited;
 use text::digit::radix;

@@ -1,4 +1,5 @@
 // The tokens of quoted texts, words and numbers.
+// A function with a `requires` is this crate's own: its caller has looked at the byte, and a second look would be dead code.
 use lexicon::Form;
 use lexicon::Found;
 use lexicon::Kind;

@@ -1,4 +1,5 @@
 // What comes next in a text: dividing space is passed over, then a token, the end, or a byte at which none starts.
+// A function with a `requires` is this crate's own: its caller has looked at the byte, and a second look would be dead code.
 use crate::literal::number_token;
 use crate::literal::quoted_token;
 use crate::literal::word_token;

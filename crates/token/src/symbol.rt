@@ -1,4 +1,5 @@
 // Symbols, and runs of colons.
+// A function with a `requires` is this crate's own: its caller has looked at the byte, and a second look would be dead code.
 use lexicon::Bound;
 use lexicon::Kind;
 use lexicon::Next;

@@ -1,4 +1,5 @@
 // The tokens that begin with the digit 0.
+// A function with a `requires` is this crate's own: its caller has looked at the byte, and a second look would be dead code.
 use crate::literal::number_token;
 use lexicon::Form;
 use lexicon::Found;

@@ -10,7 +10,8 @@ use Rattle.lexicon.specs.declared.Token.{Token}
 use Rattle.lexicon.specs.declared.Next.{Next}
 use Rattle.lexicon.specs.declared.Next.the-variants as Next
 use Rattle.lexicon.specs.Utf8.{Encoded}
-use Rattle.token_c.specs.Numbers.{kindNumber, detailNumber, bit, wordsOf, PlaceOf}
+use Rattle.lexicon.specs.Bytes.{bit}
+use Rattle.token_c.specs.Numbers.{kindNumber, detailNumber, wordsOf, PlaceOf}
 
 pub token-words : (t : Token) (a : Next) (k d b : ℕ) → a ≡ Next.Token t → k ≡ kindNumber (t .kind) → d ≡ detailNumber (t .kind) → b ≡ bit (t .bad) → (k ∷ t .first ∷ t .end ∷ d ∷ b ∷ []) ≡ wordsOf a
 token-words t a k d b e p q r =

@@ -1,7 +1,6 @@
 -- The numbers by which C sees tokens. Assumes nothing.
 use mathlib.Core.Path.{_≡_}
 use mathlib.Core.Logic.{_⊎_}
-use mathlib.Core.Bool.{Bool, true, false}
 use mathlib.Core.List.{List, [], _∷_}
 use Prim.Native.Nat.{ℕ}
 use lib.ListN.{length}
@@ -17,12 +16,9 @@ use Rattle.lexicon.specs.declared.Kind.{Kind}
 use Rattle.lexicon.specs.declared.Kind.the-variants.{Ignorance, Boolean, Integer, Fraction, Bits, Blob, Text, Later, Symbol, Colon, TwoColons}
 use Rattle.lexicon.specs.declared.Next.{Next}
 use Rattle.lexicon.specs.declared.Next.the-variants.{Token, End, NoToken}
+use Rattle.lexicon.specs.Bytes.{bit}
 use Rattle.lexicon.specs.Utf8.{WellFormed, BadAt}
 use Rattle.lexicon.specs.Token.{Comes}
-
-abbrev pub bit : Bool → ℕ
-bit true = 1
-bit false = 0
 
 abbrev pub starNumber : Bound → Bound → ℕ
 starNumber LessEqual LessEqual = 12

@@ -7,8 +7,9 @@ use lexicon::Kind;
 use lexicon::Next;
 use lexicon::Sign;
 ghost use mathlib.Core.Path.{_≡_};
+ghost use Rattle.lexicon.specs.Bytes.{bit};
 ghost use Rattle.lexicon.specs.Front.{Front};
-ghost use Rattle.token_c.specs.Numbers.{starNumber, signNumber, headNumber, formNumber, kindNumber, detailNumber, bit, wordsOf, PlaceOf, TokenWords};
+ghost use Rattle.token_c.specs.Numbers.{starNumber, signNumber, headNumber, formNumber, kindNumber, detailNumber, wordsOf, PlaceOf, TokenWords};
 
 // The place of the first byte at which no well-formed sequence begins, or the text length.
 #[no_mangle]
