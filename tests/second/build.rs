@@ -1,6 +1,12 @@
-//! Prints the link lines for the verified token archive, only when asked for.
+//! Links each comparison with its verified archive, only when asked for.
+//! Both archives hold the code of the tokens, so no program links the two.
 
 use std::env;
+
+const ARCHIVES: [(&str, &str); 2] = [
+    ("compare_tokens", "libtoken_c.a"),
+    ("compare_readings", "libcapi.a"),
+];
 
 fn main() {
     println!("cargo:rerun-if-changed=build.rs");
@@ -9,8 +15,9 @@ fn main() {
         return;
     }
     let dir = env::var("MUON_LIB_DIR")
-        .expect("feature `staticlib` needs MUON_LIB_DIR, the directory of libtoken_c.a");
-    println!("cargo:rerun-if-changed={dir}/libtoken_c.a");
-    println!("cargo:rustc-link-search=native={dir}");
-    println!("cargo:rustc-link-lib=static=token_c");
+        .expect("feature `staticlib` needs MUON_LIB_DIR, the directory of the archives");
+    for (program, archive) in ARCHIVES {
+        println!("cargo:rerun-if-changed={dir}/{archive}");
+        println!("cargo:rustc-link-arg-bin={program}={dir}/{archive}");
+    }
 }

@@ -15,4 +15,5 @@ pub mod SameSteps
 pub mod Levels
 pub mod FirstNewer
 pub mod Compared
+pub mod NodeLaws
 pub mod Examples

@@ -4,5 +4,8 @@ pub mod First
 pub mod Unique
 pub mod Decide
 pub mod Stands
+pub mod At
+pub mod Same
 pub mod Exists
 pub mod Agree
+pub mod Depth

@@ -23,7 +23,7 @@ one-level second second = refl
 
 module _ (sizes : Sizes) (bytes lent : List ℕ) where
   -- the tree of an accepted text is one
-  one-tree : {a b : Level} {v w : Value} → a ≡ b → Accepted sizes bytes lent a v → Accepted sizes bytes lent b w → v ≡ w
+  pub one-tree : {a b : Level} {v w : Value} → a ≡ b → Accepted sizes bytes lent a v → Accepted sizes bytes lent b w → v ≡ w
   one-tree {a} {b} {v} {w} e x y =
       oneTree v w (one-passing bytes sizes b (subst (λ (l : Level). AllPassed sizes l bytes (yieldValue v [])) e (x .passed)) (y .passed))
 

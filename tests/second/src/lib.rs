@@ -5,12 +5,13 @@
 //! papers' own wording over speed: every token rule is tried at a place and
 //! the longest match is taken.
 //!
-//! `cargo test --offline` runs the papers' texts.  The comparison with the
-//! verified tokens needs the directory of `libtoken_c.a`:
+//! `cargo test --offline` runs the papers' texts.  The comparisons with the
+//! verified code need the directory of `libtoken_c.a` or of `libcapi.a`:
 //! `MUON_LIB_DIR=... cargo run --release --offline --features staticlib
-//! --bin compare_tokens`.
+//! --bin compare_tokens`, or `--bin compare_readings`.
 
 pub mod answer;
+pub mod compare;
 pub mod front;
 pub mod generate;
 pub mod listing;

@@ -3,6 +3,7 @@
 //!
 //! Exits with 1 at the first disagreement.
 
+use second::compare::{finish, same, Compared, Difference};
 use second::generate::{long_texts, texts};
 use second::token::{self, Lexed};
 use second::{front, samples, utf8};
@@ -49,22 +50,6 @@ struct Counts {
     texts: usize,
     tokens: usize,
     slowest: Duration,
-}
-
-/// A disagreement, ready to be printed.
-struct Difference(String);
-
-type Compared = Result<(), Difference>;
-
-fn same<T: PartialEq + std::fmt::Debug>(what: &str, text: &[u8], ours: T, theirs: T) -> Compared {
-    if ours == theirs {
-        return Ok(());
-    }
-    Err(Difference(format!(
-        "{what} of b\"{}\" ({} bytes)\n  second:  {ours:?}\n  archive: {theirs:?}",
-        text.escape_ascii(),
-        text.len()
-    )))
 }
 
 impl Counts {
@@ -182,18 +167,6 @@ fn main() -> ExitCode {
         tokens,
         slowest,
     } = counts;
-    match outcome {
-        Ok(()) => {
-            println!(
-                "compare_tokens: {texts} texts, {tokens} tokens, slowest long text {slowest:?}: \
-                 all agree"
-            );
-            ExitCode::SUCCESS
-        }
-        Err(Difference(report)) => {
-            println!("compare_tokens: disagreement after {texts} texts, {tokens} tokens");
-            println!("{report}");
-            ExitCode::FAILURE
-        }
-    }
+    let compared = format!("{texts} texts, {tokens} tokens, slowest long text {slowest:?}");
+    finish("compare_tokens", &compared, outcome)
 }

@@ -8,8 +8,7 @@ mod random;
 
 pub use grammar::Made;
 pub use long::long_texts;
-
-use random::Random;
+pub use random::Random;
 
 /// `n` texts of three families in turn: noise, grammar-made, damaged.
 pub fn texts(seed: u64, n: usize) -> Vec<Vec<u8>> {

@@ -1,0 +1,37 @@
+-- The answer of `integer`, number, place, count and value for every piece: 01, 'Table of refusals', 'The value calls test 2, 3, 9, 5,
+-- then 10 or 8'. An Integer has no bad value. Assumes nothing.
+use mathlib.Core.List.{List}
+use Prim.Native.Nat.{ℕ, suc, _-_, _≤_, _<_, _^_}
+use lib.IntN.{ℤ, pos, negsuc}
+use lib.ListN.{length}
+use Rattle.rules.specs.Rule.{Takes}
+use Rattle.lexicon.specs.Utf8.{WellFormed, BadAt}
+use Rattle.lexicon.specs.Literals.{integer}
+use Rattle.lexicon.specs.Values.{IntegerOf}
+use Rattle.reading.specs.Sizes.{Sizes}
+use Rattle.integer_value.specs.declared.integer.IntegerAnswer.{IntegerAnswer}
+
+-- −2^63 to 2^63 − 1, where `negsuc n` is −(n + 1)
+abbrev pub Within : ℤ → Type 0
+Within (pos n) = n ≤ 2 ^ 63 - 1
+Within (negsuc n) = suc n ≤ 2 ^ 63
+
+-- number, place and value; the count of an Integer is 0
+abbrev pub answer : ℕ → ℕ → ℤ → IntegerAnswer
+answer n p z = record { number = n; place = p; count = 0; value = z }
+
+-- 01: 'A refused Integer has value 0'
+abbrev pub refusal : ℕ → ℕ → IntegerAnswer
+refusal n p = answer n p (pos 0)
+
+-- the piece is exactly one Integer literal, from byte 0 to its end
+abbrev pub Exactly : List ℕ → Type 0
+Exactly piece = Takes piece integer 0 (length piece)
+
+module _ (sizes : Sizes) (piece : List ℕ) where
+  pub data IntegerAnswers : IntegerAnswer → Type 0 where
+    tooLong : sizes .text < length piece → IntegerAnswers (refusal 2 0)
+    notUtf8 : {p : ℕ} → length piece ≤ sizes .text → BadAt piece p → IntegerAnswers (refusal 3 p)
+    notInteger : length piece ≤ sizes .text → WellFormed piece → (Exactly piece → ⊥) → IntegerAnswers (refusal 9 0)
+    outside : {z : ℤ} → length piece ≤ sizes .text → WellFormed piece → Exactly piece → IntegerOf piece 0 (length piece) z → (Within z → ⊥) → IntegerAnswers (refusal 10 0)
+    accepted : {z : ℤ} → length piece ≤ sizes .text → WellFormed piece → Exactly piece → IntegerOf piece 0 (length piece) z → Within z → IntegerAnswers (answer 0 (length piece) z)

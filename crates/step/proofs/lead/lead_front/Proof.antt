@@ -1,0 +1,39 @@
+-- `step::lead::lead_front` meets its contract, arm by arm.
+-- Assumes nothing.
+use mathlib.Core.Path.{ap, sym, _∙_}
+use Rattle.moves.proofs.Model as Model
+use Rattle.step.proofs.lead.lead_front.Statement.{statement}
+use Rattle.step.proofs.lead.lead_front.Tie as tie
+
+enum-told : tie.Need-enum-told
+enum-told c = c .match .keys1
+
+curly-requires : tie.Need-curly-requires
+curly-requires c κs = tt
+
+enum-told-2 : tie.Need-enum-told-2
+enum-told-2 c = c .match .keys2
+
+enum-told-3 : tie.Need-enum-told-3
+enum-told-3 c = c .match .keys3
+
+returns : tie.Need-returns
+returns c = let a = c .before .before .before .args in c .curly .ensures ∙ ap (Model.leadFront (a .style)) (sym (c .before .enum-told .given .1))
+
+returns-2 : tie.Need-returns-2
+returns-2 c = let a = c .before .before .args in ap (Model.leadFront (a .style)) (sym (c .enum-told2 .given .1))
+
+returns-3 : tie.Need-returns-3
+returns-3 c = let a = c .before .before .args in ap (Model.leadFront (a .style)) (sym (c .enum-told3 .given .1))
+
+pub lead-front-spec : {M : Type 1} → statement M
+lead-front-spec =
+    tie.close
+    (tie.spec
+    enum-told
+    curly-requires
+    enum-told-2
+    enum-told-3
+    returns
+    returns-2
+    returns-3)

@@ -1,0 +1,42 @@
+-- `step::lead::lead_star` meets its contract, arm by arm.
+-- Assumes nothing.
+use mathlib.Core.Path.{ap, sym, _∙_}
+use Rattle.moves.specs.declared.SquareFrame.{SquareFrame}
+use Rattle.moves.proofs.Model as Model
+use Rattle.step.proofs.lead.lead_star.Statement.{statement}
+use Rattle.step.proofs.lead.lead_star.Tie as tie
+
+enum-told : tie.Need-enum-told
+enum-told c = c .match .keys1
+
+star-first-requires : tie.Need-star-first-requires
+star-first-requires c κs = tt
+
+enum-told-2 : tie.Need-enum-told-2
+enum-told-2 c = c .match .keys2
+
+enum-told-3 : tie.Need-enum-told-3
+enum-told-3 c = c .match .keys3
+
+returns : tie.Need-returns
+returns c =
+    let a = c .before .before .before .args in
+    c .star-first .ensures ∙ ap (λ (x : SquareFrame). Model.leadStar x (a .low) (a .high)) (sym (c .before .enum-told .given .1))
+
+returns-2 : tie.Need-returns-2
+returns-2 c = let a = c .before .before .args in ap (λ (x : SquareFrame). Model.leadStar x (a .low) (a .high)) (sym (c .enum-told2 .given .1))
+
+returns-3 : tie.Need-returns-3
+returns-3 c = let a = c .before .before .args in ap (λ (x : SquareFrame). Model.leadStar x (a .low) (a .high)) (sym (c .enum-told3 .given .1))
+
+pub lead-star-spec : {M : Type 1} → statement M
+lead-star-spec =
+    tie.close
+    (tie.spec
+    enum-told
+    star-first-requires
+    enum-told-2
+    enum-told-3
+    returns
+    returns-2
+    returns-3)

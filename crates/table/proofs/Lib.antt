@@ -1,0 +1,4 @@
+-- Laws of what is written.
+pub mod Words
+pub mod Stores
+pub mod Written

@@ -1,0 +1,94 @@
+-- Words written over others, by pieces and one by one, and the words of nodes. Assumes nothing.
+use mathlib.Core.Path.{_≡_, refl, sym, ap, _∙_}
+use mathlib.Core.List.{List, [], _∷_, _++_, append-assoc}
+use Prim.Native.Nat.{ℕ, zero, suc, _+_, _*_, _≤_, _<_}
+use native.Mathlib.Omega.{arith}
+use lib.ListN.{length, set, drop, length-append}
+use Rattle.grammar.specs.Nodes.{Node, Role, words, nodeWords, tableWords, roleNumber}
+use Rattle.moves.proofs.Means.{roled}
+use Rattle.table.specs.Over.{over, roleWord}
+
+pub over-length : (t : List ℕ) (k : ℕ) (ws : List ℕ) → length (over t k ws) ≡ length t
+over-length [] k ws = refl
+over-length (x ∷ t) zero [] = refl
+over-length (x ∷ t) zero (w ∷ ws) = ap suc (over-length t zero ws)
+over-length (x ∷ t) (suc k) ws = ap suc (over-length t k ws)
+
+pub over-nothing : (t : List ℕ) (k : ℕ) → over t k [] ≡ t
+over-nothing [] k = refl
+over-nothing (x ∷ t) zero = refl
+over-nothing (x ∷ t) (suc k) = ap (λ (l : List ℕ). x ∷ l) (over-nothing t k)
+
+-- the first word last
+pub over-first : (t : List ℕ) (k j w : ℕ) (ws : List ℕ) → j ≡ k + 1 → over t k (w ∷ ws) ≡ set (over t j ws) k w
+over-first [] k j w ws e = refl
+over-first (x ∷ t) k zero w ws e = absurd (omega arith)
+over-first (x ∷ t) zero (suc j) w ws e = ap (λ (m : ℕ). w ∷ over t m ws) (omega arith)
+over-first (x ∷ t) (suc k) (suc j) w ws e = ap (λ (l : List ℕ). x ∷ l) (over-first t k j w ws (omega arith))
+
+-- two pieces, the front first
+pub over-append : (t : List ℕ) (k j : ℕ) (ws vs : List ℕ) → j ≡ k + length ws → over t k (ws ++ vs) ≡ over (over t k ws) j vs
+over-append [] k j ws vs e = refl
+over-append (x ∷ t) zero zero [] vs e = refl
+over-append (x ∷ t) zero (suc j) [] vs e = absurd (omega arith)
+over-append (x ∷ t) zero zero (w ∷ ws) vs e = absurd (omega arith)
+over-append (x ∷ t) zero (suc j) (w ∷ ws) vs e = ap (λ (l : List ℕ). w ∷ l) (over-append t zero j ws vs (omega arith))
+over-append (x ∷ t) (suc k) zero ws vs e = absurd (omega arith)
+over-append (x ∷ t) (suc k) (suc j) ws vs e = ap (λ (l : List ℕ). x ∷ l) (over-append t k j ws vs (omega arith))
+
+-- pieces that lie apart, in either order
+pub over-swap : (t : List ℕ) (k j : ℕ) (ws vs : List ℕ) → k + length ws ≤ j → over (over t j vs) k ws ≡ over (over t k ws) j vs
+over-swap [] k j ws vs h = refl
+over-swap (x ∷ t) zero j [] vs h = over-nothing (over (x ∷ t) j vs) zero
+over-swap (x ∷ t) zero zero (w ∷ ws) vs h = absurd (omega arith)
+over-swap (x ∷ t) zero (suc j) (w ∷ ws) vs h = ap (λ (l : List ℕ). w ∷ l) (over-swap t zero j ws vs (omega arith))
+over-swap (x ∷ t) (suc k) zero ws vs h = absurd (omega arith)
+over-swap (x ∷ t) (suc k) (suc j) ws vs h = ap (λ (l : List ℕ). x ∷ l) (over-swap t k j ws vs (omega arith))
+
+-- one of the words, changed
+pub over-set : (t : List ℕ) (k j m v : ℕ) (ws : List ℕ) → j ≡ k + m → m < length ws → set (over t k ws) j v ≡ over t k (set ws m v)
+over-set [] k j m v ws e h = refl
+over-set (x ∷ t) zero j m v [] e h = absurd (omega arith)
+over-set (x ∷ t) zero zero zero v (w ∷ ws) e h = refl
+over-set (x ∷ t) zero zero (suc m) v (w ∷ ws) e h = absurd (omega arith)
+over-set (x ∷ t) zero (suc j) zero v (w ∷ ws) e h = absurd (omega arith)
+over-set (x ∷ t) zero (suc j) (suc m) v (w ∷ ws) e h = ap (λ (l : List ℕ). w ∷ l) (over-set t zero j m v ws (omega arith) (omega arith))
+over-set (x ∷ t) (suc k) zero m v ws e h = absurd (omega arith)
+over-set (x ∷ t) (suc k) (suc j) m v ws e h = ap (λ (l : List ℕ). x ∷ l) (over-set t k j m v ws (omega arith) h)
+
+-- from the start on
+pub over-start : (t ws : List ℕ) (n : ℕ) → n ≡ length ws → n ≤ length t → over t zero ws ≡ ws ++ drop n t
+over-start [] [] zero e h = refl
+over-start [] [] (suc n) e h = absurd (omega arith)
+over-start [] (w ∷ ws) n e h = absurd (omega arith)
+over-start (x ∷ t) [] zero e h = refl
+over-start (x ∷ t) [] (suc n) e h = absurd (omega arith)
+over-start (x ∷ t) (w ∷ ws) zero e h = absurd (omega arith)
+over-start (x ∷ t) (w ∷ ws) (suc n) e h = ap (λ (l : List ℕ). w ∷ l) (over-start t ws n (omega arith) (omega arith))
+
+set-behind : (a b : List ℕ) (j m v : ℕ) → j ≡ length a + m → set (a ++ b) j v ≡ a ++ set b m v
+set-behind [] b j m v e = ap (λ (n : ℕ). set b n v) (omega arith)
+set-behind (x ∷ a) b zero m v e = absurd (omega arith)
+set-behind (x ∷ a) b (suc j) m v e = ap (λ (l : List ℕ). x ∷ l) (set-behind a b j m v (omega arith))
+
+-- ---- the words of nodes
+
+pub tableWords-length : (ns : List Node) → length (tableWords ns) ≡ length ns * nodeWords
+tableWords-length [] = refl
+tableWords-length (n ∷ ns) = omega (arith, length-append (words n) (tableWords ns), tableWords-length ns)
+
+pub tableWords-append : (ns ms : List Node) → tableWords (ns ++ ms) ≡ tableWords ns ++ tableWords ms
+tableWords-append [] ms = refl
+tableWords-append (n ∷ ns) ms = ap (λ (l : List ℕ). words n ++ l) (tableWords-append ns ms) ∙ sym (append-assoc (words n) (tableWords ns) (tableWords ms))
+
+pub roled-length : (r : Role) (ns : List Node) → length (roled r ns) ≡ length ns
+roled-length r [] = refl
+roled-length r (n ∷ ns) = refl
+
+pub roled-words : (r : Role) (ns ms : List Node) (j : ℕ) → 1 ≤ length ms → j ≡ length ns * nodeWords + roleWord →
+    set (tableWords (ns ++ ms)) j (roleNumber r) ≡ tableWords (ns ++ roled r ms)
+roled-words r [] [] j h e = absurd (omega arith)
+roled-words r [] (n ∷ ms) j h e = ap (λ (m : ℕ). set (tableWords (n ∷ ms)) m (roleNumber r)) e
+roled-words r (n ∷ ns) ms j h e =
+    set-behind (words n) (tableWords (ns ++ ms)) j (length ns * nodeWords + roleWord) (roleNumber r) (omega arith)
+    ∙ ap (λ (l : List ℕ). words n ++ l) (roled-words r ns ms (length ns * nodeWords + roleWord) h refl)

@@ -1,0 +1,2 @@
+-- Nodes in the lent table.
+pub mod Over

@@ -1,0 +1,9 @@
+-- The laws of the readers.
+pub mod Bounds
+pub mod Looking
+pub mod Beginning
+pub mod Leaves
+pub mod Nestings
+pub mod Turns
+pub mod Readings
+pub mod Wholes

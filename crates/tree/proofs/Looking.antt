@@ -1,0 +1,189 @@
+-- The answers of looks at the next tokens, taken apart: a head and the forms of a level. Assumes nothing.
+use mathlib.Core.Path.{_≡_, refl, sym, ap, subst, _∙_}
+use mathlib.Core.Logic.{⊎-elim}
+use mathlib.Core.Bool.{Bool, true, false, false≢true}
+use mathlib.Core.List.{List}
+use Prim.Native.Nat.{ℕ}
+use Rattle.rules.specs.Test.{Says}
+use Rattle.rules.proofs.Bools.{clash}
+use Rattle.lexicon.specs.declared.Head.{Head}
+use Rattle.lexicon.specs.declared.Form.the-variants as Form
+use Rattle.lexicon.specs.declared.Kind.{Kind}
+use Rattle.lexicon.specs.declared.Kind.the-variants as Kind
+use Rattle.lexicon.specs.declared.Token as Token
+use Rattle.lexicon.specs.declared.Next.{Next}
+use Rattle.lexicon.specs.declared.Next.the-variants as Next
+use Rattle.lexicon.specs.Token.{Comes}
+use Rattle.grammar.specs.Tokens
+use Rattle.grammar.specs.Tokens.{Class, classKind}
+use Rattle.grammar.specs.Level.{Feature, Level, hasHead, level1, level2, arrays, sets, bags, intervals, leftArrows}
+use Rattle.reading.specs.Answers.{LevelOf, first, second}
+use Rattle.reading.proofs.Rows.{pick, no-end, no-none}
+use Rattle.moves.specs.declared.Forms.{Forms}
+use Rattle.moves.specs.declared.Style.{Style}
+use Rattle.moves.proofs.Means.{levelOf}
+use Rattle.tree.specs.declared.answer.Got.{Got}
+use Rattle.tree.specs.declared.answer.Got.the-variants as Got
+use Rattle.tree.specs.declared.head.HeadWord.{HeadWord}
+use Rattle.tree.specs.declared.head.HeadWord.the-variants as HeadWord
+use Rattle.tree.specs.declared.head.Headed.{Headed}
+use Rattle.tree.specs.declared.head.Headed.the-variants as Headed
+use Rattle.tree.specs.declared.level.Collection.{Collection}
+use Rattle.tree.specs.declared.level.Collection.the-variants as Collection
+use Rattle.tree.specs.Looks.{Gets, HeadHere, NoHead, Heads, Collects, IsHeadWord, ClosesAt, isClose}
+
+-- ---- levels
+
+-- a level by its number and its forms
+level-same : {n m : ℕ} {l k : Level} → n ≡ m → ((f : Feature) → l f ≡ k f) → LevelOf m l → LevelOf n k
+level-same {n} {m} {l} {k} e h x = subst (λ (y : ℕ). LevelOf y k) (sym e) (subst (λ (y : Level). LevelOf m y) (λ i f. h f i) x)
+
+pub first-level : {n : ℕ} → n ≡ 1 → LevelOf n (levelOf (record { arrays = false; sets = false; bags = false; intervals = false; leftward = true }))
+first-level e = level-same e by first
+  where
+    by : (f : Feature) → level1 f ≡ levelOf (record { arrays = false; sets = false; bags = false; intervals = false; leftward = true }) f
+    by arrays = refl
+    by sets = refl
+    by bags = refl
+    by intervals = refl
+    by leftArrows = refl
+
+pub second-level : {n : ℕ} → n ≡ 2 → LevelOf n (levelOf (record { arrays = true; sets = true; bags = true; intervals = true; leftward = true }))
+second-level e = level-same e by second
+  where
+    by : (f : Feature) → level2 f ≡ levelOf (record { arrays = true; sets = true; bags = true; intervals = true; leftward = true }) f
+    by arrays = refl
+    by sets = refl
+    by bags = refl
+    by intervals = refl
+    by leftArrows = refl
+
+pub no-level : {n : ℕ} → (n ≡ 1 → ⊥) → (n ≡ 2 → ⊥) → (l : Level) → LevelOf n l → ⊥
+no-level a b l first = a refl
+no-level a b l second = b refl
+
+pub collects : (forms : Forms) (h : Head) {r : Collection} {style : Style} → r ≡ Collection.Of style → Collects forms h r →
+    Collects forms h (Collection.Of style)
+collects forms h e x = subst (λ (y : Collection). Collects forms h y) e x
+
+pub lacks : (forms : Forms) (h : Head) {r : Collection} → r ≡ Collection.Nothing → Collects forms h r → hasHead (levelOf forms) h ≡ false
+lacks forms h e x = subst (λ (y : Collection). Collects forms h y) e x
+
+-- ---- kinds
+
+abbrev bare : Kind → Bool
+bare Kind.Ignorance = false
+bare (Kind.Boolean b) = false
+bare (Kind.Integer b) = false
+bare Kind.Fraction = false
+bare Kind.Bits = false
+bare Kind.Blob = false
+bare (Kind.Text Form.Quoted) = false
+bare (Kind.Text Form.Word) = false
+bare (Kind.Text (Form.HeadWord h)) = true
+bare (Kind.Text Form.CodePoint) = false
+bare Kind.Later = false
+bare (Kind.Symbol s) = false
+bare Kind.Colon = false
+bare Kind.TwoColons = false
+
+pub not-bare : {k : Kind} (j : Kind) → k ≡ j → bare j ≡ false → IsHeadWord k HeadWord.Nothing
+not-bare j e f h g = clash (ap bare (sym e ∙ g)) f
+
+pub word-is : (k : Kind) {w : HeadWord} {h : Head} → w ≡ HeadWord.Is h → IsHeadWord k w → k ≡ Kind.Text (Form.HeadWord h)
+word-is k e x = subst (λ (y : HeadWord). IsHeadWord k y) e x
+
+pub word-none : (k : Kind) {w : HeadWord} → w ≡ HeadWord.Nothing → IsHeadWord k w → (h : Head) → k ≡ Kind.Text (Form.HeadWord h) → ⊥
+word-none k e x = subst (λ (y : HeadWord). IsHeadWord k y) e x
+
+abbrev colon : Kind → Bool
+colon Kind.Ignorance = false
+colon (Kind.Boolean b) = false
+colon (Kind.Integer b) = false
+colon Kind.Fraction = false
+colon Kind.Bits = false
+colon Kind.Blob = false
+colon (Kind.Text f) = false
+colon Kind.Later = false
+colon (Kind.Symbol s) = false
+colon Kind.Colon = true
+colon Kind.TwoColons = false
+
+pub not-colon : {k : Kind} (j : Kind) → k ≡ j → colon j ≡ false → Says false (k ≡ Kind.Colon)
+not-colon j e f = record { true-holds = λ x. absurd (false≢true x); holds-true = λ x. absurd (clash (ap colon (sym e ∙ x)) f) }
+
+pub is-colon : {k : Kind} → k ≡ Kind.Colon → Says true (k ≡ Kind.Colon)
+is-colon e = record { true-holds = λ x. e; holds-true = λ x. refl }
+
+-- ---- tokens
+
+module _ (text : List ℕ) (at : ℕ) where
+  pub comes-so : {a : Next} (b : Next) → a ≡ b → Comes text at a → Comes text at b
+  comes-so b e k = subst (λ (x : Next). Comes text at x) e k
+
+  pub got-token : {g : Got} {t : Token.Token} → g ≡ Got.Token t → Gets text at g → Comes text at (Next.Token t)
+  got-token e k = subst (λ (x : Got). Gets text at x) e k
+
+  pub got-none : {g : Got} {n q : ℕ} → g ≡ Got.Refused n q → Gets text at g → (t : Token.Token) → Comes text at (Next.Token t) → ⊥
+  got-none e k t c = ⊎-elim (λ x. no-none text at c (x .1)) (λ x. no-end text at c (x .1)) (subst (λ (x : Got). Gets text at x) e k)
+
+  -- ---- heads
+
+  -- no token, or none that is a head word
+  pub headless : ((t : Token.Token) → Comes text at (Next.Token t) → (h : Head) → t .kind ≡ Kind.Text (Form.HeadWord h) → ⊥) → NoHead text at
+  headless f = record { none = λ h end w. f (w .word) (w .comes) h (w .word-is) }
+
+  pub no-word : {t : Token.Token} → Comes text at (Next.Token t) → ((h : Head) → t .kind ≡ Kind.Text (Form.HeadWord h) → ⊥) → NoHead text at
+  no-word {t} c f = headless (λ u k h e. f h (ap (λ (x : Token.Token). x .kind) (pick text c k) ∙ e))
+
+  -- no token behind the word, or no colon
+  pub no-sign : {t : Token.Token} → Comes text at (Next.Token t) →
+      ((u : Token.Token) → Comes text (t .end) (Next.Token u) → u .kind ≡ Kind.Colon → ⊥) → NoHead text at
+  no-sign {t} c f =
+      record {
+        none = λ h end w. f (w .sign) (subst (λ (x : Token.Token). Comes text (x .end) (Next.Token (w .sign))) (pick text (w .comes) c) (w .then)) (w .sign-is);
+      }
+
+  pub no-colon : {t u : Token.Token} → Comes text at (Next.Token t) → Comes text (t .end) (Next.Token u) → (u .kind ≡ Kind.Colon → ⊥) → NoHead text at
+  no-colon c d f = no-sign c (λ w k e. f (ap (λ (x : Token.Token). x .kind) (pick text d k) ∙ e))
+
+  pub head-here : {t u : Token.Token} {h : Head} → Comes text at (Next.Token t) → t .kind ≡ Kind.Text (Form.HeadWord h) →
+      Comes text (t .end) (Next.Token u) → u .kind ≡ Kind.Colon → HeadHere text at h (u .end)
+  head-here {t} {u} c e d f = record { word = t; comes = c; word-is = e; sign = u; then = d; sign-is = f; end-is = refl }
+
+  pub headed-at : {r : Headed} {h : Head} {end : ℕ} → r ≡ Headed.At h end → Heads text at r → HeadHere text at h end
+  headed-at e x = subst (λ (y : Headed). Heads text at y) e x
+
+  pub headed-none : {r : Headed} → r ≡ Headed.Nothing → Heads text at r → NoHead text at
+  headed-none e x = subst (λ (y : Headed). Heads text at y) e x
+
+-- ---- `)`
+
+close-class : (k : Class) → isClose k ≡ true → k ≡ Tokens.mark Tokens.roundClose
+close-class (Tokens.atom a) e = absurd (false≢true e)
+close-class (Tokens.text w) e = absurd (false≢true e)
+close-class Tokens.names e = absurd (false≢true e)
+close-class Tokens.round e = absurd (false≢true e)
+close-class Tokens.curly e = absurd (false≢true e)
+close-class Tokens.square e = absurd (false≢true e)
+close-class (Tokens.mark Tokens.roundClose) e = refl
+close-class (Tokens.mark Tokens.curlyClose) e = absurd (false≢true e)
+close-class (Tokens.mark Tokens.squareClose) e = absurd (false≢true e)
+close-class (Tokens.mark Tokens.comma) e = absurd (false≢true e)
+close-class (Tokens.mark Tokens.colon) e = absurd (false≢true e)
+close-class (Tokens.mark Tokens.rightArrow) e = absurd (false≢true e)
+close-class (Tokens.mark Tokens.leftArrow) e = absurd (false≢true e)
+close-class (Tokens.mark Tokens.dots) e = absurd (false≢true e)
+close-class (Tokens.mark (Tokens.star a c)) e = absurd (false≢true e)
+close-class Tokens.later e = absurd (false≢true e)
+
+pub none-closes : (text : List ℕ) (at : ℕ) (g : Got) {n q : ℕ} → Gets text at g → g ≡ Got.Refused n q → Says false (ClosesAt text at)
+none-closes text at g x e = record { true-holds = λ y. absurd (false≢true y); holds-true = λ y. absurd (got-none text at e x (y .sign) (y .comes)) }
+
+pub closes-said : (text : List ℕ) (at : ℕ) (g : Got) (t : Token.Token) {r : Bool} → Gets text at g → g ≡ Got.Token t → r ≡ isClose (classKind (t .kind)) → Says r (ClosesAt text at)
+closes-said text at g t x e q =
+    let k = got-token text at e x in
+    record {
+      true-holds = λ y. record { sign = t; comes = k; sign-is = close-class (classKind (t .kind)) (sym q ∙ y) };
+      holds-true = λ y. q ∙ ap (λ (u : Token.Token). isClose (classKind (u .kind))) (pick text k (y .comes)) ∙ ap isClose (y .sign-is);
+    }

@@ -1,0 +1,178 @@
+-- A whole text: from the value's reading to the answer. Assumes nothing.
+use mathlib.Core.Path.{_≡_, refl, sym, ap, subst, _∙_}
+use mathlib.Core.Logic.{_⊎_, inl, inr}
+use mathlib.Core.List.{List, [], _∷_, _++_}
+use mathlib.Core.Option.{Option, none, some}
+use Prim.Native.Nat.{ℕ, _+_, _*_, _/_, min, _≤_, _<_}
+use native.Mathlib.Omega.{arith}
+use lib.ListN.{length, drop}
+use Rattle.lexicon.specs.declared.Kind.{Kind}
+use Rattle.lexicon.specs.declared.Kind.the-variants as Kind
+use Rattle.lexicon.specs.declared.Token as Token
+use Rattle.lexicon.specs.declared.Next.{Next}
+use Rattle.lexicon.specs.declared.Next.the-variants as Next
+use Rattle.lexicon.specs.declared.Encoding.{Encoding}
+use Rattle.lexicon.specs.declared.Encoding.the-variants as Encoding
+use Rattle.lexicon.specs.Utf8.{WellFormed, BadAt, Encoded}
+use Rattle.lexicon.specs.Front.{Front}
+use Rattle.lexicon.specs.Token.{Comes}
+use Rattle.grammar.specs.Tokens
+use Rattle.grammar.specs.Tokens.{Span, Class, classKind}
+use Rattle.grammar.specs.Tree.{Value}
+use Rattle.grammar.specs.Level.{Level}
+use Rattle.grammar.specs.Nodes.{Node, table, tableWords, nodeWords}
+use Rattle.grammar.proofs.Frames.{Config, Stack, want, have, namesOf}
+use Rattle.grammar.proofs.Machine.{haveClass, namesGo}
+use Rattle.reading.specs.declared.Answer.{Answer}
+use Rattle.reading.specs.Sizes.{base, room}
+use Rattle.reading.specs.Tokens.{seen}
+use Rattle.reading.specs.Answers.{LevelOf, Accepted, Answers, answer, noLevel, tooLong, notUtf8, faulty, noRoom, accepted}
+use Rattle.reading.proofs.First.{all-or-fault}
+use Rattle.reading.proofs.Unique.{one-tree}
+use Rattle.reading.proofs.At as At
+use Rattle.reading.proofs.At.{class-kind, at-start, none-here, not-here, not-wanting}
+use Rattle.moves.specs.declared.Forms.{Forms}
+use Rattle.moves.specs.declared.Shape.{Shape}
+use Rattle.moves.proofs.Means.{levelOf}
+use Rattle.table.specs.Over.{Written}
+use Rattle.table.proofs.Written.{written-whole}
+use Rattle.tree.specs.declared.answer.Read.{Read}
+use Rattle.tree.specs.declared.answer.Read.the-variants as Read
+use Rattle.tree.specs.declared.answer.Got.{Got}
+use Rattle.tree.specs.declared.answer.Got.the-variants as Got
+use Rattle.tree.specs.declared.level.Leveled.{Leveled}
+use Rattle.tree.specs.declared.level.Leveled.the-variants as Leveled
+use Rattle.tree.specs.Looks.{Gets, handedOn, LevelFound}
+use Rattle.tree.specs.Readers.{spanOf, Stands, Faulty, Faultless, Stops, Fit, Asks, IsValue, Outcome, Reads}
+use Rattle.tree.specs.Whole.{Behind, further, nothing, atEnd, Whole, JudgedAs, Judged, Told, refusal}
+use Rattle.tree.proofs.Bounds.{token-bounds}
+use Rattle.tree.proofs.Looking.{got-token}
+use Rattle.tree.proofs.Readings.{refused-here}
+
+-- what the room holds are words of the table
+roomy : (n words : ℕ) → n ≤ room base words → n * nodeWords ≤ words
+roomy n words h = omega (arith, h)
+
+-- ---- what stands behind the value
+
+pub behind-token : (text : List ℕ) (at : ℕ) (read : Read) (r : Next) {t : Token.Token} → Comes text at r → r ≡ Next.Token t → Behind text at read (Read.Refused 6 (t .first))
+behind-token text at read r k e = further (subst (λ (x : Next). Comes text at x) e k)
+
+pub behind-none : (text : List ℕ) (at : ℕ) (read : Read) (r : Next) {q : ℕ} → Comes text at r → r ≡ Next.NoToken q → Behind text at read (Read.Refused 4 q)
+behind-none text at read r k e = nothing (subst (λ (x : Next). Comes text at x) e k)
+
+pub behind-end : (text : List ℕ) (at : ℕ) (read : Read) (r : Next) {q : ℕ} → Comes text at r → r ≡ Next.End q → Behind text at read read
+behind-end text at read r k e = atEnd (subst (λ (x : Next). Comes text at x) e k)
+
+-- no token goes on with the value of a text
+stuck : (l : Level) (k : Class) (v : Value) (s : Span) → (k ≡ Tokens.names → namesOf v ≡ none) → haveClass l k v s [] ≡ none
+stuck l (Tokens.atom a) v s f = refl
+stuck l (Tokens.text w) v s f = refl
+stuck l Tokens.names v s f = ap (λ n. namesGo n s []) (f refl)
+stuck l Tokens.round v s f = refl
+stuck l Tokens.curly v s f = refl
+stuck l Tokens.square v s f = refl
+stuck l (Tokens.mark m) v s f = refl
+stuck l Tokens.later v s f = refl
+
+pub whole-fit : (text : List ℕ) {p : ℕ} {t : Token.Token} → Comes text p (Next.Token t) → length text ≤ base .text → Fit text t 0 0 × (0 ≤ t .first)
+whole-fit text k h =
+    let y = token-bounds text k in
+    (record { short = h; some-byte = y .1; inside-text = y .2; index-fits = omega arith; parent-fits = omega arith }, omega arith)
+
+module _ (text : List ℕ) (forms : Forms) where
+  -- an accepted text has no fault
+  accepted-faultless : {lent : List ℕ} {v : Value} → Accepted base text lent (levelOf forms) v → Faultless text forms
+  accepted-faultless a n q f = all-or-fault text base (levelOf forms) (a .passed) f
+
+  -- ---- the value of a text
+
+  module _ {lent left : List ℕ} {p : ℕ} (f : Front text p) (g : Got) (x : Gets text p g) where
+    pub whole-missing : {n q : ℕ} (h : Read) → g ≡ Got.Refused n q → h ≡ handedOn g → Judged text forms lent left h
+    whole-missing h e y =
+        subst (Judged text forms lent left) (sym (y ∙ ap handedOn e)) (record { judged = refused-here text forms g (at-start base (levelOf forms) text f) refl x e })
+
+    module _ {t : Token.Token} (e : g ≡ Got.Token t) where
+      module _ (r : Read) (y : Reads text forms 0 t lent left 0 0 r) where
+        value-read : (z : Read) → r ≡ z → Outcome text forms [] t lent left 0 0 z
+        value-read z q =
+            subst (λ (w : Read). Outcome text forms [] t lent left 0 0 w) q
+            (y .outcome [] p (record { stands = at-start base (levelOf forms) text f; comes = got-token text p e x; no-sign = λ m i. refl }))
+
+        pub whole-refused : {n q : ℕ} → r ≡ Read.Refused n q → Judged text forms lent left r
+        whole-refused {n} {q} i = subst (Judged text forms lent left) (sym i) (record { judged = value-read (Read.Refused n q) i })
+
+        pub whole-read : {end n : ℕ} {shape : Shape} (z : Read) → r ≡ Read.Value end n shape → Behind text end (Read.Value end n shape) z → Judged text forms lent left z
+        whole-read {end} {n} {shape} z i b = record { judged = go z b }
+          where
+            v : IsValue text forms [] t end n shape lent left 0 0
+            v = value-read (Read.Value end n shape) i
+
+            go : (w : Read) → Behind text end (Read.Value end n shape) w → JudgedAs text forms lent left w
+            go w (further {t = u} k) =
+                not-here base (levelOf forms) text (v .stands) u k (not-wanting refl)
+                (stuck (levelOf forms) (classKind (u .kind)) (v .tree) (spanOf u) (λ q. v .stops u k (class-kind (u .kind) q)))
+            go w (nothing {q = q} k) = none-here base (levelOf forms) text (v .stands) q k
+            go w (atEnd {q = q} k) =
+                let a : (s : List ℕ) → Accepted base text s (levelOf forms) (v .tree) = λ s. At.accepted base (levelOf forms) text s (v .stands) q k .0 in
+                record { tree = v .tree; accepted = a; count-is = v .count-is; written = v .written (accepted-faultless (a [])) }
+
+  -- ---- the answer
+
+  module _ {lent : List ℕ} (h : length text ≤ base .text) where
+    pub told-refused : {none left' : List ℕ} {n q : ℕ} {r : Answer} (z : Read) → Judged text forms none left' z → z ≡ Read.Refused n q → r ≡ refusal z → Told text forms lent lent r
+    told-refused {none} {left'} {n} {q} z j e i =
+        let f = subst (λ (w : Read). JudgedAs text forms none left' w) e (j .judged) in
+        record { answers = λ number o w. subst (λ (s : Answer). Answers base text lent number s lent) (sym (i ∙ ap refusal e)) (faulty o h w f) }
+
+  module _ {none left' : List ℕ} {end n : ℕ} {shape : Shape} (z : Read) (j : Judged text forms none left' z) (e : z ≡ Read.Value end n shape) where
+    judged-whole : Whole text forms none left' n
+    judged-whole = subst (λ (w : Read). JudgedAs text forms none left' w) e (j .judged)
+
+    module _ {lent : List ℕ} (h : length text ≤ base .text) where
+      pub told-full : {m : ℕ} → m ≡ room base (length lent) → m < n → Told text forms lent lent (answer 8 (length text) n)
+      told-full q l =
+          let v = judged-whole in
+          record {
+            answers = λ number o w.
+                subst (λ (k : ℕ). Answers base text lent number (answer 8 (length text) k) lent) (sym (v .count-is))
+                (noRoom o h w (v .accepted lent) (omega (arith, q, l, v .count-is)));
+          }
+
+      written-as : {m : ℕ} {left : List ℕ} (y : Read) → m ≡ room base (length lent) → n ≤ m → JudgedAs text forms lent left y → Told text forms lent left (answer 0 (length text) n)
+      written-as {m} {left} (Read.Refused k q) i l d = absurd (accepted-faultless (judged-whole .accepted []) k q d)
+      written-as {m} {left} (Read.Value end' k shape') i l d =
+          let v = judged-whole in
+          let same : v .tree ≡ d .tree = one-tree base text lent refl (v .accepted lent) (d .accepted lent) in
+          let fits : n ≤ room base (length lent) = omega (arith, i, l) in
+          let w : left ≡ tableWords (table (v .tree)) ++ drop (nodeWords * length (table (v .tree))) lent =
+          written-whole (subst (λ (t : Value). Written lent left 0 (table t)) (sym same) (d .written)) (roomy (length (table (v .tree))) (length lent) (omega (arith, fits, v .count-is))) in
+          record {
+            answers = λ number o u.
+                subst (λ (s : List ℕ). Answers base text lent number (answer 0 (length text) n) s) (sym w)
+                (subst (λ (c : ℕ). Answers base text lent number (answer 0 (length text) c) (tableWords (table (v .tree)) ++ drop (nodeWords * length (table (v .tree))) lent)) (sym (v .count-is))
+                (accepted o h u (v .accepted lent) (omega (arith, fits, v .count-is))));
+          }
+
+      pub told-written : {m : ℕ} {left : List ℕ} (y : Read) → m ≡ room base (length lent) → n ≤ m → Judged text forms lent left y → Told text forms lent left (answer 0 (length text) n)
+      told-written y i l d = written-as y i l (d .judged)
+
+-- ---- the tests over the whole text
+
+module _ (text lent : List ℕ) (number : ℕ) (l : Leveled) (x : LevelFound number l) where
+  pub read-no-level : {r : Answer} → l ≡ Leveled.Nothing → r ≡ answer 1 0 0 → Answers base text lent number r lent
+  read-no-level e q = subst (λ (s : Answer). Answers base text lent number s lent) (sym q) (noLevel (subst (λ (y : Leveled). LevelFound number y) e x))
+
+  module _ {forms : Forms} (e : l ≡ Leveled.Has forms) where
+    of-level : LevelOf number (levelOf forms)
+    of-level = subst (λ (y : Leveled). LevelFound number y) e x
+
+    pub read-long : {r : Answer} → base .text < length text → r ≡ answer 2 0 0 → Answers base text lent number r lent
+    read-long h q = subst (λ (s : Answer). Answers base text lent number s lent) (sym q) (tooLong of-level h)
+
+    module _ (h : length text ≤ base .text) (c : Encoding) (y : Encoded text c) where
+      pub read-bad : {p : ℕ} {r : Answer} → c ≡ Encoding.BadAt p → r ≡ answer 3 p 0 → Answers base text lent number r lent
+      read-bad i q = subst (λ (s : Answer). Answers base text lent number s lent) (sym q) (notUtf8 of-level h (subst (λ (z : Encoding). Encoded text z) i y))
+
+      pub read-told : {left : List ℕ} {r : Answer} → c ≡ Encoding.WellFormed → Told text forms lent left r → Answers base text lent number r left
+      read-told i d = d .answers number of-level (subst (λ (z : Encoding). Encoded text z) i y)

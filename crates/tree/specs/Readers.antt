@@ -1,0 +1,297 @@
+-- What a reader of a value, and of a bracket's members, leaves behind. Assumes nothing.
+use mathlib.Core.Path.{_≡_}
+use mathlib.Core.Logic.{_⊎_}
+use mathlib.Core.Bool.{Bool, true, false}
+use mathlib.Core.List.{List, [], _∷_}
+use mathlib.Core.Option.{none, some}
+use Prim.Native.Nat.{ℕ, suc, _+_, _≤_, _<_}
+use lib.ListN.{length}
+use Rattle.lexicon.specs.declared.Head.{Head}
+use Rattle.lexicon.specs.declared.Form.the-variants as Form
+use Rattle.lexicon.specs.declared.Kind.{Kind}
+use Rattle.lexicon.specs.declared.Kind.the-variants as Kind
+use Rattle.lexicon.specs.declared.Token as Token
+use Rattle.lexicon.specs.declared.Next.the-variants as Next
+use Rattle.lexicon.specs.Token.{Comes}
+use Rattle.grammar.specs.Tokens
+use Rattle.grammar.specs.Tokens.{Span, Mark, Class, classKind}
+use Rattle.grammar.specs.Tree.{Value}
+use Rattle.grammar.specs.Nodes as Nodes
+use Rattle.grammar.specs.Nodes.{Node, nodes}
+use Rattle.grammar.proofs.Frames as Frames
+use Rattle.grammar.proofs.Frames.{Config, Stack, want, have}
+use Rattle.grammar.proofs.Machine.{wantMark}
+use Rattle.reading.specs.Sizes.{base}
+use Rattle.reading.specs.Tokens.{seen}
+use Rattle.reading.specs.Faults.{FirstFault}
+use Rattle.reading.proofs.At as Place
+use Rattle.reading.proofs.Same as Same
+use Rattle.moves.specs.declared.Forms.{Forms}
+use Rattle.moves.specs.declared.Shape.{Shape}
+use Rattle.moves.specs.declared.Shape.the-variants as Shape
+use Rattle.moves.specs.declared.Frame.{Frame}
+use Rattle.moves.specs.declared.Mode.{Mode}
+use Rattle.moves.specs.declared.Move.{Move}
+use Rattle.moves.specs.declared.Move.the-variants as Move
+use Rattle.moves.proofs.Means.{levelOf, shapeOf, modeOf, inside, openOf, below, before, children}
+use Rattle.moves.proofs.Effects.{headBare, nested, held, opening, Does, Begins}
+use Rattle.table.specs.Over.{Written}
+use Rattle.tree.specs.declared.answer.Read.{Read}
+use Rattle.tree.specs.declared.answer.Read.the-variants as Read
+use Rattle.tree.specs.declared.begin.Begin.{Begin}
+use Rattle.tree.specs.declared.begin.Begin.the-variants as Begin
+use Rattle.tree.specs.declared.bracket.State as State
+use Rattle.tree.specs.declared.bracket.Turn.{Turn}
+use Rattle.tree.specs.declared.bracket.Turn.the-variants as Turn
+use Rattle.tree.specs.Looks.{NotNext, NoHead, noMark}
+
+-- the numbers of a turn that reads no value
+abbrev pub Ends : Token.Token → Token.Token → Turn → Type 0
+Ends opener t (Turn.On n) = (opener .end + n .nodes ≤ n .at) × (n .deep ≤ n .at) × (n .at ≡ t .end)
+Ends opener t (Turn.Ended (Read.Value end n shape)) = (opener .first + n ≤ end) × (end ≡ t .end)
+Ends opener t (Turn.Ended (Read.Refused n q)) = Unit {0}
+
+-- the state in which a bracket is entered
+abbrev pub entering : Mode → ℕ → ℕ → ℕ → State.State
+entering m at d index = record { mode = m; at = at; deep = d + 1; nodes = 0; last = index }
+
+-- a move that begins no value
+abbrev pub signs : Move → Bool
+signs (Move.Value f) = false
+signs (Move.To m r) = true
+signs Move.Tuple = true
+signs (Move.Count y) = true
+signs (Move.Deeper y) = true
+signs (Move.Shut y r) = true
+signs (Move.Close k d r) = true
+signs Move.Group = true
+signs Move.Wrong = true
+
+-- a literal
+abbrev pub literal : Class → Bool
+literal (Tokens.atom a) = true
+literal (Tokens.text w) = true
+literal Tokens.names = false
+literal Tokens.round = false
+literal Tokens.curly = false
+literal Tokens.square = false
+literal (Tokens.mark m) = false
+literal Tokens.later = false
+
+-- where a token stands
+abbrev pub spanOf : Token.Token → Span
+spanOf t = seen t .at
+
+module _ (text : List ℕ) where
+  -- ---- numbers: a value's nodes are at most its bytes, so no sum is too large
+
+  pub record Fit (t : Token.Token) (index parent : ℕ) : Type 0 where
+    pub short : length text ≤ base .text
+    pub some-byte : t .first < t .end
+    pub inside-text : t .end ≤ length text
+    pub index-fits : index ≤ t .first
+    pub parent-fits : parent ≤ index
+
+  abbrev pub Sized : Token.Token → Read → Type 0
+  Sized t (Read.Value end n shape) = (t .first + n ≤ end) × (t .end ≤ end) × (end ≤ length text)
+  Sized t (Read.Refused n q) = Unit {0}
+
+  -- a bracket's members so far
+  pub record Inner (opener : Token.Token) (s : State.State) (index parent : ℕ) : Type 0 where
+    pub fit : Fit opener index parent
+    pub after : opener .end + s .nodes ≤ s .at
+    pub deep-fits : s .deep ≤ s .at
+    pub inside-text : s .at ≤ length text
+
+  abbrev pub Refuses : Read → Type 0
+  Refuses (Read.Value end n shape) = ⊥
+  Refuses (Read.Refused n q) = Unit {0}
+
+  -- from where a bracket is read on
+  abbrev pub From : Token.Token → Begin → Type 0
+  From t Begin.Literal = Unit {0}
+  From t Begin.Names = Unit {0}
+  From t Begin.Round = Unit {0}
+  From t (Begin.Bracket mode at) = (t .end ≤ at) × (at ≤ length text)
+  From t (Begin.Refused n q) = Unit {0}
+
+  -- one turn leads on
+  abbrev pub Turned : Token.Token → State.State → Turn → Type 0
+  Turned opener s (Turn.On n) = (opener .end + n .nodes ≤ n .at) × (n .deep ≤ n .at) × (s .at < n .at) × (n .at ≤ length text)
+  Turned opener s (Turn.Ended r) = Sized opener r
+
+  abbrev pub Born : State.State → Token.Token → Turn → Type 0
+  Born s t (Turn.On n) = (t .first + n .nodes ≤ n .at + s .nodes) × (n .deep ≡ s .deep) × (t .end ≤ n .at) × (n .at ≤ length text)
+  Born s t (Turn.Ended r) = Refuses r
+
+  module _ (forms : Forms) where
+    abbrev pub Stands : ℕ → ℕ → Config → Type 0
+    Stands d p c = Place.At base (levelOf forms) text d p c
+
+    abbrev pub Faulty : ℕ → ℕ → Type 0
+    Faulty n q = FirstFault base (levelOf forms) text n q
+
+    abbrev pub Faultless : Type 0
+    Faultless = (n q : ℕ) → Faulty n q → ⊥
+
+    abbrev pub Stops : Value → ℕ → Type 0
+    Stops v e = Same.Stops base (levelOf forms) text v e
+
+    -- ---- a value
+
+    -- at a place for a value, before a token that is no sign taken there
+    pub record Asks (K : Stack) (d at : ℕ) (t : Token.Token) : Type 0 where
+      pub stands : Stands d at (want K)
+      pub comes : Comes text at (Next.Token t)
+      pub no-sign : (m : Mark) → classKind (t .kind) ≡ Tokens.mark m → wantMark m (spanOf t) K ≡ none
+
+    -- a value was read; its nodes are written, if the text has no fault at all
+    pub record IsValue (K : Stack) (t : Token.Token) (end n : ℕ) (shape : Shape) (lent left : List ℕ) (index parent : ℕ) : Type 0 where
+      pub tree : Value
+      pub depth : ℕ
+      pub stands : Stands depth end (have tree K)
+      pub stops : Stops tree end
+      pub shape-is : shapeOf tree ≡ shape
+      pub bare : (h : Head) → shape ≡ Shape.Bare h → (t .kind ≡ Kind.Text (Form.HeadWord h)) × (end ≡ t .end)
+      pub count-is : n ≡ length (nodes tree parent Nodes.root index)
+      pub written : Faultless → Written lent left index (nodes tree parent Nodes.root index)
+
+    abbrev pub Outcome : Stack → Token.Token → List ℕ → List ℕ → ℕ → ℕ → Read → Type 0
+    Outcome K t lent left index parent (Read.Value end n shape) = IsValue K t end n shape lent left index parent
+    Outcome K t lent left index parent (Read.Refused n q) = Faulty n q
+
+    -- the promise of the value reader
+    pub record Reads (d : ℕ) (t : Token.Token) (lent left : List ℕ) (index parent : ℕ) (r : Read) : Type 0 where
+      pub sized : Sized t r
+      pub outcome : (K : Stack) (at : ℕ) → Asks K d at t → Outcome K t lent left index parent r
+
+    -- ---- how it begins
+
+    pub record Entered (K : Stack) (d : ℕ) (t : Token.Token) (mode : Mode) (at : ℕ) : Type 0 where
+      pub config : Config
+      pub stands : Stands (suc d) at config
+      pub within : inside config ≡ true
+      pub mode-is : modeOf config ≡ mode
+      pub stack-is : below config ≡ K
+      pub open-is : openOf config ≡ spanOf t
+      pub no-member : (i : ℕ) → children config i ≡ []
+      pub no-value : held config ≡ false
+      pub no-first : opening config ≡ false
+
+    -- directly behind `(`
+    abbrev pub opened : Token.Token → Stack → Stack
+    opened t K = Frames.inRound (Frames.opened (spanOf t)) ∷ K
+
+    abbrev pub Begun : Stack → ℕ → Token.Token → Begin → Type 0
+    Begun K d t Begin.Literal = literal (classKind (t .kind)) ≡ true
+    Begun K d t Begin.Names = t .kind ≡ Kind.TwoColons
+    Begun K d t Begin.Round = Stands (suc d) (t .end) (want (opened t K)) × NoHead text (t .end)
+    Begun K d t (Begin.Bracket mode at) = Entered K d t mode at
+    Begun K d t (Begin.Refused n q) = Faulty n q
+
+    pub record BeginsSo (d : ℕ) (t : Token.Token) (r : Begin) : Type 0 where
+      pub from : t .end ≤ length text → From t r
+      pub begun : (K : Stack) (at : ℕ) → Asks K d at t → Begun K d t r
+
+    -- ---- inside a bracket
+
+    -- no value and `)` stand behind `(`
+    pub record NoGroup (K : Stack) (opener : Token.Token) : Type 0 where
+      pub none : (v : Value) (d e : ℕ) → Stands d e (have v (opened opener K)) → Stops v e → (u : Token.Token) → Comes text e (Next.Token u) → classKind (u .kind) ≡ Tokens.mark Tokens.roundClose → ⊥
+
+    pub record Holds (opener : Token.Token) (lent left : List ℕ) (index : ℕ) (K : Stack) (c : Config) (s : State.State) : Type 0 where
+      pub stands : Stands (s .deep) (s .at) c
+      pub within : inside c ≡ true
+      pub mode-is : modeOf c ≡ s .mode
+      pub stack-is : below c ≡ K
+      pub open-is : openOf c ≡ spanOf opener
+      -- what cannot come next
+      pub no-head : headBare c ≡ true → NotNext text Kind.Colon (s .at)
+      pub no-names : nested c ≡ true → NotNext text Kind.TwoColons (s .at)
+      -- directly behind `(`
+      pub fresh : opening c ≡ true → held c ≡ false → NoHead text (s .at)
+      pub unread : opening c ≡ true → held c ≡ false → 0 < length lent → Faultless → (u : Token.Token) → Comes text (s .at) (Next.Token u) → noMark (classKind (u .kind)) ≡ true → NoGroup K opener
+      pub no-group : opening c ≡ true → held c ≡ true → 0 < length lent → Faultless → NoGroup K opener
+      -- the members' nodes
+      pub length-is : length left ≡ length lent
+      pub count-is : s .nodes ≡ length (children c index)
+      pub last-is : held c ≡ true → s .last ≡ index + 1 + length (before c index)
+      pub written : Faultless → Written lent left (index + 1) (children c index)
+
+    -- one turn: the bracket goes on, or ends as the value that the opener begins
+    abbrev pub Turns : Token.Token → List ℕ → List ℕ → ℕ → ℕ → Stack → Turn → Type 0
+    Turns opener lent left index parent K (Turn.On s) = (c : Config) × Holds opener lent left index K c s
+    Turns opener lent left index parent K (Turn.Ended r) = Outcome K opener lent left index parent r
+
+    -- the promise of a turn that reads a value
+    pub record Bore (s : State.State) (t : Token.Token) (frame : Frame) (from left : List ℕ) (index : ℕ) (r : Turn) : Type 0 where
+      pub born : Born s t r
+      pub turns : (opener : Token.Token) (parent : ℕ) (lent : List ℕ) (K : Stack) (c : Config) → Holds opener lent from index K c s → Comes text (s .at) (Next.Token t) →
+          Begins (levelOf forms) c (seen t) frame → Turns opener lent left index parent K r
+
+    -- of any
+    pub record Member (opener : Token.Token) (s : State.State) (from left : List ℕ) (index parent : ℕ) (r : Turn) : Type 0 where
+      pub turned : Turned opener s r
+      pub turns : (lent : List ℕ) (K : Stack) (c : Config) → Holds opener lent from index K c s → Turns opener lent left index parent K r
+
+    -- of a bracket, from the state in which it is entered
+    pub record Bracketed (opener : Token.Token) (s : State.State) (lent left : List ℕ) (index parent : ℕ) (r : Read) : Type 0 where
+      pub sized : Sized opener r
+      pub outcome : (K : Stack) (c : Config) → Holds opener lent lent index K c s → Outcome K opener lent left index parent r
+
+    -- ---- `(`
+
+    -- a value and `)` stand behind `(`
+    pub record IsGroup (K : Stack) (opener : Token.Token) : Type 0 where
+      pub first : Token.Token
+      pub first-comes : Comes text (opener .end) (Next.Token first)
+      pub first-is : noMark (classKind (first .kind)) ≡ true
+      pub tree : Value
+      pub depth : ℕ
+      pub end : ℕ
+      pub stands : Stands depth end (have tree (opened opener K))
+      pub stops : Stops tree end
+      pub sign : Token.Token
+      pub comes : Comes text end (Next.Token sign)
+      pub sign-is : classKind (sign .kind) ≡ Tokens.mark Tokens.roundClose
+
+    -- nothing is said where no nodes are written
+    pub record Grouped (d words : ℕ) (opener : Token.Token) (r : Bool) : Type 0 where
+      pub yes : (K : Stack) → Stands (suc d) (opener .end) (want (opened opener K)) → r ≡ true → IsGroup K opener
+      pub no : (K : Stack) → Stands (suc d) (opener .end) (want (opened opener K)) → r ≡ false → 0 < words → Faultless →
+          (u : Token.Token) → Comes text (opener .end) (Next.Token u) → noMark (classKind (u .kind)) ≡ true → NoGroup K opener
+
+    pub record Group (d : ℕ) (opener : Token.Token) (lent left : List ℕ) (index parent : ℕ) (r : Read) : Type 0 where
+      pub sized : Sized opener r
+      pub outcome : (K : Stack) → Stands (suc d) (opener .end) (want (opened opener K)) → IsGroup K opener → Outcome K opener lent left index parent r
+
+    pub record Rounded (d : ℕ) (opener : Token.Token) (lent left : List ℕ) (index parent : ℕ) (r : Read) : Type 0 where
+      pub sized : Sized opener r
+      pub outcome : (K : Stack) → Stands (suc d) (opener .end) (want (opened opener K)) → NoHead text (opener .end) → Outcome K opener lent left index parent r
+
+-- ---- literals and Nestings
+
+-- one node, from the token's first byte to its end
+abbrev pub Alone : Token.Token → Read → Type 0
+Alone t (Read.Value end n shape) = (n ≡ 1) × (end ≡ t .end)
+Alone t (Read.Refused n q) = Unit {0}
+
+pub record Slim (t : Token.Token) (index parent : ℕ) : Type 0 where
+  pub some-byte : t .first < t .end
+  pub short : t .end ≤ base .text
+  pub index-fits : index ≤ t .first
+  pub parent-fits : parent ≤ index
+
+pub record Literal (t : Token.Token) (lent left : List ℕ) (index parent : ℕ) (r : Read) : Type 0 where
+  pub sized : Alone t r
+  pub outcome : (text : List ℕ) (forms : Forms) (K : Stack) (d at : ℕ) → Asks text forms K d at t → literal (classKind (t .kind)) ≡ true → Outcome text forms K t lent left index parent r
+
+pub record Nesting (text : List ℕ) (t : Token.Token) (lent left : List ℕ) (index parent : ℕ) (r : Read) : Type 0 where
+  pub sized : Sized text t r
+  pub outcome : (forms : Forms) (K : Stack) (d at : ℕ) → Asks text forms K d at t → t .kind ≡ Kind.TwoColons → Outcome text forms K t lent left index parent r
+
+-- ---- the promise of a turn that reads no value
+
+pub record Taken (opener : Token.Token) (s : State.State) (t : Token.Token) (taken : Move) (from left : List ℕ) (index parent : ℕ) (r : Turn) : Type 0 where
+  pub turns : (text : List ℕ) (forms : Forms) (lent : List ℕ) (K : Stack) (c : Config) → Holds text forms opener lent from index K c s → Comes text (s .at) (Next.Token t) →
+      Does (levelOf forms) c (seen t) taken → signs taken ≡ true → Turns text forms opener lent left index parent K r

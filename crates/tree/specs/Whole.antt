@@ -1,0 +1,50 @@
+-- A whole text: its value, the end behind it, and the answer. Assumes nothing.
+use mathlib.Core.Path.{_≡_}
+use mathlib.Core.List.{List}
+use Prim.Native.Nat.{ℕ}
+use lib.ListN.{length}
+use Rattle.lexicon.specs.declared.Token as Token
+use Rattle.lexicon.specs.declared.Next.the-variants as Next
+use Rattle.lexicon.specs.Token.{Comes}
+use Rattle.lexicon.specs.Utf8.{WellFormed}
+use Rattle.grammar.specs.Tree.{Value}
+use Rattle.grammar.specs.Nodes.{table}
+use Rattle.reading.specs.declared.Answer.{Answer}
+use Rattle.reading.specs.Sizes.{base}
+use Rattle.reading.specs.Answers.{LevelOf, Accepted, Answers, answer}
+use Rattle.moves.specs.declared.Forms.{Forms}
+use Rattle.moves.proofs.Means.{levelOf}
+use Rattle.table.specs.Over.{Written}
+use Rattle.tree.specs.declared.answer.Read.{Read}
+use Rattle.tree.specs.declared.answer.Read.the-variants as Read
+use Rattle.tree.specs.Readers.{Faulty}
+
+module _ (text : List ℕ) where
+  -- what stands behind the value: a token, no token, or the end, which leaves the reading as it is
+  pub data Behind (at : ℕ) (read : Read) : Read → Type 0 where
+    further : {t : Token.Token} → Comes text at (Next.Token t) → Behind at read (Read.Refused 6 (t .first))
+    nothing : {q : ℕ} → Comes text at (Next.NoToken q) → Behind at read (Read.Refused 4 q)
+    atEnd : {q : ℕ} → Comes text at (Next.End q) → Behind at read read
+
+  -- the text is accepted; its nodes are counted, and written if they fit
+  pub record Whole (forms : Forms) (lent left : List ℕ) (n : ℕ) : Type 0 where
+    pub tree : Value
+    pub accepted : (t : List ℕ) → Accepted base text t (levelOf forms) tree
+    pub count-is : n ≡ length (table tree)
+    pub written : Written lent left 0 (table tree)
+
+  abbrev pub JudgedAs : Forms → List ℕ → List ℕ → Read → Type 0
+  JudgedAs forms lent left (Read.Value end n shape) = Whole forms lent left n
+  JudgedAs forms lent left (Read.Refused n q) = Faulty text forms n q
+
+  pub record Judged (forms : Forms) (lent left : List ℕ) (r : Read) : Type 0 where
+    pub judged : JudgedAs forms lent left r
+
+  -- the answer, whatever the level's number
+  pub record Told (forms : Forms) (lent left : List ℕ) (r : Answer) : Type 0 where
+    pub answers : (number : ℕ) → LevelOf number (levelOf forms) → WellFormed text → Answers base text lent number r left
+
+-- a refusal, as an answer
+abbrev pub refusal : Read → Answer
+refusal (Read.Value end n shape) = answer 6 end 0
+refusal (Read.Refused n q) = answer n q 0

@@ -1,0 +1,213 @@
+// Values without members: literals and Nestings.
+use crate::answer::Got;
+use crate::answer::Read;
+use crate::answer::get;
+use lexicon::Form;
+use lexicon::Kind;
+use lexicon::Next;
+use lexicon::Token;
+use moves::Role;
+use moves::Shape;
+use table::Entry;
+use table::put;
+use token::next::next;
+ghost use Rattle.grammar.specs.Tokens.{wording};
+ghost use Rattle.grammar.specs.Nodes.{truthDetail};
+ghost use Rattle.moves.specs.declared.Shape.the-variants as Shape;
+ghost use Rattle.tree.specs.Readers.{Fit, Slim, Literal, Nesting};
+ghost use Rattle.tree.specs.Tellings.{wordingDetail, wordingShape, ToldAs, LeafTold, ColonsNext, NameNext};
+
+// What a literal's node tells, and what the literal is to a colon.
+pub struct Telling {
+    pub kind: u32,
+    pub detail: u32,
+    pub shape: Shape,
+}
+
+fn told_text(form: Form) -> Telling
+    ensures { λ r. ⌜ ToldAs 7 (wordingDetail (wording form)) (wordingShape (wording form)) r ⌝ }
+{
+    match form {
+        Form::Quoted => Telling {
+            kind: 7,
+            detail: 1,
+            shape: Shape::Name,
+        },
+        Form::Word => Telling {
+            kind: 7,
+            detail: 2,
+            shape: Shape::Name,
+        },
+        Form::HeadWord(head) => Telling {
+            kind: 7,
+            detail: 2,
+            shape: Shape::Bare(head),
+        },
+        Form::CodePoint => Telling {
+            kind: 7,
+            detail: 3,
+            shape: Shape::Name,
+        },
+    }
+}
+
+fn plain(kind: u32, detail: u32) -> Telling
+    ensures { λ r. ⌜ ToldAs kind detail Shape.Other r ⌝ }
+{
+    Telling {
+        kind,
+        detail,
+        shape: Shape::Other,
+    }
+}
+
+fn told_truth(truth: bool) -> Telling
+    ensures { λ r. ⌜ ToldAs 2 (truthDetail truth) Shape.Other r ⌝ }
+{
+    if truth { plain(2, 1) } else { plain(2, 0) }
+}
+
+pub(crate) fn told(kind: Kind) -> Telling
+    ensures { λ r. ⌜ LeafTold kind r ⌝ }
+{
+    match kind {
+        Kind::Ignorance => plain(1, 0),
+        Kind::Boolean(truth) => told_truth(truth),
+        Kind::Integer { signed: _ } => plain(3, 0),
+        Kind::Fraction => plain(4, 0),
+        Kind::Bits => plain(5, 0),
+        Kind::Blob => plain(6, 0),
+        Kind::Text(form) => told_text(form),
+        Kind::Later => plain(0, 0),
+        Kind::Symbol(_) => plain(0, 0),
+        Kind::Colon => plain(0, 0),
+        Kind::TwoColons => plain(0, 0),
+    }
+}
+
+// A literal by itself, if its value is not bad.
+pub(crate) fn leaf(t: Token, table: &mut [u32], index: usize, parent: usize) -> Read
+    requires { ⌜ Slim t index parent ⌝ }
+    ensures { λ r. ⌜ Literal t (now (table .entry)) (now (table .exit)) index parent r ⌝ }
+{
+    if t.bad {
+        return Read::Refused {
+            number: 5,
+            place: t.first,
+        };
+    }
+    let literal = t.kind;
+    let tells = told(literal);
+    put(
+        table,
+        index,
+        Entry {
+            kind: tells.kind,
+            first: t.first as u32,
+            end: t.end as u32,
+            parent: parent as u32,
+            role: Role::Root,
+            detail: tells.detail,
+        },
+    );
+    let shape = tells.shape;
+    Read::Value {
+        end: t.end,
+        nodes: 1,
+        shape,
+    }
+}
+
+// Where `::` ends, if it comes next.
+pub enum Further {
+    At(usize),
+    Nothing,
+}
+
+fn two_colons(text: &[u8], at: usize) -> Further
+    ensures { λ r. ⌜ ColonsNext (now (text .entry)) at r ⌝ }
+{
+    let answer = next(text, at);
+    let Next::Token(t) = answer else {
+        return Further::Nothing;
+    };
+    let kind = t.kind;
+    let Kind::TwoColons = kind else {
+        return Further::Nothing;
+    };
+    Further::At(t.end)
+}
+
+// The Text behind `::`: where it ends.
+pub enum Named {
+    At(usize),
+    Refused { number: u32, place: usize },
+}
+
+fn name(text: &[u8], at: usize) -> Named
+    ensures { λ r. ⌜ NameNext (now (text .entry)) at r ⌝ }
+{
+    let got = get(text, at);
+    match got {
+        Got::Refused { number, place } => Named::Refused { number, place },
+        Got::Token(t) => {
+            let kind = t.kind;
+            let Kind::Text(_) = kind else {
+                return Named::Refused {
+                    number: 6,
+                    place: t.first,
+                };
+            };
+            if t.bad {
+                return Named::Refused {
+                    number: 5,
+                    place: t.first,
+                };
+            }
+            Named::At(t.end)
+        }
+    }
+}
+
+// A Nesting: `::` and a Text, once or more.
+pub(crate) fn names(text: &[u8], t: Token, table: &mut [u32], index: usize, parent: usize) -> Read
+    requires { ⌜ Fit (now text) t index parent ⌝ }
+    ensures { λ r. ⌜ Nesting (now (text .entry)) t (now (table .entry)) (now (table .exit)) index parent r ⌝ }
+{
+    let mut at = t.end;
+    loop {
+        let named = name(text, at);
+        match named {
+            Named::Refused { number, place } => {
+                return Read::Refused { number, place };
+            }
+            Named::At(end) => {
+                let more = two_colons(text, end);
+                match more {
+                    Further::At(next) => {
+                        at = next;
+                    }
+                    Further::Nothing => {
+                        put(
+                            table,
+                            index,
+                            Entry {
+                                kind: 8,
+                                first: t.first as u32,
+                                end: end as u32,
+                                parent: parent as u32,
+                                role: Role::Root,
+                                detail: 0,
+                            },
+                        );
+                        return Read::Value {
+                            end,
+                            nodes: 1,
+                            shape: Shape::Name,
+                        };
+                    }
+                }
+            }
+        }
+    }
+}

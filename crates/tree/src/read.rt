@@ -1,0 +1,147 @@
+// The reading: tests 1, 2 and 3 over the whole text, then the tokens from left to right, last the room.
+// A function with a `requires` is this crate's own: the text's length is tested before it is called.
+use crate::answer::Got;
+use crate::answer::Read;
+use crate::answer::get;
+use crate::answer::handed;
+use crate::level::Leveled;
+use crate::level::level_of;
+use crate::value::value;
+use lexicon::Encoding;
+use lexicon::Next;
+use moves::Forms;
+use reading::Answer;
+use text::front::front;
+use text::utf8::utf8;
+use token::next::next;
+ghost use mathlib.Core.Path.{_≡_};
+ghost use Prim.Native.Nat.{_≤_};
+ghost use lib.ListN.{length};
+ghost use Rattle.reading.specs.Sizes.{base, room as roomOf};
+ghost use Rattle.reading.specs.Answers.{Answers, answer};
+ghost use Rattle.tree.specs.Whole.{Behind, Judged, Told, refusal};
+
+const LONGEST: usize = 32768;
+
+const MOST_NODES: usize = 1024;
+
+const WORDS: usize = 6;
+
+fn refused(number: u32, place: usize) -> Answer
+    ensures { λ r. ⌜ r ≡ answer number place 0 ⌝ }
+{
+    Answer {
+        number,
+        place,
+        count: 0,
+    }
+}
+
+// How many nodes the table has room for.
+fn room(words: usize) -> usize
+    ensures { λ r. ⌜ r ≡ roomOf base words ⌝ }
+{
+    let nodes = words / WORDS;
+    if nodes < MOST_NODES {
+        return nodes;
+    }
+    MOST_NODES
+}
+
+// Behind the value of a text stands nothing but the end.
+fn ended(text: &[u8], at: usize, read: Read) -> Read
+    ensures { λ r. ⌜ Behind (now (text .entry)) at read r ⌝ }
+{
+    let then = next(text, at);
+    match then {
+        Next::Token(t) => Read::Refused {
+            number: 6,
+            place: t.first,
+        },
+        Next::End(_) => read,
+        Next::NoToken(place) => Read::Refused { number: 4, place },
+    }
+}
+
+// The value of a text, whose nodes stand from the table's start on.
+fn whole(text: &[u8], forms: Forms, table: &mut [u32]) -> Read
+    requires { ⌜ length (now text) ≤ base .text ⌝ }
+    ensures { λ r. ⌜ Judged (now (text .entry)) forms (now (table .entry)) (now (table .exit)) r ⌝ }
+{
+    let got = get(text, front(text));
+    let Got::Token(t) = got else {
+        return handed(got);
+    };
+    let read = value(text, forms, t, 0, table, 0, 0);
+    let Read::Value {
+        end,
+        nodes: _,
+        shape: _,
+    } = read
+    else {
+        return read;
+    };
+    ended(text, end, read)
+}
+
+// A refusal of the value is the answer's.
+fn given(read: Read) -> Answer
+    ensures { λ r. ⌜ r ≡ refusal read ⌝ }
+{
+    match read {
+        Read::Value {
+            end,
+            nodes: _,
+            shape: _,
+        } => refused(6, end),
+        Read::Refused { number, place } => refused(number, place),
+    }
+}
+
+// The text is judged and its nodes counted before the lent table is written.
+fn tokens(text: &[u8], forms: Forms, table: &mut [u32]) -> Answer
+    requires { ⌜ length (now text) ≤ base .text ⌝ }
+    ensures { λ r. ⌜ Told (now (text .entry)) forms (now (table .entry)) (now (table .exit)) r ⌝ }
+{
+    let mut none = [0; 0];
+    let judged = whole(text, forms, &mut none);
+    let Read::Value {
+        end: _,
+        nodes,
+        shape: _,
+    } = judged
+    else {
+        return given(judged);
+    };
+    if nodes > room(table.len()) {
+        return Answer {
+            number: 8,
+            place: text.len(),
+            count: nodes,
+        };
+    }
+    let _written = whole(text, forms, table);
+    Answer {
+        number: 0,
+        place: text.len(),
+        count: nodes,
+    }
+}
+
+// The reading of a text at a level: the answer, and the nodes in the lent table.
+pub fn read(number: u32, text: &[u8], table: &mut [u32]) -> Answer
+    ensures { λ r. ⌜ Answers base (now (text .entry)) (now (table .entry)) number r (now (table .exit)) ⌝ }
+{
+    let named = level_of(number);
+    let Leveled::Has(forms) = named else {
+        return refused(1, 0);
+    };
+    if text.len() > LONGEST {
+        return refused(2, 0);
+    }
+    let encoding = utf8(text);
+    if let Encoding::BadAt(place) = encoding {
+        return refused(3, place);
+    }
+    tokens(text, forms, table)
+}

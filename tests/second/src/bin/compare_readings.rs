@@ -1,0 +1,291 @@
+//! Compares this package's readings with those of the verified archive:
+//! number, place, count and every word of the lent table.  Checks of the
+//! archive's own readings that old and new agree, and bounds its time on
+//! long inputs.
+//!
+//! Exits with 1 at the first disagreement.
+
+use second::answer::{Answer, DEPTH_MAX, NEWER_FORM, NODE_WORDS, NO_ROOM, TEXT_MAX};
+use second::compare::{finish, same, Compared, Difference};
+use second::generate::{long_texts, texts, Random};
+use second::{samples, tree};
+use std::process::ExitCode;
+use std::time::{Duration, Instant};
+
+const SEED: u64 = 20_261_116;
+const GENERATED: usize = 100_000;
+/// More words than 1,024 nodes take.
+const WORDS_MAX: usize = 6_200;
+/// Words behind the lent table, which no call may touch.
+const GUARD: usize = 8;
+const NO_LEVELS: [u32; 4] = [0, 3, 257, u32::MAX];
+/// The answers a reading can give.
+const NUMBERS: [usize; 10] = [0, 1, 2, 3, 4, 5, 6, 7, 8, 11];
+/// For one reading of a text of 32 KB, groups included, which are read once
+/// more for each bracket around them; a quadratic scan takes far longer.
+const TIME_BOUND: Duration = Duration::from_millis(250);
+
+/// The call of the archive, with slices in place of pointers.
+mod archive {
+    use super::Answer;
+
+    mod raw {
+        extern "C" {
+            pub fn muon_read(
+                level: u32,
+                text: *const u8,
+                text_len: usize,
+                table: *mut u32,
+                table_len: usize,
+                place: *mut usize,
+                count: *mut usize,
+            ) -> u32;
+        }
+    }
+
+    pub fn read(level: u32, text: &[u8], table: &mut [u32]) -> Answer {
+        // What the call does not write must not look like an answer.
+        let (mut place, mut count) = (usize::MAX, usize::MAX);
+        // SAFETY: pointers and lengths are those of live slices and numbers,
+        // and what may be written is borrowed by this call alone.
+        let number = unsafe {
+            raw::muon_read(
+                level,
+                text.as_ptr(),
+                text.len(),
+                table.as_mut_ptr(),
+                table.len(),
+                &mut place,
+                &mut count,
+            )
+        };
+        Answer {
+            number,
+            place,
+            count,
+        }
+    }
+}
+
+/// An answer, and the table with its guard as they are then.
+#[derive(PartialEq)]
+struct Reading {
+    answer: Answer,
+    words: Vec<u32>,
+}
+
+/// Lends `length` words, none of which looks like a word of a node.
+fn reading(
+    read: fn(u32, &[u8], &mut [u32]) -> Answer,
+    level: u32,
+    text: &[u8],
+    length: usize,
+) -> Reading {
+    let mut words: Vec<u32> = (0xA5A5_0000..).take(length + GUARD).collect();
+    let answer = read(level, text, &mut words[..length]);
+    Reading { answer, words }
+}
+
+/// Demand 3, for the readings of one text into equal tables.
+fn old_and_new(text: &[u8], length: usize, old: &Reading, new: &Reading) -> Compared {
+    let agree = match old.answer.number {
+        NEWER_FORM => new.answer.number == 0 || old.answer.place <= new.answer.place,
+        _ => old == new,
+    };
+    if agree {
+        return Ok(());
+    }
+    Err(Difference(format!(
+        "levels 1 and 2 of b\"{}\" ({} bytes), {length} words\n  level 1: {:?}\n  level 2: {:?}",
+        text.escape_ascii(),
+        text.len(),
+        old.answer,
+        new.answer
+    )))
+}
+
+/// The words that the nodes of a text take; 0 if it is refused.
+fn need(text: &[u8]) -> usize {
+    let answer = tree::read(2, text, &mut []);
+    match answer.number {
+        NO_ROOM => answer.count * NODE_WORDS,
+        _ => 0,
+    }
+}
+
+/// What was compared.
+struct Counts {
+    random: Random,
+    texts: usize,
+    readings: usize,
+    answers: [usize; 12],
+    slowest: Duration,
+}
+
+impl Counts {
+    fn new() -> Counts {
+        Counts {
+            random: Random::new(SEED),
+            texts: 0,
+            readings: 0,
+            answers: [0; 12],
+            slowest: Duration::ZERO,
+        }
+    }
+
+    /// The archive's reading, if it is ours too.
+    fn compare(&mut self, level: u32, text: &[u8], length: usize) -> Result<Reading, Difference> {
+        self.readings += 1;
+        let ours = reading(tree::read, level, text, length);
+        let theirs = reading(archive::read, level, text, length);
+        let what = format!("reading at level {level} with {length} words");
+        same(&what, text, ours.answer, theirs.answer)?;
+        for (index, (ours, theirs)) in ours.words.iter().zip(&theirs.words).enumerate() {
+            if ours != theirs {
+                same(&format!("{what}: word {index}"), text, ours, theirs)?;
+            }
+        }
+        self.answers[ours.answer.number as usize] += 1;
+        Ok(theirs)
+    }
+
+    fn both_levels(&mut self, text: &[u8], length: usize) -> Compared {
+        let old = self.compare(1, text, length)?;
+        let new = self.compare(2, text, length)?;
+        old_and_new(text, length, &old, &new)
+    }
+
+    /// None, the most, some; and for an accepted text what it needs, a word
+    /// less and a node less.
+    fn lengths(&mut self, text: &[u8]) -> Vec<usize> {
+        let need = need(text);
+        let mut lengths = vec![0, WORDS_MAX, self.random.below(WORDS_MAX + 1)];
+        if need > 0 {
+            lengths.extend([need, need - 1, need - NODE_WORDS, self.random.below(need)]);
+        }
+        lengths.retain(|length| *length <= WORDS_MAX);
+        lengths
+    }
+
+    fn text(&mut self, text: &[u8]) -> Compared {
+        self.texts += 1;
+        for length in self.lengths(text) {
+            self.both_levels(text, length)?;
+        }
+        Ok(())
+    }
+
+    /// The sample and its prefixes, and the sample at levels that aren't.
+    fn sample(&mut self, text: &[u8]) -> Compared {
+        for length in 0..=text.len() {
+            self.text(&text[..length])?;
+        }
+        for level in NO_LEVELS {
+            for length in self.lengths(text) {
+                self.compare(level, text, length)?;
+            }
+        }
+        Ok(())
+    }
+
+    /// The best of three readings counts, since other work may disturb one.
+    fn long(&mut self, text: &[u8]) -> Compared {
+        self.text(text)?;
+        let mut table = [0; WORDS_MAX];
+        let mut best = Duration::MAX;
+        for _ in 0..3 {
+            let start = Instant::now();
+            archive::read(2, text, &mut table);
+            best = best.min(start.elapsed());
+        }
+        self.slowest = self.slowest.max(best);
+        if best > TIME_BOUND {
+            return Err(Difference(format!(
+                "time of b\"{}...\" ({} bytes): {best:?} is more than {TIME_BOUND:?}",
+                text[..text.len().min(40)].escape_ascii(),
+                text.len()
+            )));
+        }
+        Ok(())
+    }
+
+    fn every_answer(&self) -> Compared {
+        match NUMBERS.iter().find(|number| self.answers[**number] == 0) {
+            None => Ok(()),
+            Some(number) => Err(Difference(format!("no reading answered {number}"))),
+        }
+    }
+
+    fn summary(&self) -> String {
+        let answers: Vec<String> = NUMBERS
+            .iter()
+            .map(|number| format!("{number}: {}", self.answers[*number]))
+            .collect();
+        format!(
+            "{} texts, {} readings (answers {}), slowest long text {:?}",
+            self.texts,
+            self.readings,
+            answers.join(", "),
+            self.slowest
+        )
+    }
+}
+
+/// `middle` between as many brackets as may be open, `inner` being its own.
+fn nested(open: &str, middle: &[u8], close: &str, inner: usize) -> Vec<u8> {
+    let times = (DEPTH_MAX - inner) / open.len();
+    [
+        open.repeat(times).as_bytes(),
+        middle,
+        close.repeat(times).as_bytes(),
+    ]
+    .concat()
+}
+
+/// Around 1,024 nodes, the longest text, and brackets around much.
+fn sized_texts() -> Vec<Vec<u8>> {
+    // long, and yet with room enough: so that its nodes are written
+    let words = format!("{{{}}}", format!("{},", "a".repeat(30)).repeat(1_000));
+    let mut all: Vec<Vec<u8>> = [2_046, 2_048, 2_050, TEXT_MAX, TEXT_MAX + 2]
+        .map(samples::members)
+        .to_vec();
+    let mut spaced = vec![b' '; TEXT_MAX];
+    spaced[0] = b'5';
+    all.push(spaced.clone());
+    spaced.push(b' ');
+    all.push(spaced);
+    for (open, close) in [
+        ("(", ")"),
+        ("{", "}"),
+        ("[", "]"),
+        ("({", "})"),
+        ("([", "])"),
+    ] {
+        all.push(nested(open, words.as_bytes(), close, 1));
+        all.push(nested(open, &samples::members(32_000), close, 1));
+        all.push(nested(open, b"5", close, 0));
+        all.push(nested(open, b"(5)", close, 0));
+        all.push(nested(open, b"(Bag:{5})", close, 1));
+        all.push(nested(open, b"(Bag:{5})", close, 2));
+    }
+    all
+}
+
+fn run(counts: &mut Counts) -> Compared {
+    for sample in samples::all() {
+        counts.sample(sample.text)?;
+    }
+    for text in texts(SEED, GENERATED) {
+        counts.text(&text)?;
+    }
+    for text in sized_texts().into_iter().chain(long_texts()) {
+        counts.long(&text)?;
+    }
+    counts.every_answer()
+}
+
+fn main() -> ExitCode {
+    let mut counts = Counts::new();
+    let outcome = run(&mut counts);
+    finish("compare_readings", &counts.summary(), outcome)
+}
