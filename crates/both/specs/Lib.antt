@@ -1,0 +1,2 @@
+-- Demand 3 as the contract of a function.
+pub mod Demand
