@@ -31,6 +31,7 @@ use Rattle.reading.specs.Sizes.{Sizes}
 use Rattle.reading.specs.Tokens.{seen, Follow, nothing, next, openMark, openBehind, openFrom, opened}
 use Rattle.reading.specs.Faults.{NewerAt, TooDeep, FirstFault, AllPassed}
 use Rattle.reading.specs.Answers.{Accepted}
+use Rattle.reading.proofs.Decide.{whole, final-whole}
 use Rattle.reading.proofs.Stands.{mayBegin, Stands, at-front, not-by-class, not-by-place, goes-on, no-token, wrong-place, wrong-end, newer-form, bad-value, too-deep}
 
 -- ---- classes
@@ -226,20 +227,6 @@ plain-known (mark m) e = refl
 plain-known later e = absurd (false≢true e)
 
 -- ---- configurations
-
--- a whole value, with no bracket left
-abbrev pub whole : Config → Bool
-whole (want K) = false
-whole (have v []) = true
-whole (have v (f ∷ K)) = false
-whole (wantText n o K) = false
-whole (wantCurly o h s k K) = false
-whole (wantCount c f v k K) = false
-whole (haveItem c f i K) = false
-whole (wantClose c K) = false
-
-final-whole : {c : Config} → Final c → whole c ≡ true
-final-whole (final v) = refl
 
 wants-stack : {c : Config} → ((K : Stack) → c ≡ want K → ⊥) → Wants c → ⊥
 wants-stack h (wants K) = h K refl

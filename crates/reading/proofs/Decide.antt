@@ -27,7 +27,7 @@ use Rattle.reading.proofs.Rows.{Order, equal, less, more, order, pick, 
 
 -- ---- the end of a text
 
-abbrev whole : Config → Bool
+abbrev pub whole : Config → Bool
 whole (want K) = false
 whole (have v []) = true
 whole (have v (f ∷ K)) = false
@@ -37,7 +37,7 @@ whole (wantCount c f v k K) = false
 whole (haveItem c f i K) = false
 whole (wantClose c K) = false
 
-final-whole : {c : Config} → Final c → whole c ≡ true
+pub final-whole : {c : Config} → Final c → whole c ≡ true
 final-whole (final v) = refl
 
 whole-final : (c : Config) → whole c ≡ true → Final c

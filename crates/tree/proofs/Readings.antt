@@ -31,7 +31,8 @@ use Rattle.grammar.proofs.Machine.{wantMark, haveClass}
 use Rattle.reading.specs.Sizes.{base}
 use Rattle.reading.specs.Tokens.{seen, openMark}
 use Rattle.reading.proofs.Rows.{pick}
-use Rattle.reading.proofs.At.{At, whole, none-here, end-here, sign-on}
+use Rattle.reading.proofs.Decide.{whole}
+use Rattle.reading.proofs.At.{At, none-here, end-here, sign-on}
 use Rattle.reading.proofs.Depth.{depth-is}
 use Rattle.reading.proofs.Same.{same-value}
 use Rattle.moves.specs.declared.Forms.{Forms}
@@ -65,17 +66,13 @@ use Rattle.tree.specs.Readers.{spanOf, literal, opened, Fit, Sized, Inne
 use Rattle.tree.specs.Turning.{Narrow, Outer}
 use Rattle.tree.proofs.Bounds.{token-bounds}
 use Rattle.tree.proofs.Looking.{got-token}
+use Rattle.tree.proofs.Turns.{isBare}
 
 pub not-false : (b : Bool) → not b ≡ false → b ≡ true
 not-false true e = refl
 not-false false e = sym e
 
 -- ---- configurations
-
-abbrev isBare : Shape → Bool
-isBare (Shape.Bare h) = true
-isBare Shape.Name = false
-isBare Shape.Other = false
 
 -- inside a bracket the end is in the wrong place
 inside-open : (c : Config) → inside c ≡ true → whole c ≡ false

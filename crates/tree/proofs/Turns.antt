@@ -100,7 +100,7 @@ isName (Shape.Bare h) = false
 isName Shape.Name = true
 isName Shape.Other = false
 
-abbrev isBare : Shape → Bool
+abbrev pub isBare : Shape → Bool
 isBare (Shape.Bare h) = true
 isBare Shape.Name = false
 isBare Shape.Other = false
