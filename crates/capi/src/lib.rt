@@ -1,6 +1,8 @@
 // The library for C: lent memory is a pointer and a length, and no two lent parts overlap.
 ghost use Rattle.reading.specs.Sizes.{base};
 ghost use Rattle.reading.specs.Answers.{answer, Answers};
+ghost use Rattle.integer_value.specs.Answers.{IntegerAnswers};
+ghost use Rattle.text_value.specs.Answers.{TextAnswers};
 
 // uint32_t muon_read(uint32_t level, const uint8_t *text, size_t text_len, uint32_t *table, size_t table_len, size_t *place, size_t *count);
 // The answer's number is returned, its place and count are written, and the nodes stand in the table.
@@ -15,6 +17,42 @@ pub extern "C" fn muon_read(
     ensures { λ r. ⌜ Answers base (now (text .entry)) (now (table .entry)) level (answer r (now (place .exit)) (now (count .exit))) (now (table .exit)) ⌝ }
 {
     let read = tree::read::read(level, text, table);
+    *place = read.place;
+    *count = read.count;
+    read.number
+}
+
+// uint32_t muon_integer(const uint8_t *piece, size_t piece_len, int64_t *value, size_t *place, size_t *count);
+// The signed integer of an Integer literal, which the piece is exactly.
+#[no_mangle]
+pub extern "C" fn muon_integer(
+    piece: &[u8],
+    value: &mut i64,
+    place: &mut usize,
+    count: &mut usize,
+) -> u32
+    ensures { λ r. ⌜ IntegerAnswers base (now (piece .entry)) (record { number = r; place = now (place .exit); count = now (count .exit); value = now (value .exit) }) ⌝ }
+{
+    let read = integer_value::integer::integer(piece);
+    let integer = read.value;
+    *value = integer;
+    *place = read.place;
+    *count = read.count;
+    read.number
+}
+
+// uint32_t muon_text(const uint8_t *piece, size_t piece_len, uint8_t *buffer, size_t buffer_len, size_t *place, size_t *count);
+// The characters of a Text literal, which the piece is exactly, as UTF-8 from the buffer's start on.
+#[no_mangle]
+pub extern "C" fn muon_text(
+    piece: &[u8],
+    buffer: &mut [u8],
+    place: &mut usize,
+    count: &mut usize,
+) -> u32
+    ensures { λ r. ⌜ TextAnswers base (now (piece .entry)) (now (buffer .entry)) (answer r (now (place .exit)) (now (count .exit))) (now (buffer .exit)) ⌝ }
+{
+    let read = text_value::value::text(piece, buffer);
     *place = read.place;
     *count = read.count;
     read.number
