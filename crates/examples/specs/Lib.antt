@@ -1,0 +1,2 @@
+-- The starred texts of document 01, 'Texts from the yard'.
+pub mod Starred

@@ -1,0 +1,1 @@
+// Texts of the paper with their answers, proved about the definitions. Definitions and laws only; no code.
