@@ -3,9 +3,10 @@
 
 use std::env;
 
-const ARCHIVES: [(&str, &str); 2] = [
+const ARCHIVES: [(&str, &str); 3] = [
     ("compare_tokens", "libtoken_c.a"),
     ("compare_readings", "libcapi.a"),
+    ("compare_values", "libcapi.a"),
 ];
 
 fn main() {

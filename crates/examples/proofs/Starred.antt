@@ -13,7 +13,7 @@ use Rattle.rules.proofs.Bools.{and-left, and-right}
 use Rattle.lexicon.specs.Utf8.{WellFormed}
 use Rattle.lexicon.specs.Values.{IntegerOf}
 use Rattle.grammar.specs.Level.{Level, level1, level2}
-use Rattle.grammar.specs.Nodes.{table, tableWords}
+use Rattle.grammar.specs.Nodes.{table, tableWords, nodeWords}
 use Rattle.reading.specs.Sizes.{base, room}
 use Rattle.reading.specs.Answers as Answers
 use Rattle.reading.specs.Answers.{LevelOf, answer, Answers, faulty}
@@ -112,10 +112,10 @@ module _ (bytes : List ℕ) (number : ℕ) where
         let as-many = eqb-true (length (table v)) (length ns) (and-left size same back) in
         let alike = same-words (tableWords (table v)) (wordsOf ns) (and-right size same back) in
         λ lent h.
-        subst (λ (x : ℕ). Answers base bytes lent number (answer x p (length ns)) (wordsOf ns ++ drop (base .words * length ns) lent)) is-zero
-        (subst (λ (x : ℕ). Answers base bytes lent number (answer 0 x (length ns)) (wordsOf ns ++ drop (base .words * length ns) lent)) is-end
-        (subst (λ (x : List ℕ). Answers base bytes lent number (answer 0 (length bytes) (length ns)) (x ++ drop (base .words * length ns) lent)) alike
-        (subst (λ (x : ℕ). Answers base bytes lent number (answer 0 (length bytes) x) (tableWords (table v) ++ drop (base .words * x) lent)) as-many
+        subst (λ (x : ℕ). Answers base bytes lent number (answer x p (length ns)) (wordsOf ns ++ drop (nodeWords * length ns) lent)) is-zero
+        (subst (λ (x : ℕ). Answers base bytes lent number (answer 0 x (length ns)) (wordsOf ns ++ drop (nodeWords * length ns) lent)) is-end
+        (subst (λ (x : List ℕ). Answers base bytes lent number (answer 0 (length bytes) (length ns)) (x ++ drop (nodeWords * length ns) lent)) alike
+        (subst (λ (x : ℕ). Answers base bytes lent number (answer 0 (length bytes) x) (tableWords (table v) ++ drop (nodeWords * x) lent)) as-many
         (Answers.accepted o short well (s lent) (subst (λ (x : ℕ). x ≤ room base (length lent)) (sym as-many) h)))))
 
   ends-at : (m : Option Level) (o : Outcome) → Sound (LevelOf number) m → fitsAt bytes m o ≡ true → Ends bytes number (o .number) (o .place) (o .nodes)

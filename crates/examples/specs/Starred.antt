@@ -8,6 +8,7 @@ use lib.IntN.{ℤ, pos}
 use lib.ListN.{length, drop}
 use Rattle.rules.specs.Class.{codes}
 use Rattle.lexicon.specs.Values.{IntegerOf}
+use Rattle.grammar.specs.Nodes.{nodeWords}
 use Rattle.reading.specs.Sizes.{base, room}
 use Rattle.reading.specs.Answers.{answer, Answers}
 
@@ -65,7 +66,7 @@ atBoth s o = atLevel 1 s o ++ atLevel 2 s o
 abbrev pub Ends : List ℕ → ℕ → ℕ → ℕ → List Row → Type 0
 Ends bytes level number place nodes =
     (lent : List ℕ) → length nodes ≤ room base (length lent) →
-    Answers base bytes lent level (answer number place (length nodes)) (wordsOf nodes ++ drop (base .words * length nodes) lent)
+    Answers base bytes lent level (answer number place (length nodes)) (wordsOf nodes ++ drop (nodeWords * length nodes) lent)
 
 -- the root is an Integer literal of this value
 abbrev pub Means : List ℕ → Option ℤ → List Row → Type 0

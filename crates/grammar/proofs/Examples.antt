@@ -237,7 +237,7 @@ examples =
     ∷ example level1 (curly ∷ mark curlyClose ∷ five ∷ []) (no-at 2)
     -- {5}
     ∷ example level1 (curly ∷ five ∷ mark curlyClose ∷ []) (yes-of 3)
-    -- {1 0L}
+    -- {x 0L}
     ∷ example level1 (curly ∷ five ∷ later ∷ mark curlyClose ∷ []) (no-at 2)
     -- []
     ∷ example level2 (square ∷ mark squareClose ∷ []) (yes-of 2)

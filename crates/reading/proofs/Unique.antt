@@ -9,7 +9,7 @@ use Rattle.lexicon.proofs.Determined.{formed-or-bad, one-bad}
 use Rattle.grammar.specs.Tree.{Value}
 use Rattle.grammar.specs.Yield.{yieldValue}
 use Rattle.grammar.specs.Level.{Level}
-use Rattle.grammar.specs.Nodes.{table, tableWords}
+use Rattle.grammar.specs.Nodes.{table, tableWords, nodeWords}
 use Rattle.grammar.proofs.OneTree.{oneTree}
 use Rattle.reading.specs.declared.Answer.{Answer}
 use Rattle.reading.specs.Sizes.{Sizes, room}
@@ -78,4 +78,4 @@ module _ (sizes : Sizes) (bytes lent : List ℕ) where
       absurd (omega (arith, m, n, ap (λ (v : Value). length (table v)) (one-tree (one-level l k) a b)))
   one-reading (accepted l h w a m) (accepted k g x b n) =
       let e = one-tree (one-level l k) a b in
-      (ap (λ (v : Value). answer 0 (length bytes) (length (table v))) e, ap (λ (v : Value). tableWords (table v) ++ drop (sizes .words * length (table v)) lent) e)
+      (ap (λ (v : Value). answer 0 (length bytes) (length (table v))) e, ap (λ (v : Value). tableWords (table v) ++ drop (nodeWords * length (table v)) lent) e)

@@ -10,7 +10,7 @@ use Rattle.lexicon.specs.Utf8.{WellFormed, BadAt}
 use Rattle.grammar.specs.Tree.{Value}
 use Rattle.grammar.specs.Yield.{yieldValue}
 use Rattle.grammar.specs.Level.{Level, keeps, level1, level2}
-use Rattle.grammar.specs.Nodes.{table, tableWords}
+use Rattle.grammar.specs.Nodes.{table, tableWords, nodeWords}
 use Rattle.reading.specs.declared.Answer.{Answer}
 use Rattle.reading.specs.Sizes.{Sizes, room}
 use Rattle.reading.specs.Faults.{FirstFault, AllPassed}
@@ -37,4 +37,4 @@ module _ (sizes : Sizes) (bytes : List ℕ) (lent : List ℕ) where
     notUtf8 : {l : Level} {p : ℕ} → LevelOf number l → length bytes ≤ sizes .text → BadAt bytes p → Answers number (answer 3 p 0) lent
     faulty : {l : Level} {n p : ℕ} → LevelOf number l → length bytes ≤ sizes .text → WellFormed bytes → FirstFault sizes l bytes n p → Answers number (answer n p 0) lent
     noRoom : {l : Level} {v : Value} → LevelOf number l → length bytes ≤ sizes .text → WellFormed bytes → Accepted l v → room sizes (length lent) < length (table v) → Answers number (answer 8 (length bytes) (length (table v))) lent
-    accepted : {l : Level} {v : Value} → LevelOf number l → length bytes ≤ sizes .text → WellFormed bytes → Accepted l v → length (table v) ≤ room sizes (length lent) → Answers number (answer 0 (length bytes) (length (table v))) (tableWords (table v) ++ drop (sizes .words * length (table v)) lent)
+    accepted : {l : Level} {v : Value} → LevelOf number l → length bytes ≤ sizes .text → WellFormed bytes → Accepted l v → length (table v) ≤ room sizes (length lent) → Answers number (answer 0 (length bytes) (length (table v))) (tableWords (table v) ++ drop (nodeWords * length (table v)) lent)

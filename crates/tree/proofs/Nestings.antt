@@ -42,11 +42,12 @@ use Rattle.tree.specs.declared.leaf.Further.{Further}
 use Rattle.tree.specs.declared.leaf.Further.the-variants as Further
 use Rattle.tree.specs.declared.leaf.Named.{Named}
 use Rattle.tree.specs.declared.leaf.Named.the-variants as Named
+use Rattle.tree.specs.declared.answer.Read.{Read}
 use Rattle.tree.specs.declared.answer.Got.{Got}
 use Rattle.tree.specs.declared.answer.Got.the-variants as Got
 use Rattle.tree.specs.Looks.{Gets, NotNext}
 use Rattle.tree.specs.Readers.{spanOf, Stands, Faulty, Asks, Nesting}
-use Rattle.tree.specs.Tellings.{ColonsNext, ColonsHere, NameNext, NameHere, OtherHere, BadHere}
+use Rattle.tree.specs.Tellings.{ColonsNext, ColonsHere, NameNext, NameHere, OtherHere, BadHere, unnamedBy, namelessBy}
 use Rattle.tree.proofs.Bounds.{token-bounds}
 
 -- ---- a test that leaves a variant out tells that one of the others is there, by their places in the enum
@@ -115,6 +116,10 @@ module _ (text : List ℕ) where
 
   pub name-missing : (at : ℕ) (r : Got) {n q : ℕ} → Gets text at r → r ≡ Got.Refused n q → NameNext text at (Named.Refused n q)
   name-missing at r g e = ⊎-elim (λ x. inl x) (λ x. inr (inl x)) (subst (λ (x : Got). Gets text at x) e g)
+
+  -- the same, handed on
+  pub unnamed-next : (at : ℕ) (r : Got) (z : Named) {n q : ℕ} → Gets text at r → r ≡ Got.Refused n q → z ≡ unnamedBy r → NameNext text at z
+  unnamed-next at r z g e x = subst (λ (y : Named). NameNext text at y) (sym (x ∙ ap unnamedBy e)) (name-missing at r g e)
 
   pub name-other : (at : ℕ) (r : Got) {t : Token.Token} → Gets text at r → r ≡ Got.Token t → ((f : Form) → t .kind ≡ Kind.Text f → ⊥) →
       NameNext text at (Named.Refused 6 (t .first))
@@ -288,3 +293,7 @@ module _ (text : List ℕ) where
               (λ y. ⊎-elim (λ x. numbered forms (x .0) (end-here base (levelOf forms) text (w .stands) place (x .1) refl))
               (λ z. ⊎-elim (λ x. numbered forms (x .0) (other forms K d w (x .1))) (λ x. numbered forms (x .0) (bad forms K d w (x .1))) z) y)
               (subst (λ (x : Named). NameNext text at x) q n)
+
+      pub nameless-read : {at number place : ℕ} (r : Named) (z : Read) → Behind at → NameNext text at r → r ≡ Named.Refused number place → z ≡ namelessBy r →
+          Nesting text t lent left index parent z
+      nameless-read r z b x e q = subst (λ (y : Read). Nesting text t lent left index parent y) (sym (q ∙ ap namelessBy e)) (nesting-refused r b x e)

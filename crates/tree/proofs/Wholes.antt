@@ -6,6 +6,9 @@ use mathlib.Core.Option.{Option, none, some}
 use Prim.Native.Nat.{ℕ, _+_, _*_, _/_, min, _≤_, _<_}
 use native.Mathlib.Omega.{arith}
 use lib.ListN.{length, drop}
+use types.Run.{OneOf, miss}
+use denote.Enum.Declared.{tagOf}
+use Rattle.lexicon.proofs.Next as NextType
 use Rattle.lexicon.specs.declared.Kind.{Kind}
 use Rattle.lexicon.specs.declared.Kind.the-variants as Kind
 use Rattle.lexicon.specs.declared.Token as Token
@@ -44,7 +47,7 @@ use Rattle.tree.specs.declared.level.Leveled.{Leveled}
 use Rattle.tree.specs.declared.level.Leveled.the-variants as Leveled
 use Rattle.tree.specs.Looks.{Gets, handedOn, LevelFound}
 use Rattle.tree.specs.Readers.{spanOf, Stands, Faulty, Faultless, Stops, Fit, Asks, IsValue, Outcome, Reads}
-use Rattle.tree.specs.Whole.{Behind, further, nothing, atEnd, Whole, JudgedAs, Judged, Told, refusal}
+use Rattle.tree.specs.Whole.{Behind, further, nothing, atEnd, Whole, JudgedAs, Judged, Told, beyondBy, refusal}
 use Rattle.tree.proofs.Bounds.{token-bounds}
 use Rattle.tree.proofs.Looking.{got-token}
 use Rattle.tree.proofs.Readings.{refused-here}
@@ -55,11 +58,10 @@ roomy n words h = omega (arith, h)
 
 -- ---- what stands behind the value
 
-pub behind-token : (text : List ℕ) (at : ℕ) (read : Read) (r : Next) {t : Token.Token} → Comes text at r → r ≡ Next.Token t → Behind text at read (Read.Refused 6 (t .first))
-behind-token text at read r k e = further (subst (λ (x : Next). Comes text at x) e k)
-
-pub behind-none : (text : List ℕ) (at : ℕ) (read : Read) (r : Next) {q : ℕ} → Comes text at r → r ≡ Next.NoToken q → Behind text at read (Read.Refused 4 q)
-behind-none text at read r k e = nothing (subst (λ (x : Next). Comes text at x) e k)
+pub behind-beyond : (text : List ℕ) (at : ℕ) (read : Read) (r : Next) {z : Read} → Comes text at r → OneOf (0 ∷ 2 ∷ []) (tagOf NextType.the-type r) → z ≡ beyondBy r → Behind text at read z
+behind-beyond text at read (Next.Token t) k x e = subst (λ (y : Read). Behind text at read y) (sym e) (further k)
+behind-beyond text at read (Next.End q) k x e = absurd (miss (0 ∷ 2 ∷ []) 1 tt x)
+behind-beyond text at read (Next.NoToken q) k x e = subst (λ (y : Read). Behind text at read y) (sym e) (nothing k)
 
 pub behind-end : (text : List ℕ) (at : ℕ) (read : Read) (r : Next) {q : ℕ} → Comes text at r → r ≡ Next.End q → Behind text at read read
 behind-end text at read r k e = atEnd (subst (λ (x : Next). Comes text at x) e k)

@@ -15,6 +15,10 @@ use Rattle.grammar.specs.Tokens.{Wording, wording}
 use Rattle.grammar.specs.Nodes.{truthDetail, spellingDetail}
 use Rattle.moves.specs.declared.Shape.{Shape}
 use Rattle.moves.specs.declared.Shape.the-variants as Shape
+use Rattle.tree.specs.declared.answer.Read.{Read}
+use Rattle.tree.specs.declared.answer.Read.the-variants as Read
+use Rattle.tree.specs.declared.answer.Got.{Got}
+use Rattle.tree.specs.declared.answer.Got.the-variants as Got
 use Rattle.tree.specs.declared.leaf.Telling.{Telling}
 use Rattle.tree.specs.declared.leaf.Further.{Further}
 use Rattle.tree.specs.declared.leaf.Further.the-variants as Further
@@ -121,3 +125,13 @@ module _ (text : List ℕ) where
   NameNext at (Named.At end) = NameHere at end
   NameNext at (Named.Refused n q) =
       ((n ≡ 4) × Comes text at (Next.NoToken q)) ⊎ ((n ≡ 6) × Comes text at (Next.End q)) ⊎ ((n ≡ 6) × OtherHere at q) ⊎ ((n ≡ 5) × BadHere at q)
+
+-- ---- refusals handed on
+
+abbrev pub unnamedBy : Got → Named
+unnamedBy (Got.Token t) = Named.Refused 6 (t .first)
+unnamedBy (Got.Refused n q) = Named.Refused n q
+
+abbrev pub namelessBy : Named → Read
+namelessBy (Named.At end) = Read.Refused 6 end
+namelessBy (Named.Refused n q) = Read.Refused n q

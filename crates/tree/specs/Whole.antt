@@ -4,6 +4,7 @@ use mathlib.Core.List.{List}
 use Prim.Native.Nat.{ℕ}
 use lib.ListN.{length}
 use Rattle.lexicon.specs.declared.Token as Token
+use Rattle.lexicon.specs.declared.Next.{Next}
 use Rattle.lexicon.specs.declared.Next.the-variants as Next
 use Rattle.lexicon.specs.Token.{Comes}
 use Rattle.lexicon.specs.Utf8.{WellFormed}
@@ -48,3 +49,9 @@ module _ (text : List ℕ) where
 abbrev pub refusal : Read → Answer
 refusal (Read.Value end n shape) = answer 6 end 0
 refusal (Read.Refused n q) = answer n q 0
+
+-- what is refused behind the value of a text
+abbrev pub beyondBy : Next → Read
+beyondBy (Next.Token t) = Read.Refused 6 (t .first)
+beyondBy (Next.End q) = Read.Refused 6 q
+beyondBy (Next.NoToken q) = Read.Refused 4 q

@@ -11,11 +11,12 @@ use moves::Shape;
 use table::Entry;
 use table::put;
 use token::next::next;
+ghost use mathlib.Core.Path.{_≡_};
 ghost use Rattle.grammar.specs.Tokens.{wording};
 ghost use Rattle.grammar.specs.Nodes.{truthDetail};
 ghost use Rattle.moves.specs.declared.Shape.the-variants as Shape;
 ghost use Rattle.tree.specs.Readers.{Fit, Slim, Literal, Nesting};
-ghost use Rattle.tree.specs.Tellings.{wordingDetail, wordingShape, ToldAs, LeafTold, ColonsNext, NameNext};
+ghost use Rattle.tree.specs.Tellings.{wordingDetail, wordingShape, ToldAs, LeafTold, ColonsNext, NameNext, unnamedBy, namelessBy};
 
 // What a literal's node tells, and what the literal is to a colon.
 pub struct Telling {
@@ -148,24 +149,48 @@ fn name(text: &[u8], at: usize) -> Named
     ensures { λ r. ⌜ NameNext (now (text .entry)) at r ⌝ }
 {
     let got = get(text, at);
+    let Got::Token(t) = got else {
+        return unnamed(got);
+    };
+    let kind = t.kind;
+    let Kind::Text(_) = kind else {
+        return Named::Refused {
+            number: 6,
+            place: t.first,
+        };
+    };
+    if t.bad {
+        return Named::Refused {
+            number: 5,
+            place: t.first,
+        };
+    }
+    Named::At(t.end)
+}
+
+// The refusal of a token, as that of a name.
+fn unnamed(got: Got) -> Named
+    ensures { λ r. ⌜ r ≡ unnamedBy got ⌝ }
+{
     match got {
+        Got::Token(t) => Named::Refused {
+            number: 6,
+            place: t.first,
+        },
         Got::Refused { number, place } => Named::Refused { number, place },
-        Got::Token(t) => {
-            let kind = t.kind;
-            let Kind::Text(_) = kind else {
-                return Named::Refused {
-                    number: 6,
-                    place: t.first,
-                };
-            };
-            if t.bad {
-                return Named::Refused {
-                    number: 5,
-                    place: t.first,
-                };
-            }
-            Named::At(t.end)
-        }
+    }
+}
+
+// The refusal of a name, as that of a value.
+fn nameless(named: Named) -> Read
+    ensures { λ r. ⌜ r ≡ namelessBy named ⌝ }
+{
+    match named {
+        Named::At(end) => Read::Refused {
+            number: 6,
+            place: end,
+        },
+        Named::Refused { number, place } => Read::Refused { number, place },
     }
 }
 
@@ -177,37 +202,29 @@ pub(crate) fn names(text: &[u8], t: Token, table: &mut [u32], index: usize, pare
     let mut at = t.end;
     loop {
         let named = name(text, at);
-        match named {
-            Named::Refused { number, place } => {
-                return Read::Refused { number, place };
-            }
-            Named::At(end) => {
-                let more = two_colons(text, end);
-                match more {
-                    Further::At(next) => {
-                        at = next;
-                    }
-                    Further::Nothing => {
-                        put(
-                            table,
-                            index,
-                            Entry {
-                                kind: 8,
-                                first: t.first as u32,
-                                end: end as u32,
-                                parent: parent as u32,
-                                role: Role::Root,
-                                detail: 0,
-                            },
-                        );
-                        return Read::Value {
-                            end,
-                            nodes: 1,
-                            shape: Shape::Name,
-                        };
-                    }
-                }
-            }
-        }
+        let Named::At(end) = named else {
+            return nameless(named);
+        };
+        let more = two_colons(text, end);
+        let Further::At(next) = more else {
+            put(
+                table,
+                index,
+                Entry {
+                    kind: 8,
+                    first: t.first as u32,
+                    end: end as u32,
+                    parent: parent as u32,
+                    role: Role::Root,
+                    detail: 0,
+                },
+            );
+            return Read::Value {
+                end,
+                nodes: 1,
+                shape: Shape::Name,
+            };
+        };
+        at = next;
     }
 }

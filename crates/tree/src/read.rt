@@ -19,7 +19,7 @@ ghost use Prim.Native.Nat.{_≤_};
 ghost use lib.ListN.{length};
 ghost use Rattle.reading.specs.Sizes.{base, room as roomOf};
 ghost use Rattle.reading.specs.Answers.{Answers, answer};
-ghost use Rattle.tree.specs.Whole.{Behind, Judged, Told, refusal};
+ghost use Rattle.tree.specs.Whole.{Behind, Judged, Told, beyondBy, refusal};
 
 const LONGEST: usize = 32768;
 
@@ -53,12 +53,22 @@ fn ended(text: &[u8], at: usize, read: Read) -> Read
     ensures { λ r. ⌜ Behind (now (text .entry)) at read r ⌝ }
 {
     let then = next(text, at);
+    let Next::End(_) = then else {
+        return beyond(then);
+    };
+    read
+}
+
+// What stands behind the value of a text, if not the end, is refused.
+fn beyond(then: Next) -> Read
+    ensures { λ r. ⌜ r ≡ beyondBy then ⌝ }
+{
     match then {
         Next::Token(t) => Read::Refused {
             number: 6,
             place: t.first,
         },
-        Next::End(_) => read,
+        Next::End(place) => Read::Refused { number: 6, place },
         Next::NoToken(place) => Read::Refused { number: 4, place },
     }
 }

@@ -4,10 +4,12 @@ mod damage;
 mod grammar;
 mod long;
 mod noise;
+mod pieces;
 mod random;
 
 pub use grammar::Made;
 pub use long::long_texts;
+pub use pieces::{long_pieces, pieces, sample_pieces, short_pieces};
 pub use random::Random;
 
 /// `n` texts of three families in turn: noise, grammar-made, damaged.

@@ -1,0 +1,2 @@
+-- That the answers meet the demands.
+pub mod Derived

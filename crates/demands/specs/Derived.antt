@@ -1,0 +1,60 @@
+-- Demand 2: 'a text is accepted exactly when the MUON grammar, as condensed in document 01, derives it, no literal in it has a bad value
+-- and it keeps the size rules there. The node table is that derivation, node for node.' Said without the order in which a reader meets
+-- the tokens; proofs/Derived.antt proves it of the answers. Assumes nothing.
+use mathlib.Core.Path.{_≡_}
+use mathlib.Core.Bool.{true}
+use mathlib.Core.List.{List, [], _++_}
+use Prim.Native.Nat.{ℕ, _*_, _≤_}
+use lib.ListN.{length, drop}
+use Rattle.lexicon.specs.declared.Token as Token
+use Rattle.lexicon.specs.declared.Next.the-variants as Next
+use Rattle.lexicon.specs.Utf8.{WellFormed}
+use Rattle.lexicon.specs.Front.{Front}
+use Rattle.lexicon.specs.Token.{Bad, Comes}
+use Rattle.grammar.specs.Tokens.{Tok}
+use Rattle.grammar.specs.Tree.{Value}
+use Rattle.grammar.specs.Yield.{yieldValue}
+use Rattle.grammar.specs.Level.{Level, keeps}
+use Rattle.grammar.specs.Nodes.{table, tableWords, nodeWords}
+use Rattle.reading.specs.declared.Answer.{Answer}
+use Rattle.reading.specs.Sizes.{Sizes, room}
+use Rattle.reading.specs.Tokens.{Follow, opened}
+use Rattle.reading.specs.Answers.{LevelOf}
+
+-- the tree derives the text at the level, no literal has a bad value, and never are too many brackets open
+pub record Derived (sizes : Sizes) (l : Level) (bytes : List ℕ) (v : Value) : Type 0 where
+  -- the tree has forms of the level only
+  pub of-level : keeps l v ≡ true
+  -- from the front to the end the tokens of the text are those of the tree
+  pub start : ℕ
+  pub front : Front bytes start
+  pub end : ℕ
+  pub row : Follow bytes start (yieldValue v []) end
+  pub at-end : Comes bytes end (Next.End (length bytes))
+  -- no literal in it has a bad value, whatever row of tokens from the front it stands behind
+  pub sound : {before : List Tok} {p : ℕ} {t : Token.Token} → Follow bytes start before p → Comes bytes p (Next.Token t) →
+      Bad bytes (t .kind) (t .first) (t .end) → ⊥
+  -- with whatever tokens the tree begins, no more brackets are open behind them than the size allows
+  pub shallow : (before behind : List Tok) → before ++ behind ≡ yieldValue v [] → opened before ≤ sizes .depth
+
+module _ (sizes : Sizes) (bytes lent : List ℕ) where
+  -- all that acceptance asks: a level's number, a text that is UTF-8 and not too long, its derivation, and room for the nodes
+  pub record Acceptable (number : ℕ) (v : Value) : Type 0 where
+    pub level : Level
+    pub level-is : LevelOf number level
+    pub short : length bytes ≤ sizes .text
+    pub formed : WellFormed bytes
+    pub derived : Derived sizes level bytes v
+    pub fits : length (table v) ≤ room sizes (length lent)
+
+  -- the answer and the table at exit say: accepted, with the nodes of this derivation. What stands behind their words, `Answers` says
+  pub record Shows (v : Value) (r : Answer) (t : List ℕ) : Type 0 where
+    pub number-is : r .number ≡ 0
+    pub place-is : r .place ≡ length bytes
+    pub count-is : r .count ≡ length (table v)
+    pub table-is : t ≡ tableWords (table v) ++ drop (nodeWords * length (table v)) lent
+
+  -- demand 2 of one reading: accepted exactly when there is such a derivation, and then it is the one that the table shows
+  pub record Decides (number : ℕ) (r : Answer) (t : List ℕ) : Type 0 where
+    pub only : r .number ≡ 0 → (v : Value) × Acceptable number v
+    pub whenever : {v : Value} → Acceptable number v → Shows v r t

@@ -1,0 +1,2 @@
+-- The customer's demands in their own words.
+pub mod Derived
