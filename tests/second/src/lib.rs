@@ -8,7 +8,7 @@
 //! `cargo test --offline` runs the papers' texts.  The comparisons with the
 //! verified code need the directory of `libtoken_c.a` or of `libcapi.a`:
 //! `MUON_LIB_DIR=... cargo run --release --offline --features staticlib
-//! --bin compare_tokens`, or `--bin compare_readings`.
+//! --bin compare_tokens`, or `--features muon --bin compare_readings`.
 
 pub mod answer;
 pub mod compare;

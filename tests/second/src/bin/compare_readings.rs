@@ -3,17 +3,21 @@
 //! archive's own readings that old and new agree, and bounds its time on
 //! long inputs.
 //!
+//! The texts are every sample, broken off at every byte and with bits
+//! flipped, texts made by the grammar or nearly, random bytes, and long ones.
+//!
 //! Exits with 1 at the first disagreement.
 
 use second::answer::{Answer, DEPTH_MAX, NEWER_FORM, NODE_WORDS, NO_ROOM, TEXT_MAX};
 use second::compare::{finish, same, Compared, Difference};
-use second::generate::{long_texts, texts, Random};
+use second::generate::{flipped, long_texts, random_bytes, texts, Random};
 use second::{samples, tree};
 use std::process::ExitCode;
 use std::time::{Duration, Instant};
 
 const SEED: u64 = 20_261_116;
 const GENERATED: usize = 100_000;
+const RANDOM_BYTES: usize = 4_000_000;
 /// More words than 1,024 nodes take.
 const WORDS_MAX: usize = 6_200;
 /// Words behind the lent table, which no call may touch.
@@ -25,45 +29,13 @@ const NUMBERS: [usize; 10] = [0, 1, 2, 3, 4, 5, 6, 7, 8, 11];
 /// more for each bracket around them; a quadratic scan takes far longer.
 const TIME_BOUND: Duration = Duration::from_millis(250);
 
-/// The call of the archive, with slices in place of pointers.
-mod archive {
-    use super::Answer;
-
-    mod raw {
-        extern "C" {
-            pub fn muon_read(
-                level: u32,
-                text: *const u8,
-                text_len: usize,
-                table: *mut u32,
-                table_len: usize,
-                place: *mut usize,
-                count: *mut usize,
-            ) -> u32;
-        }
-    }
-
-    pub fn read(level: u32, text: &[u8], table: &mut [u32]) -> Answer {
-        // What the call does not write must not look like an answer.
-        let (mut place, mut count) = (usize::MAX, usize::MAX);
-        // SAFETY: pointers and lengths are those of live slices and numbers,
-        // and what may be written is borrowed by this call alone.
-        let number = unsafe {
-            raw::muon_read(
-                level,
-                text.as_ptr(),
-                text.len(),
-                table.as_mut_ptr(),
-                table.len(),
-                &mut place,
-                &mut count,
-            )
-        };
-        Answer {
-            number,
-            place,
-            count,
-        }
+/// The archive's reading, through the package that users link.
+fn proved(level: u32, text: &[u8], table: &mut [u32]) -> Answer {
+    let answer = muon::read(level, text, table);
+    Answer {
+        number: answer.number,
+        place: answer.place,
+        count: answer.count,
     }
 }
 
@@ -137,7 +109,7 @@ impl Counts {
     fn compare(&mut self, level: u32, text: &[u8], length: usize) -> Result<Reading, Difference> {
         self.readings += 1;
         let ours = reading(tree::read, level, text, length);
-        let theirs = reading(archive::read, level, text, length);
+        let theirs = reading(proved, level, text, length);
         let what = format!("reading at level {level} with {length} words");
         same(&what, text, ours.answer, theirs.answer)?;
         for (index, (ours, theirs)) in ours.words.iter().zip(&theirs.words).enumerate() {
@@ -167,23 +139,27 @@ impl Counts {
         lengths
     }
 
+    /// At both levels with tables of several lengths, and at levels that
+    /// aren't with one.
     fn text(&mut self, text: &[u8]) -> Compared {
         self.texts += 1;
         for length in self.lengths(text) {
             self.both_levels(text, length)?;
         }
+        for level in NO_LEVELS {
+            let length = self.random.below(WORDS_MAX + 1);
+            self.compare(level, text, length)?;
+        }
         Ok(())
     }
 
-    /// The sample and its prefixes, and the sample at levels that aren't.
+    /// The sample, broken off at every byte, and with a bit flipped.
     fn sample(&mut self, text: &[u8]) -> Compared {
         for length in 0..=text.len() {
             self.text(&text[..length])?;
         }
-        for level in NO_LEVELS {
-            for length in self.lengths(text) {
-                self.compare(level, text, length)?;
-            }
+        for flip in flipped(text, &mut self.random) {
+            self.text(&flip)?;
         }
         Ok(())
     }
@@ -195,7 +171,7 @@ impl Counts {
         let mut best = Duration::MAX;
         for _ in 0..3 {
             let start = Instant::now();
-            archive::read(2, text, &mut table);
+            proved(2, text, &mut table);
             best = best.min(start.elapsed());
         }
         self.slowest = self.slowest.max(best);
@@ -276,6 +252,9 @@ fn run(counts: &mut Counts) -> Compared {
         counts.sample(sample.text)?;
     }
     for text in texts(SEED, GENERATED) {
+        counts.text(&text)?;
+    }
+    for text in random_bytes(SEED, RANDOM_BYTES) {
         counts.text(&text)?;
     }
     for text in sized_texts().into_iter().chain(long_texts()) {

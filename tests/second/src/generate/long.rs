@@ -3,23 +3,48 @@
 /// Most of the longest text.
 const LENGTH: usize = 32_000;
 
-/// `unit` as often as fits between `front` and `rear`.
-fn filled(front: &str, unit: &str, rear: &str) -> Vec<u8> {
-    let room = LENGTH - front.len() - rear.len();
-    let text = [front, &unit.repeat(room / unit.len()), rear].concat();
-    text.into_bytes()
+/// A front, what is repeated behind it, and a rear.
+pub struct Shape {
+    front: String,
+    unit: &'static str,
+    rear: String,
+}
+
+impl Shape {
+    /// The unit as often as fits into so many bytes.
+    pub fn text(&self, length: usize) -> Vec<u8> {
+        let room = length - self.front.len() - self.rear.len();
+        let inside = self.unit.repeat(room / self.unit.len());
+        [&self.front, inside.as_str(), &self.rear]
+            .concat()
+            .into_bytes()
+    }
+}
+
+fn filled(front: &str, unit: &'static str, rear: &str) -> Shape {
+    Shape {
+        front: front.to_string(),
+        unit,
+        rear: rear.to_string(),
+    }
 }
 
 /// One comment, filling the text, between `front` and `rear`.
-fn commented(front: &str, rear: &str) -> Vec<u8> {
+fn commented(front: &str, rear: &str) -> Shape {
     filled(&format!("{front}`"), "c", &format!("`{rear}"))
 }
 
-pub fn long_texts() -> Vec<Vec<u8>> {
-    [segments(), groups(), comments(), tokens()].concat()
+pub fn long_shapes() -> Vec<Shape> {
+    let all = [segments(), groups(), comments(), tokens()];
+    all.into_iter().flatten().collect()
 }
 
-fn segments() -> Vec<Vec<u8>> {
+pub fn long_texts() -> Vec<Vec<u8>> {
+    let shapes = long_shapes();
+    shapes.iter().map(|shape| shape.text(LENGTH)).collect()
+}
+
+fn segments() -> Vec<Shape> {
     vec![
         filled("", "\"\"", ""),
         filled("", "\"a\" ", ""),
@@ -36,7 +61,7 @@ fn segments() -> Vec<Vec<u8>> {
     ]
 }
 
-fn groups() -> Vec<Vec<u8>> {
+fn groups() -> Vec<Shape> {
     vec![
         filled("1", " 1", ""),
         filled("1", "_1", "_"),
@@ -60,7 +85,7 @@ fn groups() -> Vec<Vec<u8>> {
     ]
 }
 
-fn comments() -> Vec<Vec<u8>> {
+fn comments() -> Vec<Shape> {
     vec![
         commented("5", "x"),
         commented("5", "5"),
@@ -89,7 +114,7 @@ fn comments() -> Vec<Vec<u8>> {
     ]
 }
 
-fn tokens() -> Vec<Vec<u8>> {
+fn tokens() -> Vec<Shape> {
     vec![
         filled("", "(", ""),
         filled("{", "a,", "}"),

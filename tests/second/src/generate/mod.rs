@@ -1,14 +1,18 @@
 //! Deterministic pseudo-random texts.
 
+mod bytes;
 mod damage;
+mod flip;
 mod grammar;
 mod long;
 mod noise;
 mod pieces;
 mod random;
 
+pub use bytes::random_bytes;
+pub use flip::flipped;
 pub use grammar::Made;
-pub use long::long_texts;
+pub use long::{long_shapes, long_texts, Shape};
 pub use pieces::{long_pieces, pieces, sample_pieces, short_pieces};
 pub use random::Random;
 
@@ -32,7 +36,7 @@ pub fn good_texts(seed: u64, n: usize) -> Vec<Made> {
 
 #[cfg(test)]
 mod tests {
-    use super::{good_texts, texts};
+    use super::{flipped, good_texts, random_bytes, texts, Random};
     use crate::answer::{Answer, NODES_MAX, NODE_WORDS, TEXT_MAX};
     use crate::tree;
 
@@ -40,6 +44,37 @@ mod tests {
     fn the_same_seed_gives_the_same_texts() {
         assert_eq!(texts(1, 300), texts(1, 300));
         assert_ne!(texts(1, 300), texts(2, 300));
+    }
+
+    #[test]
+    fn random_bytes_are_as_many_as_asked_and_of_every_value() {
+        let all = random_bytes(3, 100_000);
+        assert_eq!(all, random_bytes(3, 100_000));
+        let mut met = [false; 256];
+        let mut total = 0;
+        for text in all {
+            assert!(text.len() <= TEXT_MAX);
+            total += text.len();
+            text.iter().for_each(|byte| met[*byte as usize] = true);
+        }
+        assert!((100_000..100_000 + TEXT_MAX).contains(&total));
+        assert_eq!(met, [true; 256]);
+    }
+
+    #[test]
+    fn a_flipped_text_differs_in_one_bit() {
+        for (text, times) in [(&b"(x:y)"[..], 40), (&[b'a'; 64], 512), (&[b'a'; 65], 512)] {
+            let flips = flipped(text, &mut Random::new(1));
+            assert_eq!(flips.len(), times);
+            for flip in flips {
+                let bits: u32 = text
+                    .iter()
+                    .zip(&flip)
+                    .map(|(a, b)| (a ^ b).count_ones())
+                    .sum();
+                assert_eq!((bits, flip.len()), (1, text.len()));
+            }
+        }
     }
 
     #[test]

@@ -1,0 +1,162 @@
+/* A proved reader of MUON plain text (Muldis Object Notation 0.300.0) at the levels 1 and 2 of a settings box.
+
+   The archive is target/staticlib/libcapi.a, written by `rt staticlib capi` (x86-64); it needs no other library. Linking:
+
+       cc -Iinclude program.c target/staticlib/libcapi.a
+
+   The contract of every call here is proved for all inputs: any bytes, any level and any lent memory give an answer, and lent memory
+   is touched as said below and not otherwise. What is not proved is the caller: a length that is not the memory's own. */
+#ifndef MUON_H
+#define MUON_H
+
+#include <stddef.h>
+#include <stdint.h>
+
+#ifdef __cplusplus
+extern "C" {
+#endif
+
+/* ---- Sizes ------------------------------------------------------------------------------------------------------------------ */
+
+/* The longest text, in bytes. */
+#define MUON_TEXT_MAX 32768
+/* The most brackets open at once: each of ( { [ counts, also where it makes no node. */
+#define MUON_DEPTH_MAX 32
+/* Words of a node. */
+#define MUON_NODE_WORDS 6
+/* The most nodes that a table takes, however long it is. */
+#define MUON_NODES_MAX 1024
+/* The longest table that is made use of: 6,144 words. */
+#define MUON_TABLE_MAX (MUON_NODES_MAX * MUON_NODE_WORDS)
+
+/* The stack that a call needs at most, in bytes, whatever the input. Behind it: the frames of the call times the open brackets that
+   there may be come to 24,952 bytes in the archive as built today, and the most that was measured over the deepest texts is 24,632
+   (tests/stack prints both and fails if one exceeds the number here). No call takes memory from anywhere else. */
+#define MUON_STACK_MAX 32768
+
+/* ---- The answer ------------------------------------------------------------------------------------------------------------- */
+
+/* A call returns the answer's number, and writes its place and its count, in every case.
+
+   Accepted is 0: the place is the text's length, and the count is the number of nodes written.
+   A refusal leaves the table as it was. Its count is 0, except under MUON_REFUSED_NO_ROOM. */
+#define MUON_ACCEPTED 0
+
+/* The refusals, and the place that each one gives. Places are bytes, counted from 0 at the start of the lent text, with a byte-order
+   mark and a first line `#!` counted too. */
+
+/* The level is not 1 or 2. Place 0. */
+#define MUON_REFUSED_LEVEL 1
+/* The text is longer than MUON_TEXT_MAX. Place 0. */
+#define MUON_REFUSED_TOO_LONG 2
+/* Not UTF-8. The first byte at which, reading well-formed sequences from the front, none begins. */
+#define MUON_REFUSED_NOT_UTF8 3
+/* No token starts here. That byte. */
+#define MUON_REFUSED_NO_TOKEN 4
+/* A bad value in a literal: a code point outside 0..D7FF and E000..10FFFF, denominator 0, radix below 2, or a `=` in a base-64 Blob
+   with another character behind it. The literal's first byte. */
+#define MUON_REFUSED_BAD_VALUE 5
+/* A token in the wrong place. Its first byte; the end counts as a token at the text's length. */
+#define MUON_REFUSED_WRONG_PLACE 6
+/* A newer form: a construct beyond the level at a place for a value. The construct's first byte. */
+#define MUON_REFUSED_NEWER_FORM 7
+/* No room: the table is too short, or there are more than MUON_NODES_MAX nodes. The text's length; the count is the nodes needed. */
+#define MUON_REFUSED_NO_ROOM 8
+/* More than MUON_DEPTH_MAX brackets. The bracket that would be the 33rd open. (9 and 10 are no answers of a reading.) */
+#define MUON_REFUSED_TOO_DEEP 11
+
+/* Which refusal is given: 1, 2 and 3 are tested in this order over the whole text. Then the tokens are judged from left to right, and the
+   first faulty one decides: at one token 4, 6, 7, 5, 11 in this order. 8 comes last, so a text that gets it is accepted with a table of
+   count * MUON_NODE_WORDS words, if the count is at most MUON_NODES_MAX. */
+
+/* ---- The nodes -------------------------------------------------------------------------------------------------------------- */
+
+/* A node is six words of the table; the nodes stand one behind the other, the root first, a parent before its children, children in
+   the order of the text. Of the node with index i, counted from 0:
+
+       table[6 * i + MUON_NODE_KIND]     kind
+       table[6 * i + MUON_NODE_FIRST]    place of its first byte
+       table[6 * i + MUON_NODE_END]      place of the byte after its last
+       table[6 * i + MUON_NODE_PARENT]   index of its parent; 0 for the root
+       table[6 * i + MUON_NODE_ROLE]     what it is to its parent
+       table[6 * i + MUON_NODE_DETAIL]   a further detail of its kind, else 0 */
+#define MUON_NODE_KIND 0
+#define MUON_NODE_FIRST 1
+#define MUON_NODE_END 2
+#define MUON_NODE_PARENT 3
+#define MUON_NODE_ROLE 4
+#define MUON_NODE_DETAIL 5
+
+/* Kinds. A group `(v)` makes no node. The names in a Nesting are no nodes either. */
+#define MUON_KIND_IGNORANCE 1
+#define MUON_KIND_BOOLEAN 2 /* detail 0: FALSE, 1: TRUE */
+#define MUON_KIND_INTEGER 3
+#define MUON_KIND_FRACTION 4
+#define MUON_KIND_BITS 5
+#define MUON_KIND_BLOB 6
+#define MUON_KIND_TEXT 7 /* detail 1: quoted, 2: word, 3: code point */
+#define MUON_KIND_NESTING 8
+#define MUON_KIND_PAIR 9
+#define MUON_KIND_TUPLE 10
+#define MUON_KIND_LOT 11
+#define MUON_KIND_ARRAY 12 /* 12 to 15: at level 2 only */
+#define MUON_KIND_SET 13
+#define MUON_KIND_BAG 14
+#define MUON_KIND_INTERVAL 15 /* detail: see below */
+
+/* Roles. */
+#define MUON_ROLE_ROOT 0
+#define MUON_ROLE_THIS 1        /* the left side of `a:b` and `a->b`, the right side of `b<-a`; a member by itself */
+#define MUON_ROLE_THAT_AFTER 2  /* the right side of `a:b` and `a->b` */
+#define MUON_ROLE_THAT_BEFORE 3 /* the left side of `b<-a` */
+#define MUON_ROLE_NAME 4        /* the name of an attribute of a Tuple */
+#define MUON_ROLE_VALUE 5       /* the value of an attribute of a Tuple; a member of an Array, a Set or a Bag */
+#define MUON_ROLE_COUNT 6       /* behind a member of an Array, a Set or a Bag */
+#define MUON_ROLE_LOW 7         /* the low end of an Interval */
+#define MUON_ROLE_HIGH 8        /* the high end of an Interval */
+#define MUON_ROLE_SINGLE 9      /* the one value of `[v]` */
+
+/* Details of a Boolean, a Text and an Interval; every other kind's detail is 0. */
+#define MUON_DETAIL_FALSE 0
+#define MUON_DETAIL_TRUE 1
+#define MUON_DETAIL_QUOTED 1
+#define MUON_DETAIL_WORD 2
+#define MUON_DETAIL_CODE_POINT 3
+#define MUON_DETAIL_EMPTY 0       /* []        */
+#define MUON_DETAIL_ONE 1         /* [v]       */
+#define MUON_DETAIL_CLOSED 2      /* [a<=*<=b] */
+#define MUON_DETAIL_HIGH_OPEN 3   /* [a<=*<b]  */
+#define MUON_DETAIL_LOW_OPEN 4    /* [a<*<=b]  */
+#define MUON_DETAIL_OPEN 5        /* [a<*<b]   */
+#define MUON_DETAIL_FROM 6        /* [a<=*]    */
+#define MUON_DETAIL_ABOVE 7       /* [a<*]     */
+#define MUON_DETAIL_UP_TO 8       /* [*<=b]    */
+#define MUON_DETAIL_BELOW 9       /* [*<b]     */
+#define MUON_DETAIL_UNLIMITED 10  /* [*]       */
+#define MUON_DETAIL_DOTS 11       /* [a..b]    */
+
+/* ---- The call --------------------------------------------------------------------------------------------------------------- */
+
+/* Reads a text at a level, and writes its nodes to a lent table.
+
+   level      1 or 2; every other number is refused with MUON_REFUSED_LEVEL
+   text       text_len bytes, read only; need not end in 0
+   table      table_len words, that is 4 * table_len bytes; what they held does not matter
+   place      one size_t, written in every case
+   count      one size_t, written in every case
+
+   Accepted, exactly the first MUON_NODE_WORDS * *count words of the table are written. Refused, none.
+
+   Memory: all of it stays the caller's. Nothing is kept when the call returns, nothing is allocated, and there is no global state, so
+   calls may run in several threads, each with a table, a place and a count of its own; the text may be shared.
+   The caller sees to it that text, table, place and count are of the lengths told, aligned as C has it for their types, do not overlap,
+   and are not changed by another thread during the call. place and count must not be NULL. With length 0 text or table is not
+   followed and may be NULL. */
+uint32_t muon_read(uint32_t level, const uint8_t *text, size_t text_len, uint32_t *table, size_t table_len, size_t *place,
+                   size_t *count);
+
+#ifdef __cplusplus
+}
+#endif
+
+#endif

@@ -1,0 +1,50 @@
+//! The proved reader of MUON texts (Muldis Object Notation 0.300.0), as safe
+//! Rust over the C interface of `include/muon.h`.
+//!
+//! A text and a lent table go in; an [`Answer`] comes out, and the nodes of
+//! an accepted text stand in the table:
+//!
+//! ```
+//! use muon::{kind, role, Node, TABLE_MAX};
+//!
+//! let mut table = [0; TABLE_MAX];
+//! let answer = muon::read(2, b"(x:y)", &mut table);
+//! assert_eq!(answer.refusal(), None);
+//! let nodes: Vec<Node> = muon::nodes(&table, answer.count).collect();
+//! assert_eq!(nodes.len(), 3);
+//! assert_eq!(nodes[0].kind, kind::PAIR);
+//! assert_eq!((nodes[2].kind, nodes[2].role), (kind::TEXT, role::THAT_AFTER));
+//! assert_eq!(nodes[2].span(), 3..4);
+//! ```
+//!
+//! A refusal says why and where, and leaves the table as it was:
+//!
+//! ```
+//! use muon::Refusal;
+//!
+//! let mut table = [7; 60];
+//! let answer = muon::read(1, b"(Set:{7,7})", &mut table);
+//! assert_eq!(answer.refusal(), Some(Refusal::NewerForm));
+//! assert_eq!(answer.place, 0);
+//! assert_eq!(table, [7; 60]);
+//! ```
+//!
+//! Every input has an answer: no text, level or table makes a call fail in
+//! another way.  The proofs stand in the repository's crates; this package
+//! adds the one `unsafe` call, whose pointers and lengths are those of slices.
+//!
+//! # Building
+//!
+//! `MUON_LIB_DIR` names the directory of `libcapi.a`, which
+//! `rt staticlib capi` writes to `target/staticlib`.
+
+#![warn(missing_docs)]
+
+mod answer;
+mod node;
+mod raw;
+mod reading;
+
+pub use answer::{Answer, Refusal};
+pub use node::{detail, kind, nodes, role, Node, Nodes};
+pub use reading::{read, DEPTH_MAX, NODES_MAX, NODE_WORDS, STACK_MAX, TABLE_MAX, TEXT_MAX};

@@ -1,0 +1,59 @@
+//! The reading of a text.
+
+use crate::{raw, Answer};
+
+/// The longest text, in bytes.
+pub const TEXT_MAX: usize = 32_768;
+/// The most brackets open at once.
+pub const DEPTH_MAX: usize = 32;
+/// Words of a node.
+pub const NODE_WORDS: usize = 6;
+/// The most nodes that a table takes, however long it is.
+pub const NODES_MAX: usize = 1_024;
+/// The longest table that is made use of, in words.
+pub const TABLE_MAX: usize = NODES_MAX * NODE_WORDS;
+/// The stack that a call needs at most, in bytes.
+pub const STACK_MAX: usize = 32_768;
+
+/// Reads `text` at `level` and writes its nodes to `table`.
+///
+/// Accepted, exactly the first [`NODE_WORDS`]` * count` words are written;
+/// refused, none.  What the table held doesn't matter.  Levels other than 1
+/// and 2 are refused.
+///
+/// ```
+/// use muon::Refusal;
+///
+/// // a text that is broken off: the end stands in the wrong place
+/// let answer = muon::read(2, b"(engines : {7, 8", &mut [0; 60]);
+/// assert_eq!(answer.refusal(), Some(Refusal::WrongPlace));
+/// assert_eq!(answer.place, 16);
+///
+/// // a table that is too short: the count tells what is needed
+/// let answer = muon::read(2, b"{a, b, c}", &mut []);
+/// assert_eq!(answer.refusal(), Some(Refusal::NoRoom));
+/// let mut table = vec![0; answer.count * muon::NODE_WORDS];
+/// assert!(muon::read(2, b"{a, b, c}", &mut table).is_accepted());
+/// ```
+pub fn read(level: u32, text: &[u8], table: &mut [u32]) -> Answer {
+    // What the call did not write would not look like an answer.
+    let (mut place, mut count) = (usize::MAX, usize::MAX);
+    // SAFETY: pointers and lengths are those of live slices and numbers, and
+    // what may be written is borrowed by this call alone.
+    let number = unsafe {
+        raw::muon_read(
+            level,
+            text.as_ptr(),
+            text.len(),
+            table.as_mut_ptr(),
+            table.len(),
+            &mut place,
+            &mut count,
+        )
+    };
+    Answer {
+        number,
+        place,
+        count,
+    }
+}

@@ -1,0 +1,113 @@
+//! The numbers here are those of the C header.
+
+use muon::{detail, kind, role, Refusal};
+
+const HEADER: &str = include_str!("../../include/muon.h");
+
+/// The number that the header defines under the name, less `MUON_`.
+fn defined(name: &str) -> Option<usize> {
+    let define = format!("#define MUON_{name} ");
+    let rest = HEADER.lines().find_map(|line| line.strip_prefix(&define))?;
+    rest.split_whitespace().next()?.parse().ok()
+}
+
+#[test]
+fn sizes() {
+    for (name, number) in [
+        ("TEXT_MAX", muon::TEXT_MAX),
+        ("DEPTH_MAX", muon::DEPTH_MAX),
+        ("NODE_WORDS", muon::NODE_WORDS),
+        ("NODES_MAX", muon::NODES_MAX),
+        ("STACK_MAX", muon::STACK_MAX),
+    ] {
+        assert_eq!(defined(name), Some(number), "{name}");
+    }
+}
+
+#[test]
+fn words() {
+    let node = muon::Node::from([0, 1, 2, 3, 4, 5]);
+    for (name, word) in [
+        ("NODE_KIND", node.kind),
+        ("NODE_FIRST", node.first),
+        ("NODE_END", node.end),
+        ("NODE_PARENT", node.parent),
+        ("NODE_ROLE", node.role),
+        ("NODE_DETAIL", node.detail),
+    ] {
+        assert_eq!(defined(name), Some(word as usize), "{name}");
+    }
+}
+
+#[test]
+fn refusals() {
+    for (name, refusal) in [
+        ("REFUSED_LEVEL", Refusal::Level),
+        ("REFUSED_TOO_LONG", Refusal::TooLong),
+        ("REFUSED_NOT_UTF8", Refusal::NotUtf8),
+        ("REFUSED_NO_TOKEN", Refusal::NoToken),
+        ("REFUSED_BAD_VALUE", Refusal::BadValue),
+        ("REFUSED_WRONG_PLACE", Refusal::WrongPlace),
+        ("REFUSED_NEWER_FORM", Refusal::NewerForm),
+        ("REFUSED_NO_ROOM", Refusal::NoRoom),
+        ("REFUSED_TOO_DEEP", Refusal::TooDeep),
+    ] {
+        assert_eq!(defined(name), Some(refusal.number() as usize), "{name}");
+    }
+    for refusal in Refusal::ALL {
+        assert_eq!(Refusal::from_number(refusal.number()), Some(refusal));
+    }
+    for number in [0, 12, u32::MAX] {
+        assert_eq!(Refusal::from_number(number), None);
+    }
+}
+
+#[test]
+fn kinds_roles_and_details() {
+    for (name, number) in [
+        ("KIND_IGNORANCE", kind::IGNORANCE),
+        ("KIND_BOOLEAN", kind::BOOLEAN),
+        ("KIND_INTEGER", kind::INTEGER),
+        ("KIND_FRACTION", kind::FRACTION),
+        ("KIND_BITS", kind::BITS),
+        ("KIND_BLOB", kind::BLOB),
+        ("KIND_TEXT", kind::TEXT),
+        ("KIND_NESTING", kind::NESTING),
+        ("KIND_PAIR", kind::PAIR),
+        ("KIND_TUPLE", kind::TUPLE),
+        ("KIND_LOT", kind::LOT),
+        ("KIND_ARRAY", kind::ARRAY),
+        ("KIND_SET", kind::SET),
+        ("KIND_BAG", kind::BAG),
+        ("KIND_INTERVAL", kind::INTERVAL),
+        ("ROLE_ROOT", role::ROOT),
+        ("ROLE_THIS", role::THIS),
+        ("ROLE_THAT_AFTER", role::THAT_AFTER),
+        ("ROLE_THAT_BEFORE", role::THAT_BEFORE),
+        ("ROLE_NAME", role::NAME),
+        ("ROLE_VALUE", role::VALUE),
+        ("ROLE_COUNT", role::COUNT),
+        ("ROLE_LOW", role::LOW),
+        ("ROLE_HIGH", role::HIGH),
+        ("ROLE_SINGLE", role::SINGLE),
+        ("DETAIL_FALSE", detail::FALSE),
+        ("DETAIL_TRUE", detail::TRUE),
+        ("DETAIL_QUOTED", detail::QUOTED),
+        ("DETAIL_WORD", detail::WORD),
+        ("DETAIL_CODE_POINT", detail::CODE_POINT),
+        ("DETAIL_EMPTY", detail::EMPTY),
+        ("DETAIL_ONE", detail::ONE),
+        ("DETAIL_CLOSED", detail::CLOSED),
+        ("DETAIL_HIGH_OPEN", detail::HIGH_OPEN),
+        ("DETAIL_LOW_OPEN", detail::LOW_OPEN),
+        ("DETAIL_OPEN", detail::OPEN),
+        ("DETAIL_FROM", detail::FROM),
+        ("DETAIL_ABOVE", detail::ABOVE),
+        ("DETAIL_UP_TO", detail::UP_TO),
+        ("DETAIL_BELOW", detail::BELOW),
+        ("DETAIL_UNLIMITED", detail::UNLIMITED),
+        ("DETAIL_DOTS", detail::DOTS),
+    ] {
+        assert_eq!(defined(name), Some(number as usize), "{name}");
+    }
+}

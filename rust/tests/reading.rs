@@ -1,0 +1,87 @@
+//! What a caller of the package meets: answers, tables, nodes.
+
+use muon::{detail, kind, role, Answer, Node, Refusal};
+
+const FILLED: u32 = 0xA5A5_A5A5;
+
+/// The answer and the nodes at a level, with room enough.
+fn nodes(level: u32, text: &[u8]) -> (Answer, Vec<Node>) {
+    let mut table = vec![FILLED; muon::TABLE_MAX];
+    let answer = muon::read(level, text, &mut table);
+    let written = match answer.is_accepted() {
+        true => answer.count * muon::NODE_WORDS,
+        false => 0,
+    };
+    assert!(table[written..].iter().all(|word| *word == FILLED));
+    (
+        answer,
+        muon::nodes(&table[..written], answer.count).collect(),
+    )
+}
+
+fn refused(level: u32, text: &[u8]) -> (Option<Refusal>, usize) {
+    let (answer, _) = nodes(level, text);
+    (answer.refusal(), answer.place)
+}
+
+#[test]
+fn a_pair() {
+    let (answer, nodes) = nodes(2, b"(x:y)");
+    assert_eq!(answer.accepted(), Ok(3));
+    assert_eq!(answer.place, 5);
+    let words = [[9, 0, 5, 0, 0, 0], [7, 1, 2, 0, 1, 2], [7, 3, 4, 0, 2, 2]];
+    assert_eq!(nodes, words.map(Node::from));
+}
+
+#[test]
+fn a_group_makes_no_node() {
+    let (_, nodes) = nodes(1, b"((x))");
+    assert_eq!(nodes.len(), 1);
+    assert_eq!(nodes[0].span(), 2..3);
+    assert_eq!(nodes[0].role, role::ROOT);
+}
+
+#[test]
+fn an_interval() {
+    assert_eq!(refused(1, b"[1..10]"), (Some(Refusal::NewerForm), 0));
+    let (_, nodes) = nodes(2, b"[1..10]");
+    assert_eq!(
+        (nodes[0].kind, nodes[0].detail),
+        (kind::INTERVAL, detail::DOTS)
+    );
+    assert_eq!([nodes[1].role, nodes[2].role], [role::LOW, role::HIGH]);
+}
+
+#[test]
+fn every_refusal_of_a_reading() {
+    for (level, text, refusal, place) in [
+        (0, b"5".to_vec(), Refusal::Level, 0),
+        (u32::MAX, b"5".to_vec(), Refusal::Level, 0),
+        (2, vec![b' '; muon::TEXT_MAX + 1], Refusal::TooLong, 0),
+        (2, b"ab\xFF".to_vec(), Refusal::NotUtf8, 2),
+        (2, b"\"a".to_vec(), Refusal::NoToken, 0),
+        (2, b" 1/0".to_vec(), Refusal::BadValue, 1),
+        (2, b"(a,,b)".to_vec(), Refusal::WrongPlace, 3),
+        (2, vec![], Refusal::WrongPlace, 0),
+        (1, b"(Set:{7,7})".to_vec(), Refusal::NewerForm, 0),
+        (2, vec![b'{'; 33], Refusal::TooDeep, 32),
+    ] {
+        assert_eq!(refused(level, &text), (Some(refusal), place), "{refusal}");
+    }
+}
+
+#[test]
+fn no_room_tells_the_need() {
+    let mut table = [FILLED; 17];
+    let answer = muon::read(2, b"(x:y)", &mut table);
+    assert_eq!(answer.refusal(), Some(Refusal::NoRoom));
+    assert_eq!((answer.place, answer.count), (5, 3));
+    assert_eq!(table, [FILLED; 17]);
+}
+
+#[test]
+fn nodes_of_a_short_table() {
+    assert_eq!(muon::nodes(&[1; 17], 5).len(), 2);
+    assert_eq!(muon::nodes(&[], usize::MAX).count(), 0);
+    assert_eq!(muon::nodes(&[1; 18], 1).count(), 1);
+}

@@ -1,0 +1,106 @@
+//! Accepted texts of a given length, each of one shape.
+
+use second::answer::DEPTH_MAX;
+use std::iter;
+
+pub const SIZES: [usize; 3] = [1_024, 8_192, 32_768];
+
+/// A text of so many bytes.
+type Shape = fn(usize) -> Vec<u8>;
+
+pub const SHAPES: [(&str, Shape); 7] = [
+    ("settings", settings),
+    ("comment", comment),
+    ("nesting", nesting),
+    ("groups", groups),
+    ("segments", segments),
+    ("integer", integer),
+    ("grouped-integer", grouped_integer),
+];
+
+/// A word so long that 32 KB of them have fewer than 1,024 nodes.
+const WORD: &str = "a_setting_with_a_name_of_33_bytes";
+
+/// Space behind the text up to its length.
+fn padded(mut text: String, size: usize) -> Vec<u8> {
+    assert!(text.len() <= size, "{} of {size} bytes", text.len());
+    text.extend(iter::repeat_n(' ', size - text.len()));
+    text.into_bytes()
+}
+
+/// What the office program might write for one wind machine, line by line.
+fn machine(number: usize) -> [String; 10] {
+    [
+        format!(
+            "`Wind machine {number}. Temperatures are those of the air at the height of the buds.`"
+        ),
+        format!("name_{number} : \"Orchard at the creek, upper rows, machine {number}\","),
+        format!("start_below_{number} : -1.5, `degrees Celsius`"),
+        format!("stop_above_{number} : 2.25,"),
+        "`An engine that turns already is never cranked: its relay stays open.`".to_string(),
+        format!("engines_{number} : (Set:{{7, 8}}),"),
+        "`Hours of the night in which it may start at all; the neighbours were asked.`".to_string(),
+        format!("hours_{number} : [18..30],"),
+        "`Where the plan of the rows lies, for the fitter.`".to_string(),
+        format!("plan_{number} : \"valley/plans/2026/november/machine-{number}\","),
+    ]
+}
+
+fn settings(size: usize) -> Vec<u8> {
+    let mut text = "`Settings of the site, by the office program`\n(\n".to_string();
+    for line in (1..).flat_map(machine) {
+        if text.len() + line.len() + 7 > size {
+            break;
+        }
+        text += &format!("    {line}\n");
+    }
+    padded(text + ")\n", size)
+}
+
+fn comment(size: usize) -> Vec<u8> {
+    let words = "A page of the manual, pasted whole. ";
+    let inside: String = words.chars().cycle().take(size - 3).collect();
+    format!("`{inside}`5").into_bytes()
+}
+
+/// Words with commas behind them, so many bytes or a little less.
+fn words(size: usize) -> String {
+    format!("{WORD},").repeat(size / (WORD.len() + 1))
+}
+
+/// Lots, each the last member of the one around it.
+fn nesting(size: usize) -> Vec<u8> {
+    let each = size / DEPTH_MAX;
+    let open: String = (0..DEPTH_MAX)
+        .map(|_| format!("{{{},", &WORD[..each.min(WORD.len() + 4) - 4]))
+        .collect();
+    let rest = size - open.len() - DEPTH_MAX;
+    let inner = words(rest);
+    padded(format!("{open}{inner}{}", "}".repeat(DEPTH_MAX)), size)
+}
+
+/// Groups around a Tuple.
+fn groups(size: usize) -> Vec<u8> {
+    let inner = words(size - 2 * DEPTH_MAX);
+    let (open, close) = ("(".repeat(DEPTH_MAX), ")".repeat(DEPTH_MAX));
+    padded(format!("{open}{inner}{close}"), size)
+}
+
+fn segments(size: usize) -> Vec<u8> {
+    padded("\"frost\" ".repeat(size / 8), size)
+}
+
+fn integer(size: usize) -> Vec<u8> {
+    padded("123_".repeat(size / 4 - 1) + "1234", size)
+}
+
+/// The literal that takes longest, where most is read again.
+fn grouped_integer(size: usize) -> Vec<u8> {
+    let literal = integer(size - 2 * DEPTH_MAX);
+    grouped(&literal)
+}
+
+/// The text in as many groups as may be.
+pub fn grouped(text: &[u8]) -> Vec<u8> {
+    [&[b'('; DEPTH_MAX], text, &[b')'; DEPTH_MAX]].concat()
+}

@@ -1,0 +1,221 @@
+//! Reads a sample of texts through the C interface out of and into memory of
+//! exactly the size lent, to be run under valgrind: a read or write outside
+//! of it is an error there, and so is an answer that depends on what the
+//! table held, since nothing is written to it before.
+//!
+//! Exits with 1 if an answer, a written word or the text is not as it should
+//! be.  `lent_memory overstated` tells one byte more than there is, which
+//! valgrind must report: so it is known to look.
+
+// links the archive
+use muon as _;
+
+use second::answer::{Answer, DEPTH_MAX, NODES_MAX, NODE_WORDS, TEXT_MAX};
+use second::compare::{finish, same, Compared};
+use second::generate::{flipped, long_texts, random_bytes, texts, Random};
+use second::{samples, tree};
+use std::alloc::{alloc, dealloc, handle_alloc_error, Layout};
+use std::process::ExitCode;
+use std::ptr::NonNull;
+use std::slice;
+
+const SEED: u64 = 20_261_115;
+const GENERATED: usize = 1_500;
+const RANDOM_BYTES: usize = 60_000;
+const LEVELS: [u32; 6] = [1, 2, 0, 3, 257, u32::MAX];
+
+extern "C" {
+    fn muon_read(
+        level: u32,
+        text: *const u8,
+        text_len: usize,
+        table: *mut u32,
+        table_len: usize,
+        place: *mut usize,
+        count: *mut usize,
+    ) -> u32;
+}
+
+/// Memory of its own for so many items, with none of them written.
+struct Lent<T> {
+    start: NonNull<T>,
+    layout: Layout,
+}
+
+impl<T: Copy> Lent<T> {
+    fn new(length: usize) -> Lent<T> {
+        let layout = Layout::array::<T>(length).expect("a small length");
+        if layout.size() == 0 {
+            let start = NonNull::dangling();
+            return Lent { start, layout };
+        }
+        // SAFETY: the size is not 0.
+        let memory = unsafe { alloc(layout) }.cast();
+        match NonNull::new(memory) {
+            Some(start) => Lent { start, layout },
+            None => handle_alloc_error(layout),
+        }
+    }
+
+    fn holding(items: &[T]) -> Lent<T> {
+        let lent = Lent::new(items.len());
+        // SAFETY: there is memory for as many.
+        unsafe {
+            lent.start
+                .copy_from(NonNull::from(items).cast(), items.len())
+        };
+        lent
+    }
+
+    /// The first items, which have been written.
+    unsafe fn written(&self, length: usize) -> &[T] {
+        slice::from_raw_parts(self.start.as_ptr(), length)
+    }
+}
+
+impl<T> Drop for Lent<T> {
+    fn drop(&mut self) {
+        if self.layout.size() > 0 {
+            // SAFETY: allocated with this layout, and not freed before.
+            unsafe { dealloc(self.start.as_ptr().cast(), self.layout) };
+        }
+    }
+}
+
+/// What the archive answers for a text and a table, each of which is lent
+/// whole, with the length told of the text.
+fn proved(level: u32, text: &Lent<u8>, told: usize, table: &Lent<u32>) -> Answer {
+    let place = Lent::<usize>::new(1);
+    let count = Lent::<usize>::new(1);
+    // SAFETY: each pointer is to memory of its own, of the length that is
+    // told, except by `overstated`; place and count are written by every call.
+    unsafe {
+        let number = muon_read(
+            level,
+            text.start.as_ptr(),
+            told,
+            table.start.as_ptr(),
+            table.layout.size() / size_of::<u32>(),
+            place.start.as_ptr(),
+            count.start.as_ptr(),
+        );
+        Answer {
+            number,
+            place: place.written(1)[0],
+            count: count.written(1)[0],
+        }
+    }
+}
+
+/// A byte behind the text is read, if valgrind does not stop it.
+fn overstated() {
+    let text = b"0123456789";
+    let lent = Lent::holding(text);
+    proved(2, &lent, text.len() + 1, &Lent::new(NODE_WORDS));
+}
+
+/// One reading, held against the second program's.
+fn compare(level: u32, text: &[u8], words: usize) -> Compared {
+    let mut ours = vec![0; words];
+    let answer = tree::read(level, text, &mut ours);
+    let written = match answer.number {
+        0 => answer.count * NODE_WORDS,
+        _ => 0,
+    };
+
+    let bytes = Lent::holding(text);
+    let table = Lent::<u32>::new(words);
+    let theirs = proved(level, &bytes, text.len(), &table);
+    let what = format!("reading at level {level} with {words} words");
+    same(&what, text, answer, theirs)?;
+    // SAFETY: the text is as long, and of an accepted one so many words are
+    // written, which valgrind checks.
+    let (after, theirs) = unsafe { (bytes.written(text.len()), table.written(written)) };
+    same(
+        &format!("{what}: the words"),
+        text,
+        &ours[..written],
+        theirs,
+    )?;
+    same(&format!("{what}: the text"), text, text, after)
+}
+
+/// At every level, with no table, the longest, what the text needs, and a
+/// word less.
+fn text(text: &[u8], readings: &mut usize) -> Compared {
+    let most = NODES_MAX * NODE_WORDS;
+    let need = (tree::read(2, text, &mut []).count * NODE_WORDS).min(most);
+    for level in LEVELS {
+        for words in [0, most, need, need.saturating_sub(1)] {
+            *readings += 1;
+            compare(level, text, words)?;
+        }
+    }
+    Ok(())
+}
+
+/// Brackets as deep as may be, around and behind others.
+fn deep_texts() -> Vec<Vec<u8>> {
+    ["({", "([", "((", "{{", "[[", "{(a:", "[a..[", "(a,("]
+        .iter()
+        .flat_map(|open| [DEPTH_MAX / 2, DEPTH_MAX / 2 + 1].map(|times| (open, times)))
+        .map(|(open, times)| {
+            let close: String = open
+                .chars()
+                .rev()
+                .filter_map(|sign| match sign {
+                    '(' => Some(')'),
+                    '{' => Some('}'),
+                    '[' => Some(']'),
+                    _ => None,
+                })
+                .collect();
+            [&open.repeat(times), "5", &close.repeat(times)].concat()
+        })
+        .map(String::into_bytes)
+        .collect()
+}
+
+fn run(readings: &mut usize) -> Compared {
+    let mut random = Random::new(SEED);
+    for sample in samples::all() {
+        text(sample.text, readings)?;
+        // broken off, and with a bit flipped
+        text(
+            &sample.text[..random.below(sample.text.len() + 1)],
+            readings,
+        )?;
+        let flips = flipped(sample.text, &mut random);
+        if !flips.is_empty() {
+            text(&flips[random.below(flips.len())], readings)?;
+        }
+    }
+    for generated in texts(SEED, GENERATED) {
+        text(&generated, readings)?;
+    }
+    for bytes in random_bytes(SEED, RANDOM_BYTES) {
+        text(&bytes, readings)?;
+    }
+    for deep in deep_texts() {
+        text(&deep, readings)?;
+    }
+    for long in long_texts() {
+        // the end of a long text, right in front of memory that isn't lent
+        compare(2, &long, NODES_MAX * NODE_WORDS)?;
+        *readings += 1;
+    }
+    for length in [TEXT_MAX, TEXT_MAX + 1] {
+        text(&samples::members(length), readings)?;
+    }
+    Ok(())
+}
+
+fn main() -> ExitCode {
+    if std::env::args().nth(1).as_deref() == Some("overstated") {
+        overstated();
+        return ExitCode::SUCCESS;
+    }
+    let mut readings = 0;
+    let outcome = run(&mut readings);
+    finish("lent_memory", &format!("{readings} readings"), outcome)
+}
