@@ -4,6 +4,13 @@ use super::{both, count, each, lacks, no, ok, Sample, Want};
 
 pub const EXAMPLES: &[(&str, &[Sample])] = &[
     (
+        "docs/DECISIONS.md",
+        &[
+            both(b"1 0L", no(6, 3)),
+            both(b"\"a\" \"\\<0cxD800>", no(4, 4)),
+        ],
+    ),
+    (
         "A1",
         &[
             each(
