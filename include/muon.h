@@ -1,11 +1,13 @@
-/* A proved reader of MUON plain text (Muldis Object Notation 0.300.0) at the levels 1 and 2 of a settings box.
+/* A proved reader of MUON plain text (Muldis Object Notation 0.300.0) at the levels 1 and 2 of a settings box: muon_read gives the nodes
+   of a text, muon_integer and muon_text give the value of one literal.
 
    The archive is target/staticlib/libcapi.a, written by `rt staticlib capi` (x86-64); it needs no other library. Linking:
 
        cc -Iinclude program.c target/staticlib/libcapi.a
 
    The contract of every call here is proved for all inputs: any bytes, any level and any lent memory give an answer, and lent memory
-   is touched as said below and not otherwise. What is not proved is the caller: a length that is not the memory's own. */
+   is touched as said below and not otherwise. What is not proved is the caller: a length that is not the memory's own, or memory that
+   is lent twice. */
 #ifndef MUON_H
 #define MUON_H
 
@@ -18,7 +20,7 @@ extern "C" {
 
 /* ---- Sizes ------------------------------------------------------------------------------------------------------------------ */
 
-/* The longest text, in bytes. */
+/* The longest text or piece, in bytes. */
 #define MUON_TEXT_MAX 32768
 /* The most brackets open at once: each of ( { [ counts, also where it makes no node. */
 #define MUON_DEPTH_MAX 32
@@ -29,25 +31,27 @@ extern "C" {
 /* The longest table that is made use of: 6,144 words. */
 #define MUON_TABLE_MAX (MUON_NODES_MAX * MUON_NODE_WORDS)
 
-/* The stack that a call needs at most, in bytes, whatever the input. Behind it: the frames of the call times the open brackets that
-   there may be come to 24,952 bytes in the archive as built today, and the most that was measured over the deepest texts is 24,632
-   (tests/stack prints both and fails if one exceeds the number here). No call takes memory from anywhere else. */
+/* The stack that a call needs at most, in bytes, whatever the input. Behind it: the frames of muon_read times the open brackets that
+   there may be come to 24,952 bytes in the archive as built today, those of muon_integer to 1,288 and those of muon_text to 1,016; the
+   most that was measured, over the deepest texts and the longest ways through a literal, is 24,648, 1,288 and 1,016 (tests/stack prints
+   them and fails if one exceeds the number here). No call takes memory from anywhere else. */
 #define MUON_STACK_MAX 32768
 
 /* ---- The answer ------------------------------------------------------------------------------------------------------------- */
 
 /* A call returns the answer's number, and writes its place and its count, in every case.
 
-   Accepted is 0: the place is the text's length, and the count is the number of nodes written.
-   A refusal leaves the table as it was. Its count is 0, except under MUON_REFUSED_NO_ROOM. */
+   Accepted is 0: the place is the length of the text or piece, and the count is the number of nodes written by muon_read, of bytes
+   written by muon_text, and 0 for muon_integer.
+   A refusal leaves the table or buffer as it was. Its count is 0, except under MUON_REFUSED_NO_ROOM. */
 #define MUON_ACCEPTED 0
 
-/* The refusals, and the place that each one gives. Places are bytes, counted from 0 at the start of the lent text, with a byte-order
-   mark and a first line `#!` counted too. */
+/* The refusals, and the place that each one gives. Places are bytes, counted from 0 at the start of the lent text or piece; a byte-order
+   mark and a first line `#!` of a text are counted too. */
 
 /* The level is not 1 or 2. Place 0. */
 #define MUON_REFUSED_LEVEL 1
-/* The text is longer than MUON_TEXT_MAX. Place 0. */
+/* The text or piece is longer than MUON_TEXT_MAX. Place 0. */
 #define MUON_REFUSED_TOO_LONG 2
 /* Not UTF-8. The first byte at which, reading well-formed sequences from the front, none begins. */
 #define MUON_REFUSED_NOT_UTF8 3
@@ -60,14 +64,23 @@ extern "C" {
 #define MUON_REFUSED_WRONG_PLACE 6
 /* A newer form: a construct beyond the level at a place for a value. The construct's first byte. */
 #define MUON_REFUSED_NEWER_FORM 7
-/* No room: the table is too short, or there are more than MUON_NODES_MAX nodes. The text's length; the count is the nodes needed. */
+/* No room: the table or buffer is too short, or there are more than MUON_NODES_MAX nodes. The length of the text or piece; the count is
+   the nodes or bytes needed. */
 #define MUON_REFUSED_NO_ROOM 8
-/* More than MUON_DEPTH_MAX brackets. The bracket that would be the 33rd open. (9 and 10 are no answers of a reading.) */
+/* The piece is not exactly one literal of the asked kind. Place 0. */
+#define MUON_REFUSED_NOT_THE_LITERAL 9
+/* An Integer outside -2^63 to 2^63 - 1. Place 0. */
+#define MUON_REFUSED_OUT_OF_RANGE 10
+/* More than MUON_DEPTH_MAX brackets. The bracket that would be the 33rd open. */
 #define MUON_REFUSED_TOO_DEEP 11
 
-/* Which refusal is given: 1, 2 and 3 are tested in this order over the whole text. Then the tokens are judged from left to right, and the
-   first faulty one decides: at one token 4, 6, 7, 5, 11 in this order. 8 comes last, so a text that gets it is accepted with a table of
-   count * MUON_NODE_WORDS words, if the count is at most MUON_NODES_MAX. */
+/* Which refusal is given.
+
+   muon_read: 1, 2 and 3 are tested in this order over the whole text. Then the tokens are judged from left to right, and the first
+   faulty one decides: at one token 4, 6, 7, 5, 11 in this order. 8 comes last, so a text that gets it is accepted with a table of
+   count * MUON_NODE_WORDS words, if the count is at most MUON_NODES_MAX. Never 9 or 10.
+   muon_integer: 2, 3, 9, 10 in this order, and no other.
+   muon_text: 2, 3, 9, 5, 8 in this order, and no other. A piece that gets 8 is accepted with a buffer of count bytes. */
 
 /* ---- The nodes -------------------------------------------------------------------------------------------------------------- */
 
@@ -135,7 +148,13 @@ extern "C" {
 #define MUON_DETAIL_UNLIMITED 10  /* [*]       */
 #define MUON_DETAIL_DOTS 11       /* [a..b]    */
 
-/* ---- The call --------------------------------------------------------------------------------------------------------------- */
+/* ---- The calls -------------------------------------------------------------------------------------------------------------- */
+
+/* Memory, for every call: all of it stays the caller's. Nothing is kept when the call returns, nothing is allocated, and there is no
+   global state, so calls may run in several threads, each with memory of its own to be written; what is only read may be shared.
+   The caller sees to it that what is lent is of the lengths told, aligned as C has it for its type, does not overlap, and is not changed
+   by another thread during the call. value, place and count must not be NULL. With length 0 text, table, piece or buffer is not
+   followed and may be NULL. */
 
 /* Reads a text at a level, and writes its nodes to a lent table.
 
@@ -145,15 +164,34 @@ extern "C" {
    place      one size_t, written in every case
    count      one size_t, written in every case
 
-   Accepted, exactly the first MUON_NODE_WORDS * *count words of the table are written. Refused, none.
-
-   Memory: all of it stays the caller's. Nothing is kept when the call returns, nothing is allocated, and there is no global state, so
-   calls may run in several threads, each with a table, a place and a count of its own; the text may be shared.
-   The caller sees to it that text, table, place and count are of the lengths told, aligned as C has it for their types, do not overlap,
-   and are not changed by another thread during the call. place and count must not be NULL. With length 0 text or table is not
-   followed and may be NULL. */
+   Accepted, exactly the first MUON_NODE_WORDS * *count words of the table are written. Refused, none. */
 uint32_t muon_read(uint32_t level, const uint8_t *text, size_t text_len, uint32_t *table, size_t table_len, size_t *place,
                    size_t *count);
+
+/* The value calls. Their piece is the literal alone, as a node's first and end have it: text + first, end - first bytes. No byte-order
+   mark, first line `#!` or dividing space around it is dropped; with one of them the piece is refused with 9. */
+
+/* The signed integer of an Integer literal: `29 56` is 2956, `-0x F_F` is -255.
+
+   piece      piece_len bytes, read only; need not end in 0
+   value      one int64_t, written in every case: the integer if accepted, 0 if refused
+   place      one size_t, written in every case
+   count      one size_t, written in every case, always 0 */
+uint32_t muon_integer(const uint8_t *piece, size_t piece_len, int64_t *value, size_t *place, size_t *count);
+
+/* The characters of a Text literal (quoted, word or code point) as UTF-8, from the start of a lent buffer on; no 0 is put behind them.
+   Only a segment that begins with a backslash has escapes: "\a\n" is a and a line feed, "a\n" is the three characters a, \ and n, and
+   "\" is empty.
+
+   piece      piece_len bytes, read only; need not end in 0
+   buffer     buffer_len bytes; what they held does not matter
+   place      one size_t, written in every case
+   count      one size_t, written in every case
+
+   Accepted, exactly the first *count bytes of the buffer are written, and they are well-formed UTF-8. Refused, none.
+   piece_len bytes are room enough for every piece: no form of a Text literal is shorter than its characters. (So the rules have it; it
+   is no statement of the proofs.) */
+uint32_t muon_text(const uint8_t *piece, size_t piece_len, uint8_t *buffer, size_t buffer_len, size_t *place, size_t *count);
 
 #ifdef __cplusplus
 }

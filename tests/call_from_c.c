@@ -1,5 +1,6 @@
 /* The library as a C program meets it: the header's own words tried, and the stack measured.
-   Prints the most bytes of stack that a reading of the deepest texts touched; exits with 1 if an answer is not the one expected. */
+   Prints for each call the most bytes of stack that it touched, muon_read over the deepest texts; exits with 1 if an answer is not the
+   one expected. */
 #include "muon.h"
 
 #include <stdio.h>
@@ -7,9 +8,10 @@
 #include <string.h>
 #include <ucontext.h>
 
-enum { STACK = 1 << 18, PAINT = 0xA5, WORDS = MUON_TABLE_MAX };
+enum { STACK = 1 << 18, PAINT = 0xA5, WORDS = MUON_TABLE_MAX, BYTES = 64 };
 
 static uint32_t table[WORDS];
+static uint8_t buffer[BYTES];
 static unsigned char stack[STACK] __attribute__((aligned(16)));
 static ucontext_t caller, callee;
 
@@ -19,12 +21,22 @@ static struct {
     const char *text;
     size_t length;
     size_t words;
+    size_t bytes;
     uint32_t number;
     size_t place, count;
+    int64_t value;
 } call;
 
 static void read_it(void) {
     call.number = muon_read(call.level, (const uint8_t *)call.text, call.length, table, call.words, &call.place, &call.count);
+}
+
+static void integer_of_it(void) {
+    call.number = muon_integer((const uint8_t *)call.text, call.length, &call.value, &call.place, &call.count);
+}
+
+static void text_of_it(void) {
+    call.number = muon_text((const uint8_t *)call.text, call.length, buffer, call.bytes, &call.place, &call.count);
 }
 
 static void read_nothing(void) {}
@@ -83,18 +95,113 @@ static void answers(void) {
     if (muon_read(2, spaces, sizeof spaces, table, WORDS, &place, &count) != MUON_REFUSED_TOO_LONG || place != 0) exit(1);
 }
 
-/* As many brackets as may be open around the longest ways through a literal. */
-static size_t most_touched(void) {
+static void expect_integer(const char *piece, uint32_t number, size_t place, int64_t value) {
+    call.text = piece;
+    call.length = strlen(piece);
+    call.value = 1;
+    integer_of_it();
+    if (call.number == number && call.place == place && call.count == 0 && call.value == value) return;
+    printf("integer of %s: %u %zu %zu, %lld\n", piece, (unsigned)call.number, call.place, call.count, (long long)call.value);
+    exit(1);
+}
+
+static void integers(void) {
+    expect_integer("29 56", MUON_ACCEPTED, 5, 2956);
+    expect_integer("-0x F_F", MUON_ACCEPTED, 7, -255);
+    expect_integer("9223372036854775807", MUON_ACCEPTED, 19, INT64_MAX);
+    expect_integer("9223372036854775808", MUON_REFUSED_OUT_OF_RANGE, 0, 0);
+    expect_integer("-9223372036854775808", MUON_ACCEPTED, 20, INT64_MIN);
+    expect_integer("-9223372036854775809", MUON_REFUSED_OUT_OF_RANGE, 0, 0);
+    expect_integer("5 ", MUON_REFUSED_NOT_THE_LITERAL, 0, 0);
+    expect_integer("1.5", MUON_REFUSED_NOT_THE_LITERAL, 0, 0);
+    expect_integer("5\xFF", MUON_REFUSED_NOT_UTF8, 1, 0);
+    /* nothing lent */
+    size_t place = 1, count = 1;
+    int64_t value = 1;
+    if (muon_integer(NULL, 0, &value, &place, &count) != MUON_REFUSED_NOT_THE_LITERAL || place != 0 || count != 0 || value != 0) exit(1);
+    /* a byte too many */
+    static uint8_t digits[MUON_TEXT_MAX + 1];
+    memset(digits, '0', sizeof digits);
+    if (muon_integer(digits, sizeof digits, &value, &place, &count) != MUON_REFUSED_TOO_LONG || place != 0) exit(1);
+    if (muon_integer(digits, MUON_TEXT_MAX, &value, &place, &count) != MUON_ACCEPTED || place != MUON_TEXT_MAX || value != 0) exit(1);
+}
+
+/* `text` is what stands in the buffer then; every byte behind it is as it was. */
+static void expect_text(const char *piece, size_t bytes, uint32_t number, size_t place, size_t count, const char *text) {
+    static uint8_t rest[BYTES];
+    memset(rest, PAINT, BYTES);
+    memset(buffer, PAINT, BYTES);
+    call.text = piece;
+    call.length = strlen(piece);
+    call.bytes = bytes;
+    text_of_it();
+    size_t written = strlen(text);
+    if (call.number == number && call.place == place && call.count == count && memcmp(buffer, text, written) == 0 &&
+        memcmp(buffer + written, rest, BYTES - written) == 0)
+        return;
+    printf("text of %s: %u %zu %zu\n", piece, (unsigned)call.number, call.place, call.count);
+    exit(1);
+}
+
+static void texts(void) {
+    expect_text("word", BYTES, MUON_ACCEPTED, 4, 4, "word");
+    expect_text("word", 4, MUON_ACCEPTED, 4, 4, "word");
+    expect_text("word", 3, MUON_REFUSED_NO_ROOM, 4, 4, "");
+    expect_text("\"\\\"", 0, MUON_ACCEPTED, 3, 0, "");
+    expect_text("\"a\\n\"", BYTES, MUON_ACCEPTED, 5, 3, "a\\n");
+    expect_text("\"\\a\\n\"", BYTES, MUON_ACCEPTED, 6, 2, "a\n");
+    expect_text("\"\\\\q\\g\\b\\t\\n\\r\"", BYTES, MUON_ACCEPTED, 15, 6, "\"`\\\t\n\r");
+    expect_text("\"a\" `c` \"\\\\<0cx10FFFF>\"", BYTES, MUON_ACCEPTED, 23, 5, "a\xF4\x8F\xBF\xBF");
+    expect_text("0c233", BYTES, MUON_ACCEPTED, 5, 2, "\xC3\xA9");
+    expect_text("0cxD800", BYTES, MUON_REFUSED_BAD_VALUE, 0, 0, "");
+    expect_text("\"a\" ", BYTES, MUON_REFUSED_NOT_THE_LITERAL, 0, 0, "");
+    expect_text("\"\xFF\"", BYTES, MUON_REFUSED_NOT_UTF8, 1, 0, "");
+    /* nothing lent */
+    size_t place = 1, count = 1;
+    if (muon_text(NULL, 0, NULL, 0, &place, &count) != MUON_REFUSED_NOT_THE_LITERAL || place != 0 || count != 0) exit(1);
+    if (muon_text((const uint8_t *)"a", 1, NULL, 0, &place, &count) != MUON_REFUSED_NO_ROOM || place != 1 || count != 1) exit(1);
+    /* a byte too many, and the longest word into a buffer as long */
+    static uint8_t letters[MUON_TEXT_MAX + 1], room[MUON_TEXT_MAX];
+    memset(letters, 'a', sizeof letters);
+    if (muon_text(letters, sizeof letters, room, sizeof room, &place, &count) != MUON_REFUSED_TOO_LONG || place != 0) exit(1);
+    if (muon_text(letters, MUON_TEXT_MAX, room, sizeof room, &place, &count) != MUON_ACCEPTED || count != sizeof room) exit(1);
+    if (memcmp(letters, room, sizeof room) != 0) exit(1);
+}
+
+/* The longest ways through a literal. */
+static const char *const literals[] = {
+    "",    "5",     "-0x F_F `c` 0", "1 2.3 4*0b1 0^- 0x F F", "-1/2_0*3 0^+4_0", "1/0*1^2", "0bx F_F", "0xyAAAA_AAAA AA==", "0xxFF FF",
+    "0cx41", "word", "Relation",     "\"a\" \"\\\\<0cx10_FFFF>\\n\"", "\"\\\\<0cx10FFFF>\"", "::a::\"\\\\<0c65>\"", "0Lct", "`c", "1/2*3",
+    "\"\xF4\x8F\xBF\xBF\"", "Set:{1}", "(5)", "{5:1.5*2^3}",
+};
+
+/* And through the value of one. */
+static const char *const pieces[] = {
+    "-`c` 0x `c` 7FFF FFFF `c` FFFF_FFFF", "-9223372036854775808", "9223372036854775808", "0b 1_0 1", "+0o 7 7", "0d 1", "99999999999999999999999",
+    "\"a\" `c` \"\\\\<0cx10FFFF>\\<0co7>\\<0cb1>\\<0cd9>\\n\" \"\xC3\xA9\"", "\"\\\\<0cxD800>\"", "0c1114111", "0c1114112", "0cb1", "\"\\\xF4\x8F\xBF\xBF\"",
+    "\"\\", "\"a\" `c", "0cxF0\xFF",
+};
+
+static size_t most_touched_by(void (*run)(void)) {
+    size_t none = touched(read_nothing), most = 0, known = sizeof literals / sizeof *literals;
+    for (size_t l = 0; l < known + sizeof pieces / sizeof *pieces; l++) {
+        call.text = l < known ? literals[l] : pieces[l - known];
+        call.length = strlen(call.text);
+        for (call.bytes = 0; call.bytes <= BYTES; call.bytes += BYTES) {
+            size_t bytes = touched(run) - none;
+            if (bytes > most) most = bytes;
+        }
+    }
+    return most;
+}
+
+/* As many brackets as may be open around the literals. */
+static size_t most_touched_by_a_reading(void) {
     static const char *const openers[][2] = {
         {"(", ")"},      {"{", "}"},         {"[", "]"},      {"(a,", ")"},     {"(,", ")"},         {"(a:", ")"},
         {"(a->", ")"},   {"(b<-", ")"},      {"{a:", "}"},    {"{a,", "}"},     {"{,", "}"},         {"[a..", "]"},
         {"[a<=*<", "]"}, {"[*<=", "]"},      {"(Set:{", "})"}, {"(Bag:{", "})"}, {"(Array:{a,", "})"}, {"((a:", "))"},
         {"({", "})"},    {"([", "])"},       {"{(", ")}"},    {"[(", ")]"},     {"(a:b,c:", ")"},    {"(((a,", ")))"},
-    };
-    static const char *const literals[] = {
-        "",    "5",     "-0x F_F `c` 0", "1 2.3 4*0b1 0^- 0x F F", "-1/2_0*3 0^+4_0", "1/0*1^2", "0bx F_F", "0xyAAAA_AAAA AA==", "0xxFF FF",
-        "0cx41", "word", "Relation",     "\"a\" \"\\\\<0cx10_FFFF>\\n\"", "\"\\\\<0cx10FFFF>\"", "::a::\"\\\\<0c65>\"", "0Lct", "`c", "1/2*3",
-        "\"\xF4\x8F\xBF\xBF\"", "Set:{1}", "(5)", "{5:1.5*2^3}",
     };
     size_t none = touched(read_nothing), most = 0;
     for (size_t o = 0; o < sizeof openers / sizeof *openers; o++) {
@@ -124,6 +231,10 @@ static size_t most_touched(void) {
 
 int main(void) {
     answers();
-    printf("%zu\n", most_touched());
+    integers();
+    texts();
+    printf("muon_read %zu\n", most_touched_by_a_reading());
+    printf("muon_integer %zu\n", most_touched_by(integer_of_it));
+    printf("muon_text %zu\n", most_touched_by(text_of_it));
     return 0;
 }

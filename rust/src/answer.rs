@@ -8,24 +8,26 @@ use std::fmt;
 pub struct Answer {
     /// 0 for accepted, else the refusal's number.
     pub number: u32,
-    /// The text's length if accepted, else the refusal's place in bytes.
+    /// The length of the text or piece if accepted, else the refusal's place
+    /// in bytes.
     pub place: usize,
-    /// The nodes written; under [`Refusal::NoRoom`] those needed; else 0.
+    /// The nodes or bytes written; under [`Refusal::NoRoom`] those needed;
+    /// else 0.
     pub count: usize,
 }
 
 impl Answer {
-    /// Whether the text was accepted.
+    /// Whether the text or piece was accepted.
     pub fn is_accepted(&self) -> bool {
         self.number == 0
     }
 
-    /// Why the text was refused, if it was.
+    /// Why it was refused, if it was.
     pub fn refusal(&self) -> Option<Refusal> {
         Refusal::from_number(self.number)
     }
 
-    /// The count of an accepted text, or the refusal, for use with `?`.
+    /// The count if accepted, else the refusal, for use with `?`.
     ///
     /// ```
     /// fn nodes_of(text: &[u8]) -> Result<usize, muon::Refusal> {
@@ -39,13 +41,51 @@ impl Answer {
     }
 }
 
+/// The answer of [`integer`](crate::integer).
+#[derive(Clone, Copy, Debug, PartialEq, Eq, Hash)]
+pub struct IntegerAnswer {
+    /// 0 for accepted, else the refusal's number.
+    pub number: u32,
+    /// The piece's length if accepted, else the refusal's place in bytes.
+    pub place: usize,
+    /// Always 0.
+    pub count: usize,
+    /// The integer; 0 if refused.
+    pub value: i64,
+}
+
+impl IntegerAnswer {
+    /// Whether the piece was accepted.
+    pub fn is_accepted(&self) -> bool {
+        self.number == 0
+    }
+
+    /// Why the piece was refused, if it was.
+    pub fn refusal(&self) -> Option<Refusal> {
+        Refusal::from_number(self.number)
+    }
+
+    /// The integer if accepted, else the refusal, for use with `?`.
+    ///
+    /// ```
+    /// fn product(a: &[u8], b: &[u8]) -> Result<i64, muon::Refusal> {
+    ///     Ok(muon::integer(a).accepted()? * muon::integer(b).accepted()?)
+    /// }
+    /// assert_eq!(product(b"6", b"7"), Ok(42));
+    /// assert_eq!(product(b"6", b"7.0"), Err(muon::Refusal::NotTheLiteral));
+    /// ```
+    pub fn accepted(&self) -> Result<i64, Refusal> {
+        self.refusal().map_or(Ok(self.value), Err)
+    }
+}
+
 /// The refusals, with their numbers.
 #[derive(Clone, Copy, Debug, PartialEq, Eq, Hash)]
 #[repr(u32)]
 pub enum Refusal {
     /// The level is not 1 or 2; place 0.
     Level = 1,
-    /// The text is longer than 32,768 bytes; place 0.
+    /// The text or piece is longer than 32,768 bytes; place 0.
     TooLong = 2,
     /// Not UTF-8; place: the first byte at which no well-formed sequence
     /// begins.
@@ -59,14 +99,15 @@ pub enum Refusal {
     WrongPlace = 6,
     /// At a place for a value, a construct beyond the level begins.
     NewerForm = 7,
-    /// The table is too short for the nodes, or they are more than 1,024;
-    /// place: the text's length, count: the nodes needed.
+    /// The table is too short for the nodes, or they are more than 1,024, or
+    /// the buffer is too short; place: the length of the text or piece,
+    /// count: the nodes or bytes needed.
     NoRoom = 8,
-    /// The piece is not exactly one literal of the asked kind; place 0.  No
-    /// answer of a reading.
+    /// The piece is not exactly one literal of the asked kind; place 0.  Of
+    /// [`integer`](crate::integer) and [`text`](crate::text) only.
     NotTheLiteral = 9,
-    /// An integer outside the numbers of 64 bits; place 0.  No answer of a
-    /// reading.
+    /// An integer that is no [`i64`]; place 0.  Of
+    /// [`integer`](crate::integer) only.
     OutOfRange = 10,
     /// The bracket at the place would be the 33rd open.
     TooDeep = 11,

@@ -29,9 +29,27 @@
 //! assert_eq!(table, [7; 60]);
 //! ```
 //!
-//! Every input has an answer: no text, level or table makes a call fail in
-//! another way.  The proofs stand in the repository's crates; this package
-//! adds the one `unsafe` call, whose pointers and lengths are those of slices.
+//! [`integer`] and [`text`] give the value of a literal, whose bytes a node
+//! tells:
+//!
+//! ```
+//! let text = br#"(29 56 : "\caf\<0cxE9>")"#;
+//! let mut table = [0; muon::TABLE_MAX];
+//! let answer = muon::read(1, text, &mut table);
+//! let pieces: Vec<&[u8]> = muon::nodes(&table, answer.count)
+//!     .map(|node| &text[node.span()])
+//!     .collect();
+//! assert_eq!(muon::integer(pieces[1]).accepted(), Ok(2956));
+//! let mut buffer = [0; 100];
+//! let count = muon::text(pieces[2], &mut buffer).accepted()?;
+//! assert_eq!(&buffer[..count], "café".as_bytes());
+//! # Ok::<(), muon::Refusal>(())
+//! ```
+//!
+//! Every input has an answer: no text, level, table, piece or buffer makes a
+//! call fail in another way.  The proofs stand in the repository's crates;
+//! this package adds the three `unsafe` calls, whose pointers and lengths are
+//! those of slices and numbers.
 //!
 //! # Building
 //!
@@ -44,7 +62,9 @@ mod answer;
 mod node;
 mod raw;
 mod reading;
+mod value;
 
-pub use answer::{Answer, Refusal};
+pub use answer::{Answer, IntegerAnswer, Refusal};
 pub use node::{detail, kind, nodes, role, Node, Nodes};
 pub use reading::{read, DEPTH_MAX, NODES_MAX, NODE_WORDS, STACK_MAX, TABLE_MAX, TEXT_MAX};
+pub use value::{integer, text};

@@ -10,4 +10,21 @@ extern "C" {
         place: *mut usize,
         count: *mut usize,
     ) -> u32;
+
+    pub fn muon_integer(
+        piece: *const u8,
+        piece_len: usize,
+        value: *mut i64,
+        place: *mut usize,
+        count: *mut usize,
+    ) -> u32;
+
+    pub fn muon_text(
+        piece: *const u8,
+        piece_len: usize,
+        buffer: *mut u8,
+        buffer_len: usize,
+        place: *mut usize,
+        count: *mut usize,
+    ) -> u32;
 }

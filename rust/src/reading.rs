@@ -2,7 +2,7 @@
 
 use crate::{raw, Answer};
 
-/// The longest text, in bytes.
+/// The longest text or piece, in bytes.
 pub const TEXT_MAX: usize = 32_768;
 /// The most brackets open at once.
 pub const DEPTH_MAX: usize = 32;

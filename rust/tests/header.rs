@@ -50,6 +50,8 @@ fn refusals() {
         ("REFUSED_WRONG_PLACE", Refusal::WrongPlace),
         ("REFUSED_NEWER_FORM", Refusal::NewerForm),
         ("REFUSED_NO_ROOM", Refusal::NoRoom),
+        ("REFUSED_NOT_THE_LITERAL", Refusal::NotTheLiteral),
+        ("REFUSED_OUT_OF_RANGE", Refusal::OutOfRange),
         ("REFUSED_TOO_DEEP", Refusal::TooDeep),
     ] {
         assert_eq!(defined(name), Some(refusal.number() as usize), "{name}");

@@ -1,0 +1,116 @@
+-- The lines of a listing, put together, and how long they are. Assumes nothing.
+use mathlib.Core.Path.{_≡_, refl, sym, ap, _∙_, subst}
+use mathlib.Core.List.{List, [], _∷_, _++_}
+use Prim.Native.Nat.{ℕ, zero, suc, _+_, _*_, _^_, _≤_, _<_}
+use native.Mathlib.Numerals.{add-one}
+use native.Mathlib.Omega.{arith}
+use lib.ListN.{length, getD, length-append}
+use Rattle.grammar.specs.Nodes.{nodeWords}
+use Rattle.reading.specs.declared.Answer.{Answer}
+use Rattle.reading.specs.Sizes.{base, room}
+use Rattle.reading.specs.Answers.{Answers, noLevel, tooLong, notUtf8, faulty, noRoom, accepted}
+use Rattle.table.proofs.Words.{over-start}
+use Rattle.listing.specs.Listing.{decimal, headLine, nodeLine, nodeLines, listed, listing}
+use Rattle.listing.specs.Written.{Wrote, Listed}
+use Rattle.listing.proofs.Digits.{decimal-short}
+use Rattle.listing.proofs.Pieces.{wrote-none, wrote-then}
+
+word-short : (n : ℕ) → n < 2 ^ 32 → length (decimal n) ≤ 10
+word-short n h = decimal-short 9 n (omega arith)
+
+pub head-short : (a b m n : ℕ) → m < 2 ^ 64 → n < 2 ^ 64 → length (headLine a b m n) ≤ 45
+head-short a b m n hm hn = simp length-append (omega (arith, decimal-short 19 m (omega arith), decimal-short 19 n (omega arith)))
+
+-- a number read from the table, with what stands before it
+pub word-of : {o o' : List ℕ} {k r : ℕ} (before : List ℕ) (w x : ℕ) → w ≡ x → w < 2 ^ 32 → Wrote o k (before ++ decimal w) o' r →
+    Wrote o k (before ++ decimal x) o' r × (length (decimal x) ≤ 10)
+word-of {o} {o'} {k} {r} before w x e h v = (subst (λ (n : ℕ). Wrote o k (before ++ decimal n) o' r) e v, word-short x (omega arith))
+
+-- a node's first word
+pub kind-of : {o o' : List ℕ} {k r : ℕ} (t : List ℕ) (n w : ℕ) → w ≡ getD t (n * nodeWords) 0 → w < 2 ^ 32 → Wrote o k (decimal w) o' r →
+    Wrote o k (decimal (getD t (n * nodeWords + 0) 0)) o' r × (length (decimal (getD t (n * nodeWords + 0) 0)) ≤ 10)
+kind-of t n w e h v = word-of [] w _ (e ∙ ap (λ (m : ℕ). getD t m 0) (omega arith)) h v
+
+module _ (t : List ℕ) (n : ℕ) where
+  abbrev this : List ℕ
+  this = nodeLine (λ k. getD t (n * nodeWords + k) 0)
+
+  more : nodeLines t (n + 1) ≡ nodeLines t n ++ this
+  unfolding nodeLines
+  more = ap (λ (m : ℕ). nodeLines t m) (add-one n)
+
+  abbrev short : ℕ → Type 0
+  short k = length (decimal (getD t (n * nodeWords + k) 0)) ≤ 10
+
+  pub node-short : short 0 → short 1 → short 2 → short 3 → short 4 → short 5 → length this ≤ 66
+  node-short a b c d e f = simp length-append (omega arith)
+
+  pub nodes-more : {o m o' : List ℕ} {k j r : ℕ} → Wrote o k (nodeLines t n) m j → Wrote m j this o' r → Wrote o k (nodeLines t (n + 1)) o' r
+  nodes-more {o} {m} {o'} {k} {j} {r} v w = subst (λ (l : List ℕ). Wrote o k l o' r) (sym more) (wrote-then _ _ v w)
+
+  pub nodes-longer : length (nodeLines t n) ≤ 66 * n → length this ≤ 66 → length (nodeLines t (n + 1)) ≤ 66 * (n + 1)
+  nodes-longer h g = omega (arith, ap length more ∙ length-append (nodeLines t n) this)
+
+pub nodes-none : {o : List ℕ} {k : ℕ} (t : List ℕ) → k ≤ length o → Wrote o k (nodeLines t 0) o k
+unfolding nodeLines
+nodes-none t h = wrote-none h
+
+pub nodes-no-length : (t : List ℕ) → length (nodeLines t 0) ≤ 66 * 0
+unfolding nodeLines
+nodes-no-length t = omega arith
+
+-- by the answer's number
+pub listing-refused : (level : ℕ) (a : Answer) (t : List ℕ) → (a .number ≡ 0 → ⊥) → listing level a t ≡ headLine 110 111 (a .number) (a .place)
+listing-refused level a t h = go (a .number) h
+  where
+    go : (n : ℕ) → (n ≡ 0 → ⊥) → listed n level a t ≡ headLine 110 111 n (a .place)
+    go zero h = absurd (h refl)
+    go (suc n) h = refl
+
+pub listing-accepted : (level : ℕ) (a : Answer) (t : List ℕ) → a .number ≡ 0 → listing level a t ≡ headLine 111 107 level (a .count) ++ nodeLines t (a .count)
+listing-accepted level a t e = ap (λ (n : ℕ). listed n level a t) e
+
+-- an answer 0 counts no more nodes than the table has room for
+pub counted : {text t t' : List ℕ} {level : ℕ} {a : Answer} → Answers base text t level a t' → a .number ≡ 0 → a .count ≤ room base (length t)
+counted (noLevel _) e = omega arith
+counted (tooLong _ _) e = omega arith
+counted (notUtf8 _ _ _) e = omega arith
+counted (faulty _ _ _ _) e = omega arith
+counted (noRoom _ _ _ _ _) e = absurd (omega arith)
+counted (accepted _ _ _ _ h) e = h
+
+-- a listing that fits stands whole
+whole : {o o' : List ℕ} {r level : ℕ} {text t t' : List ℕ} (a : Answer) → Answers base text t level a t' →
+    Wrote o 0 (listing level a t') o' r → length (listing level a t') ≤ length o → Listed level text t t' o o' r
+whole {o} {o'} {r} {level} {text} {t} {t'} a answers w h =
+    let n : r ≡ length (listing level a t') = omega (arith, w .place) in
+    record { answer = a; answers = answers; count = n; bytes-are = w .bytes-are ∙ over-start o (listing level a t') r n (omega arith); within = w .within }
+
+module _ {text t t' o o' : List ℕ} {level r : ℕ} (a : Answer) (answers : Answers base text t level a t') (longest : 67629 ≡ length o) where
+  -- the line of a refusal
+  pub list-refused : (w : ℕ) → w ≡ a .number → (a .number ≡ 0 → ⊥) → w < 2 ^ 32 → a .place < 2 ^ 64 →
+      Wrote o 0 (headLine 110 111 w (a .place)) o' r → Listed level text t t' o o' r
+  list-refused w e h g f v =
+      whole a answers (subst (λ (l : List ℕ). Wrote o 0 l o' r) (sym is) (subst (λ (n : ℕ). Wrote o 0 (headLine 110 111 n (a .place)) o' r) e v))
+      (omega (arith, ap length is, head-short 110 111 (a .number) (a .place) (omega arith) f))
+    where
+      is : listing level a t' ≡ headLine 110 111 (a .number) (a .place)
+      is = listing-refused level a t' h
+
+  -- the first line, and the nodes'
+  pub list-accepted : {m : List ℕ} {j : ℕ} (w : ℕ) → w ≡ level → a .number ≡ 0 → w < 2 ^ 32 → a .count < 2 ^ 64 →
+      Wrote o 0 (headLine 111 107 w (a .count)) m j → Wrote m j (nodeLines t' (a .count)) o' r →
+      length (nodeLines t' (a .count)) ≤ 66 * a .count → Listed level text t t' o o' r
+  list-accepted {m} {j} w e h g f v u l =
+      whole a answers
+      (subst (λ (l : List ℕ). Wrote o 0 l o' r) (sym is) (wrote-then _ _ (subst (λ (n : ℕ). Wrote o 0 (headLine 111 107 n (a .count)) m j) e v) u))
+      (omega (
+        arith,
+        counted answers h,
+        l,
+        ap length is ∙ length-append (headLine 111 107 level (a .count)) (nodeLines t' (a .count)),
+        head-short 111 107 level (a .count) (omega arith) f,
+      ))
+    where
+      is : listing level a t' ≡ headLine 111 107 level (a .count) ++ nodeLines t' (a .count)
+      is = listing-accepted level a t' h

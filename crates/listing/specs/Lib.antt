@@ -1,0 +1,3 @@
+-- The listing as bytes, and what writes it.
+pub mod Listing
+pub mod Written

@@ -1,0 +1,53 @@
+-- The listing of an answer: 01, 'The node table'. Assumes nothing.
+use mathlib.Core.Bool.{cond}
+use mathlib.Core.List.{List, [], _∷_, _++_}
+use Prim.Native.Nat.{ℕ, zero, suc, _+_, _*_, _/_, _%_}
+use lib.Dec.{ltb}
+use lib.ListN.{getD}
+use Rattle.grammar.specs.Nodes.{nodeWords}
+use Rattle.reading.specs.declared.Answer.{Answer}
+
+-- the byte of a digit, 0 to 9
+abbrev pub digit : ℕ → ℕ
+digit d = 48 + d
+
+-- the decimal digits of n, the last of them only if there are more than k
+unfoldable pub digits : ℕ → ℕ → List ℕ
+digits zero n = []
+digits (suc k) n = cond (ltb n 10) (digit n ∷ []) (digits k (n / 10) ++ (digit (n % 10) ∷ []))
+
+-- a number in decimal, without leading zeros: it has no more digits than n + 1
+abbrev pub decimal : ℕ → List ℕ
+decimal n = digits (suc n) n
+
+abbrev pub space : ℕ
+space = 32
+
+abbrev pub newline : ℕ
+newline = 10
+
+-- numbers, each behind one space, and the line's end
+abbrev pub fields : List ℕ → List ℕ
+fields [] = newline ∷ []
+fields (n ∷ ns) = (space ∷ decimal n) ++ fields ns
+
+-- a word of two letters and two numbers
+abbrev pub headLine : ℕ → ℕ → ℕ → ℕ → List ℕ
+headLine a b m n = a ∷ b ∷ fields (m ∷ n ∷ [])
+
+-- a node's six words, `word k` being the one at k
+abbrev pub nodeLine : (ℕ → ℕ) → List ℕ
+nodeLine word = decimal (word 0) ++ fields (word 1 ∷ word 2 ∷ word 3 ∷ word 4 ∷ word 5 ∷ [])
+
+-- a line for each of the table's first n nodes
+unfoldable pub nodeLines : List ℕ → ℕ → List ℕ
+nodeLines t zero = []
+nodeLines t (suc n) = nodeLines t n ++ nodeLine (λ k. getD t (n * nodeWords + k) 0)
+
+-- by the answer's number: `ok` with level and count, and the nodes; or `no` with number and place
+abbrev pub listed : ℕ → ℕ → Answer → List ℕ → List ℕ
+listed zero level a t = headLine 111 107 level (a .count) ++ nodeLines t (a .count)
+listed (suc n) level a t = headLine 110 111 (suc n) (a .place)
+
+abbrev pub listing : ℕ → Answer → List ℕ → List ℕ
+listing level a t = listed (a .number) level a t

@@ -1,0 +1,92 @@
+//! The values of literals.
+
+use crate::{raw, Answer, IntegerAnswer};
+
+/// The signed integer of an Integer literal, which `piece` is exactly: no
+/// byte-order mark, first line or dividing space around it is dropped.
+///
+/// Refusals are tested in the order 2, 3, 9, 10; no other is given.
+///
+/// ```
+/// use muon::Refusal;
+///
+/// let answer = muon::integer(b"29 56");
+/// assert_eq!((answer.place, answer.value), (5, 2956));
+/// assert_eq!(muon::integer(b"-0x F_F").accepted(), Ok(-255));
+///
+/// // the piece is the literal alone
+/// assert_eq!(muon::integer(b"5 ").refusal(), Some(Refusal::NotTheLiteral));
+///
+/// // the value of a refused piece is 0
+/// let answer = muon::integer(b"9223372036854775808");
+/// assert_eq!(answer.refusal(), Some(Refusal::OutOfRange));
+/// assert_eq!((answer.place, answer.value), (0, 0));
+/// ```
+pub fn integer(piece: &[u8]) -> IntegerAnswer {
+    // What the call did not write would not look like an answer.
+    let (mut place, mut count, mut value) = (usize::MAX, usize::MAX, i64::MAX);
+    // SAFETY: pointer and length are those of a live slice, and the numbers
+    // to be written are this function's own.
+    let number = unsafe {
+        raw::muon_integer(
+            piece.as_ptr(),
+            piece.len(),
+            &mut value,
+            &mut place,
+            &mut count,
+        )
+    };
+    IntegerAnswer {
+        number,
+        place,
+        count,
+        value,
+    }
+}
+
+/// Writes the characters of a Text literal, which `piece` is exactly, to the
+/// start of `buffer` as UTF-8.
+///
+/// The literal is quoted, a word or a code point.  Accepted, exactly the first
+/// `count` bytes are written; refused, none.  What the buffer held doesn't
+/// matter.  Refusals are tested in the order 2, 3, 9, 5, 8; no other is given.
+///
+/// ```
+/// use muon::Refusal;
+///
+/// // escapes are of a segment that begins with a backslash, and of no other
+/// let mut buffer = [0; 3];
+/// let answer = muon::text(br#""\a\n""#, &mut buffer);
+/// assert_eq!(&buffer[..answer.count], b"a\n");
+/// let answer = muon::text(br#""a\n""#, &mut buffer);
+/// assert_eq!(&buffer[..answer.count], br"a\n");
+///
+/// // a buffer that is too short: the count tells what is needed
+/// let answer = muon::text(b"word", &mut buffer);
+/// assert_eq!(answer.refusal(), Some(Refusal::NoRoom));
+/// assert_eq!(&buffer, br"a\n");
+/// let mut buffer = vec![0; answer.count];
+/// assert!(muon::text(b"word", &mut buffer).is_accepted());
+/// assert_eq!(buffer, b"word");
+/// ```
+pub fn text(piece: &[u8], buffer: &mut [u8]) -> Answer {
+    // What the call did not write would not look like an answer.
+    let (mut place, mut count) = (usize::MAX, usize::MAX);
+    // SAFETY: pointers and lengths are those of live slices and numbers, and
+    // what may be written is borrowed by this call alone.
+    let number = unsafe {
+        raw::muon_text(
+            piece.as_ptr(),
+            piece.len(),
+            buffer.as_mut_ptr(),
+            buffer.len(),
+            &mut place,
+            &mut count,
+        )
+    };
+    Answer {
+        number,
+        place,
+        count,
+    }
+}
