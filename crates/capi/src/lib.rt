@@ -16,10 +16,10 @@ pub extern "C" fn muon_read(
 ) -> u32
     ensures { λ r. ⌜ Answers base (now (text .entry)) (now (table .entry)) level (answer r (now (place .exit)) (now (count .exit))) (now (table .exit)) ⌝ }
 {
-    let read = tree::read::read(level, text, table);
-    *place = read.place;
-    *count = read.count;
-    read.number
+    let answer = tree::read::read(level, text, table);
+    *place = answer.place;
+    *count = answer.count;
+    answer.number
 }
 
 // uint32_t muon_integer(const uint8_t *piece, size_t piece_len, int64_t *value, size_t *place, size_t *count);
