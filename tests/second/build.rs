@@ -1,13 +1,7 @@
-//! Links two of the comparisons with their verified archives, only when
-//! asked for.  The archive of the readings comes with the package muon.
+//! Links the comparison of tokens with its verified archive, only when asked
+//! for.  The archive of the readings and values comes with the package muon.
 
 use std::env;
-
-/// A program and the archive whose calls it makes.
-const ARCHIVES: [(&str, &str); 2] = [
-    ("compare_tokens", "libtoken_c.a"),
-    ("compare_values", "libcapi.a"),
-];
 
 fn main() {
     println!("cargo:rerun-if-changed=build.rs");
@@ -16,9 +10,8 @@ fn main() {
         return;
     }
     let dir = env::var("MUON_LIB_DIR")
-        .expect("feature `staticlib` needs MUON_LIB_DIR, the directory of the archives");
-    for (program, archive) in ARCHIVES {
-        println!("cargo:rerun-if-changed={dir}/{archive}");
-        println!("cargo:rustc-link-arg-bin={program}={dir}/{archive}");
-    }
+        .expect("feature `staticlib` needs MUON_LIB_DIR, the directory of the archive");
+    let archive = format!("{dir}/libtoken_c.a");
+    println!("cargo:rerun-if-changed={archive}");
+    println!("cargo:rustc-link-arg-bin=compare_tokens={archive}");
 }

@@ -155,6 +155,6 @@ tested : allAgree starred ≡ true
 unfolding has
 tested = refl
 
--- document 01, 'Texts from the yard': every starred text reads as the paper says
+-- every text that document 01 marks with a star reads as it says
 pub starred-hold : AllHold starred
 starred-hold = all-hold starred tested

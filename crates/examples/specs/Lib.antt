@@ -1,2 +1,2 @@
--- The starred texts of document 01, 'Texts from the yard'.
+-- The texts that document 01 marks with a star.
 pub mod Starred

@@ -1,4 +1,4 @@
--- The starred texts of document 01, 'Texts from the yard', as one table, and the one statement about it: each text's reading ends as its
+-- The texts that document 01 marks with a star, as one table, and the one statement about it: each text's reading ends as its
 -- line says, by the definitions of the tokens, the trees and the answers. proofs/Starred.antt proves it. Assumes nothing.
 use mathlib.Core.List.{List, [], _∷_, _++_}
 use mathlib.Core.Option.{Option, none, some}

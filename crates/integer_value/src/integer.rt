@@ -1,4 +1,5 @@
 // The call itself: the refusals in their order, then the value.
+// A function with a `requires` is this crate's own: its caller has tested the piece or the size. `integer`, the public one, has none.
 use crate::digits::Size;
 use crate::digits::total;
 use crate::parts::mark;

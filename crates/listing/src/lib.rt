@@ -1,4 +1,6 @@
-// The listing of an answer, written into a lent buffer. A function with a `requires` is this crate's own.
+// The listing of an answer, written into a lent buffer.
+// A function with a `requires` is this crate's own. Each begins where the one before it ended, so its place is inside the buffer; and the
+// words that it reads are those of an accepted reading, so they are inside the table. `list`, the one public function, has none.
 use reading::Answer;
 ghost use mathlib.Core.Path.{_≡_};
 ghost use mathlib.Core.List.{[], _∷_, _++_};

@@ -1,5 +1,6 @@
 // Bytes into a lent buffer, from a place on. A byte that does not fit is counted and not written, so that the same functions measure
 // a value, over an empty part, and write it.
+// The functions have a `requires` each: their caller counts no more bytes than the piece has, so no place wraps.
 ghost use mathlib.Core.List.{[], _∷_};
 ghost use Prim.Native.Nat.{_-_, _≤_, _<_};
 ghost use lib.ListN.{length};

@@ -1,4 +1,6 @@
 // Values without members: literals and Nestings.
+// A function with a `requires` is this crate's own: the numbers that it asks for hold in every text that is read, and a node's words then
+// hold them.
 use crate::answer::Got;
 use crate::answer::Read;
 use crate::answer::get;

@@ -17,73 +17,27 @@ const GUARD: usize = 8;
 const INTEGER_NUMBERS: [usize; 5] = [0, 2, 3, 9, 10];
 const TEXT_NUMBERS: [usize; 6] = [0, 2, 3, 5, 8, 9];
 
-/// The calls of the archive, with slices in place of pointers.
+/// The calls of the archive, by the package that wraps it.
 mod archive {
     use second::answer::Answer;
     use second::value::IntAnswer;
 
-    /// What a call does not write must not look like an answer.
-    const UNWRITTEN: usize = 0x5A5A_5A5A_5A5A_5A5B;
-
-    mod raw {
-        extern "C" {
-            pub fn muon_integer(
-                piece: *const u8,
-                piece_len: usize,
-                value: *mut i64,
-                place: *mut usize,
-                count: *mut usize,
-            ) -> u32;
-            pub fn muon_text(
-                piece: *const u8,
-                piece_len: usize,
-                buffer: *mut u8,
-                buffer_len: usize,
-                place: *mut usize,
-                count: *mut usize,
-            ) -> u32;
-        }
-    }
-
     pub fn integer(piece: &[u8]) -> IntAnswer {
-        let (mut place, mut count) = (UNWRITTEN, UNWRITTEN);
-        let mut value = UNWRITTEN as i64;
-        // SAFETY: pointers and lengths are those of live slices and numbers,
-        // and what may be written is borrowed by this call alone.
-        let number = unsafe {
-            raw::muon_integer(
-                piece.as_ptr(),
-                piece.len(),
-                &mut value,
-                &mut place,
-                &mut count,
-            )
-        };
+        let answer = muon::integer(piece);
         IntAnswer {
-            number,
-            place,
-            count,
-            value,
+            number: answer.number,
+            place: answer.place,
+            count: answer.count,
+            value: answer.value,
         }
     }
 
     pub fn text(piece: &[u8], buffer: &mut [u8]) -> Answer {
-        let (mut place, mut count) = (UNWRITTEN, UNWRITTEN);
-        // SAFETY: as above.
-        let number = unsafe {
-            raw::muon_text(
-                piece.as_ptr(),
-                piece.len(),
-                buffer.as_mut_ptr(),
-                buffer.len(),
-                &mut place,
-                &mut count,
-            )
-        };
+        let answer = muon::text(piece, buffer);
         Answer {
-            number,
-            place,
-            count,
+            number: answer.number,
+            place: answer.place,
+            count: answer.count,
         }
     }
 }
