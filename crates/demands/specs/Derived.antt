@@ -47,7 +47,7 @@ module _ (sizes : Sizes) (bytes lent : List ℕ) where
     pub derived : Derived sizes level bytes v
     pub fits : length (table v) ≤ room sizes (length lent)
 
-  -- the answer and the table at exit say: accepted, with the nodes of this derivation. What stands behind their words, `Answers` says
+  -- the answer and the table at exit say: accepted, with the nodes of this derivation, and behind them the words that stood there
   pub record Shows (v : Value) (r : Answer) (t : List ℕ) : Type 0 where
     pub number-is : r .number ≡ 0
     pub place-is : r .place ≡ length bytes

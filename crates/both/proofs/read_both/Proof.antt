@@ -1,3 +1,4 @@
+-- `both::read_both` meets its contract: demand 3 from the contracts of the two readings. Assumes nothing.
 use borrow.Author.Needs.{needs}
 use Rattle.both.proofs.Both.{old-and-new}
 use Rattle.both.proofs.read_both.Statement.{statement}
@@ -6,23 +7,18 @@ use Rattle.both.proofs.read_both.Reads as reads
 use Rattle.both.proofs.read_both.Lts as lts
 use Rattle.tree.proofs.read.read.Reads as read-reads
 
--- src/lib.rt:18:9
 read-requires : tie.Need-read-requires
 read-requires c κs = search needs
 
--- src/lib.rt:19:9
 read-requires-2 : tie.Need-read-requires-2
 read-requires-2 c κs = search needs
 
--- src/lib.rt:15:1
 same-length : tie.Need-same-length
 same-length c = search needs
 
--- src/lib.rt:15:1
 same-length-2 : tie.Need-same-length-2
 same-length-2 c = search needs
 
--- src/lib.rt:15:1
 returns : tie.Need-returns
 returns c = search (old-and-new, needs)
 

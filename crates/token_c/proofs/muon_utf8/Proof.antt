@@ -1,3 +1,4 @@
+-- `token_c::muon_utf8` meets its contract. Assumes nothing.
 use Rattle.token_c.proofs.Shown.{well-formed, bad-at}
 use borrow.Author.Needs.{needs}
 use Rattle.token_c.proofs.muon_utf8.Statement.{statement}
@@ -6,23 +7,18 @@ use Rattle.token_c.proofs.muon_utf8.Reads as reads
 use Rattle.token_c.proofs.muon_utf8.Lts as lts
 use Rattle.text.proofs.utf8.utf8.Reads as utf8-reads
 
--- src/lib.rt:12:9
 utf8-requires : tie.Need-utf8-requires
 utf8-requires c κs = search needs
 
--- src/lib.rt:14:33
 enum-told : tie.Need-enum-told
 enum-told c = search needs
 
--- src/lib.rt:15:25
 enum-known-answer : tie.Need-enum-known-answer
 enum-known-answer c = search needs
 
--- src/lib.rt:8:1
 returns : tie.Need-returns
 returns c = well-formed _ (c .before .before .utf8 .result) (c .before .before .utf8 .ensures) (c .enum-told .given .1)
 
--- src/lib.rt:8:1
 returns-2 : tie.Need-returns-2
 returns-2 c = bad-at _ _ (c .before .before .before .utf8 .result) (c .before .before .before .utf8 .ensures) (c .before .answer .given .1)
 

@@ -1,3 +1,4 @@
+-- `token_c::words` meets its contract. Assumes nothing.
 use Rattle.token_c.proofs.Shown.{token-words, end-words, none-words}
 use borrow.Author.Needs.{needs}
 use Rattle.token_c.proofs.words.Statement.{statement}
@@ -8,40 +9,31 @@ use Rattle.token_c.proofs.bit_of.Reads as bit-of-reads
 use Rattle.token_c.proofs.detail_number.Reads as detail-number-reads
 use Rattle.token_c.proofs.kind_number.Reads as kind-number-reads
 
--- src/lib.rt:145:21
 enum-known-answer : tie.Need-enum-known-answer
 enum-known-answer c = search needs
 
--- src/lib.rt:150:14
 kind-number-requires : tie.Need-kind-number-requires
 kind-number-requires c κs = search needs
 
--- src/lib.rt:150:59
 detail-number-requires : tie.Need-detail-number-requires
 detail-number-requires c κs = search needs
 
--- src/lib.rt:150:80
 bit-of-requires : tie.Need-bit-of-requires
 bit-of-requires c κs = search needs
 
--- src/lib.rt:152:19
 enum-known-answer-2 : tie.Need-enum-known-answer-2
 enum-known-answer-2 c = search needs
 
--- src/lib.rt:153:23
 enum-known-answer-3 : tie.Need-enum-known-answer-3
 enum-known-answer-3 c = search needs
 
--- src/lib.rt:141:1
 returns : tie.Need-returns
 returns c =
     token-words (c .before .before .before .before .answer .given .0 .0) _ _ _ _ (c .before .before .before .before .answer .given .1) (c .before .before .kind-number .ensures) (c .before .detail-number .ensures) (c .bit-of .ensures)
 
--- src/lib.rt:141:1
 returns-2 : tie.Need-returns-2
 returns-2 c = end-words _ _ (c .before .answer2 .given .1)
 
--- src/lib.rt:141:1
 returns-3 : tie.Need-returns-3
 returns-3 c = none-words _ _ (c .before .answer3 .given .1)
 

@@ -1,3 +1,4 @@
+-- `token::literal::integer_token` meets its contract. Assumes nothing.
 use Rattle.token.proofs.Dispatch.{number-none, integer-is, signed-plus, signed-other}
 use Rattle.lexicon.proofs.Answers.{judged-at, judged-none, found-at, found-none}
 use mathlib.Core.Path.{refl}
@@ -8,32 +9,25 @@ use Rattle.token.proofs.literal.integer_token.Reads as reads
 use Rattle.token.proofs.literal.integer_token.Lts as lts
 use Rattle.number.proofs.integer.integer.Reads as integer-reads
 
--- src/literal.rt:53:26
 integer-requires : tie.Need-integer-requires
 integer-requires c κs = search needs
 
--- src/literal.rt:53:19
 enum-known-end : tie.Need-enum-known-end
 enum-known-end c = search needs
 
--- src/literal.rt:54:30
 enum-told : tie.Need-enum-told
 enum-told c = search needs
 
--- src/literal.rt:54:9
 returns : tie.Need-returns
 returns c = (refl, number-none _ (c .before .before .before .before .pre .1) (c .before .before .before .before .pre .2) (found-none (c .enum-told .given .1) (c .before .before .integer .ensures)))
 
--- src/literal.rt:56:13
 shared-slice-read-b : tie.Need-shared-slice-read-b
 shared-slice-read-b c = search needs
 
--- src/literal.rt:49:1
 returns-2 : tie.Need-returns-2
 returns-2 c =
     (refl, integer-is _ (c .before .before .before .before .before .before .before .pre .1) (c .before .before .before .before .before .before .before .pre .2) (found-at (c .before .before .before .end .given .1) (c .before .before .before .before .before .integer .ensures)) (signed-plus _ (c .if1 .taken)))
 
--- src/literal.rt:49:1
 returns-3 : tie.Need-returns-3
 returns-3 c =
     (refl, integer-is _ (c .before .before .before .before .before .before .before .pre .1) (c .before .before .before .before .before .before .before .pre .2) (found-at (c .before .before .before .end .given .1) (c .before .before .before .before .before .integer .ensures)) (signed-other _ (c .if1 .left)))

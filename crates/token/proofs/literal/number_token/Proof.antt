@@ -1,3 +1,4 @@
+-- `token::literal::number_token` meets its contract. Assumes nothing.
 use Rattle.token.proofs.Dispatch.{fraction-is}
 use Rattle.lexicon.proofs.Answers.{judged-at, judged-none, found-at, found-none}
 use mathlib.Core.Path.{refl}
@@ -9,27 +10,21 @@ use Rattle.token.proofs.literal.number_token.Lts as lts
 use Rattle.number.proofs.fraction.fraction.Reads as fraction-reads
 use Rattle.token.proofs.literal.integer_token.Reads as integer-token-reads
 
--- src/literal.rt:72:36
 fraction-requires : tie.Need-fraction-requires
 fraction-requires c κs = search needs
 
--- src/literal.rt:72:23
 enum-known-end : tie.Need-enum-known-end
 enum-known-end c = search needs
 
--- src/literal.rt:73:9
 enum-told : tie.Need-enum-told
 enum-told c = search needs
 
--- src/literal.rt:73:9
 integer-token-requires : tie.Need-integer-token-requires
 integer-token-requires c κs = (c .before .before .before .before .pre .0, c .before .before .before .before .pre .1, judged-none _ (c .enum-told .given .1) (c .before .before .fraction .ensures))
 
--- src/literal.rt:73:9
 returns : tie.Need-returns
 returns c = search needs
 
--- src/literal.rt:68:1
 returns-2 : tie.Need-returns-2
 returns-2 c =
     let l = judged-at _ (c .before .end .given .1) (c .before .before .before .fraction .ensures) in

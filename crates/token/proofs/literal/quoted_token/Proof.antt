@@ -1,3 +1,4 @@
+-- `token::literal::quoted_token` meets its contract. Assumes nothing.
 use Rattle.token.proofs.Dispatch.{quoted-none, quoted-is}
 use Rattle.lexicon.proofs.Answers.{judged-at, judged-none, found-at, found-none}
 use mathlib.Core.Path.{refl}
@@ -8,23 +9,18 @@ use Rattle.token.proofs.literal.quoted_token.Reads as reads
 use Rattle.token.proofs.literal.quoted_token.Lts as lts
 use Rattle.string.proofs.quoted.quoted.Reads as quoted-reads
 
--- src/literal.rt:20:36
 quoted-requires : tie.Need-quoted-requires
 quoted-requires c κs = search needs
 
--- src/literal.rt:20:23
 enum-known-end : tie.Need-enum-known-end
 enum-known-end c = search needs
 
--- src/literal.rt:21:9
 enum-told : tie.Need-enum-told
 enum-told c = search needs
 
--- src/literal.rt:21:9
 returns : tie.Need-returns
 returns c = (refl, quoted-none _ (c .before .before .before .before .pre) (judged-none _ (c .enum-told .given .1) (c .before .before .quoted .ensures)))
 
--- src/literal.rt:16:1
 returns-2 : tie.Need-returns-2
 returns-2 c =
     let l = judged-at _ (c .before .end .given .1) (c .before .before .before .quoted .ensures) in

@@ -1,3 +1,4 @@
+-- `token::literal::word_token` meets its contract. Assumes nothing.
 use Rattle.token.proofs.Dispatch.{word-none, word-is}
 use Rattle.lexicon.proofs.Answers.{judged-at, judged-none, found-at, found-none}
 use mathlib.Core.Path.{refl}
@@ -9,27 +10,21 @@ use Rattle.token.proofs.literal.word_token.Lts as lts
 use Rattle.word.proofs.word.form.Reads as form-reads
 use Rattle.word.proofs.word.word.Reads as word-reads
 
--- src/literal.rt:36:26
 word-requires : tie.Need-word-requires
 word-requires c κs = search needs
 
--- src/literal.rt:36:19
 enum-known-end : tie.Need-enum-known-end
 enum-known-end c = search needs
 
--- src/literal.rt:37:9
 enum-told : tie.Need-enum-told
 enum-told c = search needs
 
--- src/literal.rt:37:9
 returns : tie.Need-returns
 returns c = (refl, word-none _ (c .before .before .before .before .pre) (found-none (c .enum-told .given .1) (c .before .before .word .ensures)))
 
--- src/literal.rt:39:9
 form-requires : tie.Need-form-requires
 form-requires c κs = search needs
 
--- src/literal.rt:32:1
 returns-2 : tie.Need-returns-2
 returns-2 c = (refl, word-is _ (c .form .result) (found-at (c .before .before .end .given .1) (c .before .before .before .before .word .ensures)) (c .form .ensures))
 

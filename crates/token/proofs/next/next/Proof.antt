@@ -1,3 +1,4 @@
+-- `token::next::next` meets its contract. Assumes nothing.
 use Rattle.token.proofs.Dispatch.{comes}
 use borrow.Author.Needs.{needs}
 use Rattle.token.proofs.next.next.Statement.{statement}
@@ -7,19 +8,15 @@ use Rattle.token.proofs.next.next.Lts as lts
 use Rattle.text.proofs.space.space.Reads as space-reads
 use Rattle.token.proofs.next.starting.Reads as starting-reads
 
--- src/next.rt:63:9
 space-requires : tie.Need-space-requires
 space-requires c κs = search needs
 
--- src/next.rt:65:9
 returns : tie.Need-returns
 returns c = search needs
 
--- src/next.rt:67:5
 starting-requires : tie.Need-starting-requires
 starting-requires c κs = search needs
 
--- src/next.rt:60:1
 returns-2 : tie.Need-returns-2
 returns-2 c = comes _ _ _ (c .starting .result) (c .before .before .space .ensures) (search needs) (c .starting .ensures)
 

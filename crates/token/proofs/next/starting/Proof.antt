@@ -1,3 +1,4 @@
+-- `token::next::starting` meets its contract. Assumes nothing.
 use Rattle.token.proofs.Dispatch.{nonzero-only, plus-only}
 use mathlib.Core.Path.{sym, _∙_}
 use Rattle.token.proofs.Bytes.{read-at}
@@ -14,67 +15,51 @@ use Rattle.token.proofs.next.punctuation.Reads as punctuation-reads
 use Rattle.token.proofs.symbol.colons.Reads as colons-reads
 use Rattle.token.proofs.zero.zero.Reads as zero-reads
 
--- src/next.rt:37:13
 shared-slice-read-b : tie.Need-shared-slice-read-b
 shared-slice-read-b c = search needs
 
--- src/next.rt:39:9
 quoted-token-requires : tie.Need-quoted-token-requires
 quoted-token-requires c κs = read-at (c .before .before .before .args .text .now) 0x22 (c .before .before .before .args .at) (c .before .before .before .pre) (c .if1 .taken)
 
--- src/next.rt:39:9
 returns : tie.Need-returns
 returns c = search needs
 
--- src/next.rt:41:8
 in-set-requires : tie.Need-in-set-requires
 in-set-requires c κs = search needs
 
--- src/next.rt:42:9
 word-token-requires : tie.Need-word-token-requires
 word-token-requires c κs = (c .before .before .before .before .before .pre, sym (c .before .in-set .ensures) ∙ c .if2 .taken)
 
--- src/next.rt:42:9
 returns-2 : tie.Need-returns-2
 returns-2 c = search needs
 
--- src/next.rt:45:9
 zero-requires : tie.Need-zero-requires
 zero-requires c κs = read-at (c .before .before .before .before .before .before .args .text .now) 0x30 (c .before .before .before .before .before .before .args .at) (c .before .before .before .before .before .before .pre) (c .if3 .taken)
 
--- src/next.rt:45:9
 returns-3 : tie.Need-returns-3
 returns-3 c = search needs
 
--- src/next.rt:47:8
 in-set-requires-2 : tie.Need-in-set-requires-2
 in-set-requires-2 c κs = search needs
 
--- src/next.rt:48:9
 number-token-requires : tie.Need-number-token-requires
 number-token-requires c κs = (c .before .before .before .before .before .before .before .before .pre, nonzero-only _ (c .before .before .before .before .before .before .before .before .pre, sym (c .before .in-set2 .ensures) ∙ c .if4 .taken) (c .before .before .if3 .left))
 
--- src/next.rt:48:9
 returns-4 : tie.Need-returns-4
 returns-4 c = search needs
 
--- src/next.rt:51:9
 number-token-requires-2 : tie.Need-number-token-requires-2
 number-token-requires-2 c κs = (c .before .before .before .before .before .before .before .before .before .pre, plus-only _ (read-at (c .before .before .before .before .before .before .before .before .before .args .text .now) 0x2B (c .before .before .before .before .before .before .before .before .before .args .at) (c .before .before .before .before .before .before .before .before .before .pre) (c .if5 .taken)))
 
--- src/next.rt:51:9
 returns-5 : tie.Need-returns-5
 returns-5 c = search needs
 
--- src/next.rt:54:9
 colons-requires : tie.Need-colons-requires
 colons-requires c κs = read-at (c .before .before .before .before .before .before .before .before .before .before .args .text .now) 0x3A (c .before .before .before .before .before .before .before .before .before .before .args .at) (c .before .before .before .before .before .before .before .before .before .before .pre) (c .if6 .taken)
 
--- src/next.rt:54:9
 returns-6 : tie.Need-returns-6
 returns-6 c = search needs
 
--- src/next.rt:56:5
 punctuation-requires : tie.Need-punctuation-requires
 punctuation-requires c κs = (
   c .before .before .before .before .before .before .before .before .before .before .pre,
@@ -87,7 +72,6 @@ punctuation-requires c κs = (
   },
 )
 
--- src/next.rt:33:1
 returns-7 : tie.Need-returns-7
 returns-7 c = search needs
 

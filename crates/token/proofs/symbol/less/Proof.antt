@@ -1,3 +1,4 @@
+-- `token::symbol::less` meets its contract. Assumes nothing.
 use mathlib.Core.Path.{refl}
 use Rattle.token.proofs.Bytes.{add-two}
 use borrow.Author.Tests.{not-true, not-false}
@@ -12,77 +13,59 @@ use Rattle.token.proofs.symbol.less.Lts as lts
 use Rattle.text.proofs.byte.stands.Reads as stands-reads
 use Rattle.token.proofs.symbol.star.Reads as star-reads
 
--- src/symbol.rt:55:21
 add-stands : tie.Need-add-stands
 add-stands c = search needs
 
--- src/symbol.rt:55:8
 stands-requires : tie.Need-stands-requires
 stands-requires c κs = search needs
 
--- src/symbol.rt:58:18
 add-t6 : tie.Need-add-t6
 add-t6 c = search needs
 
--- src/symbol.rt:56:9
 returns : tie.Need-returns
 returns c = left-arrow _ (c .before .before .before .pre) (there (c .before .stands .ensures) (c .if1 .taken))
 
--- src/symbol.rt:61:21
 add-stands-2 : tie.Need-add-stands-2
 add-stands-2 c = search needs
 
--- src/symbol.rt:61:8
 stands-requires-2 : tie.Need-stands-requires-2
 stands-requires-2 c κs = search needs
 
--- src/symbol.rt:62:31
 add-star : tie.Need-add-star
 add-star c = search needs
 
--- src/symbol.rt:62:9
 star-requires : tie.Need-star-requires
 star-requires c κs = (byte (c .before .before .before .before .before .pre) refl, there (c .before .stands2 .ensures) (c .if2 .taken))
 
--- src/symbol.rt:62:9
 returns-2 : tie.Need-returns-2
 returns-2 c = search needs
 
--- src/symbol.rt:64:22
 add-stands-3 : tie.Need-add-stands-3
 add-stands-3 c = search needs
 
--- src/symbol.rt:64:9
 stands-requires-3 : tie.Need-stands-requires-3
 stands-requires-3 c κs = search needs
 
--- src/symbol.rt:65:9
 returns-3 : tie.Need-returns-3
 returns-3 c =
     less-none _ _ (c .before .before .before .before .before .before .before .pre) (not-there (c .before .before .before .before .before .stands .ensures) (c .before .before .before .before .if1 .left)) (not-there (c .before .before .before .stands2 .ensures) (c .before .before .if2 .left)) (λ x y. not-there (c .before .stands3 .ensures) (not-true _ (c .if3 .taken)) x)
 
--- src/symbol.rt:67:21
 add-stands-4 : tie.Need-add-stands-4
 add-stands-4 c = search needs
 
--- src/symbol.rt:67:8
 stands-requires-4 : tie.Need-stands-requires-4
 stands-requires-4 c κs = search needs
 
--- src/symbol.rt:68:31
 add-star-2 : tie.Need-add-star-2
 add-star-2 c = search needs
 
--- src/symbol.rt:68:9
 star-requires-2 : tie.Need-star-requires-2
 star-requires-2 c κs =
     (both (byte (c .before .before .before .before .before .before .before .before .before .pre) refl) (byte (there (c .before .before .before .stands3 .ensures) (not-false _ (c .before .before .if3 .left))) (add-two _)), there (c .before .stands4 .ensures) (c .if4 .taken))
 
--- src/symbol.rt:68:9
 returns-4 : tie.Need-returns-4
 returns-4 c = search needs
 
--- src/symbol.rt:51:1
 returns-5 : tie.Need-returns-5
 returns-5 c =
     less-none _ _ (c .before .before .before .before .before .before .before .before .before .pre) (not-there (c .before .before .before .before .before .before .before .stands .ensures) (c .before .before .before .before .before .before .if1 .left)) (not-there (c .before .before .before .before .before .stands2 .ensures) (c .before .before .before .before .if2 .left)) (λ x y. not-there (c .before .stands4 .ensures) (c .if4 .left) y)

@@ -1,3 +1,4 @@
+-- `token::symbol::star` meets its contract. Assumes nothing.
 use borrow.Author.Tests.{not-true, not-false}
 use Rattle.rules.proofs.Tests.{there, not-there}
 use Rattle.token.proofs.Symbols.{open-star, less-star, lessEqual-star}
@@ -8,44 +9,34 @@ use Rattle.token.proofs.symbol.star.Reads as reads
 use Rattle.token.proofs.symbol.star.Lts as lts
 use Rattle.text.proofs.byte.stands.Reads as stands-reads
 
--- src/symbol.rt:23:22
 add-stands : tie.Need-add-stands
 add-stands c = search needs
 
--- src/symbol.rt:23:9
 stands-requires : tie.Need-stands-requires
 stands-requires c κs = search needs
 
--- src/symbol.rt:29:18
 add-t10 : tie.Need-add-t10
 add-t10 c = search needs
 
--- src/symbol.rt:24:9
 returns : tie.Need-returns
 returns c = open-star _ (c .before .before .before .args .low) (c .before .before .before .pre .0) (c .before .before .before .pre .1) (not-there (c .before .stands .ensures) (not-true _ (c .if1 .taken)))
 
--- src/symbol.rt:32:21
 add-stands-2 : tie.Need-add-stands-2
 add-stands-2 c = search needs
 
--- src/symbol.rt:32:8
 stands-requires-2 : tie.Need-stands-requires-2
 stands-requires-2 c κs = search needs
 
--- src/symbol.rt:38:18
 add-t14 : tie.Need-add-t14
 add-t14 c = search needs
 
--- src/symbol.rt:33:9
 returns-2 : tie.Need-returns-2
 returns-2 c =
     lessEqual-star _ (c .before .before .before .before .before .args .low) (c .before .before .before .before .before .pre .0) (c .before .before .before .before .before .pre .1) (there (c .before .before .before .stands .ensures) (not-false _ (c .before .before .if1 .left))) (there (c .before .stands2 .ensures) (c .if2 .taken))
 
--- src/symbol.rt:46:14
 add-t6 : tie.Need-add-t6
 add-t6 c = search needs
 
--- src/symbol.rt:19:1
 returns-3 : tie.Need-returns-3
 returns-3 c =
     less-star _ (c .before .before .before .before .before .args .low) (c .before .before .before .before .before .pre .0) (c .before .before .before .before .before .pre .1) (there (c .before .before .before .stands .ensures) (not-false _ (c .before .before .if1 .left))) (not-there (c .before .stands2 .ensures) (c .if2 .left))

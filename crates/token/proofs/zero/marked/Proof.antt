@@ -1,3 +1,4 @@
+-- `token::zero::marked` meets its contract. Assumes nothing.
 use Rattle.token.proofs.Dispatch.{bits-is, blob-is, code-is, zero-only}
 use Rattle.lexicon.proofs.Answers.{judged-at, judged-none, found-at, found-none}
 use mathlib.Core.Path.{refl}
@@ -11,57 +12,46 @@ use Rattle.number.proofs.blob.blob.Reads as blob-reads
 use Rattle.string.proofs.code_point.code_point.Reads as code-point-reads
 use Rattle.token.proofs.literal.number_token.Reads as number-token-reads
 
--- src/zero.rt:54:29
 bits-requires : tie.Need-bits-requires
 bits-requires c κs = search needs
 
--- src/zero.rt:54:22
 enum-known-end : tie.Need-enum-known-end
 enum-known-end c = search needs
 
--- src/zero.rt:55:9
 returns : tie.Need-returns
 returns c = (refl, bits-is _ (found-at (c .before .end .given .1) (c .before .before .before .bits .ensures)))
 
 enum-told : tie.Need-enum-told
 enum-told c = search needs
 
--- src/zero.rt:62:39
 blob-requires : tie.Need-blob-requires
 blob-requires c κs = search needs
 
--- src/zero.rt:62:26
 enum-known-end-2 : tie.Need-enum-known-end-2
 enum-known-end-2 c = search needs
 
--- src/zero.rt:63:9
 returns-2 : tie.Need-returns-2
 returns-2 c = (refl, blob-is _ (judged-at _ (c .before .end2 .given .1) (c .before .before .before .blob .ensures)))
 
 enum-told-2 : tie.Need-enum-told-2
 enum-told-2 c = search needs
 
--- src/zero.rt:70:39
 code-point-requires : tie.Need-code-point-requires
 code-point-requires c κs = search needs
 
--- src/zero.rt:70:26
 enum-known-end-3 : tie.Need-enum-known-end-3
 enum-known-end-3 c = search needs
 
--- src/zero.rt:71:9
 returns-3 : tie.Need-returns-3
 returns-3 c = (refl, code-is _ (judged-at _ (c .before .end3 .given .1) (c .before .before .before .code-point .ensures)))
 
 enum-told-3 : tie.Need-enum-told-3
 enum-told-3 c = search needs
 
--- src/zero.rt:78:5
 number-token-requires : tie.Need-number-token-requires
 number-token-requires c κs =
     (c .before .before .before .before .before .before .before .before .before .before .pre .0 .0, zero-only _ (c .before .before .before .before .before .before .before .before .before .before .pre .0) (c .before .before .before .before .before .before .before .before .before .before .pre .1) (found-none (c .before .before .before .before .before .before .enum-told .given .1) (c .before .before .before .before .before .before .before .before .bits .ensures)) (judged-none _ (c .before .before .before .enum-told2 .given .1) (c .before .before .before .before .before .blob .ensures)) (judged-none _ (c .enum-told3 .given .1) (c .before .before .code-point .ensures)))
 
--- src/zero.rt:50:1
 returns-4 : tie.Need-returns-4
 returns-4 c = search needs
 

@@ -1,3 +1,4 @@
+-- `token::zero::zero` meets its contract. Assumes nothing.
 use Rattle.token.proofs.Dispatch.{fixed-found, fixed-missing}
 use mathlib.Core.Path.{refl}
 use borrow.Author.Needs.{needs}
@@ -8,26 +9,21 @@ use Rattle.token.proofs.zero.zero.Lts as lts
 use Rattle.token.proofs.zero.fixed_at.Reads as fixed-at-reads
 use Rattle.token.proofs.zero.marked.Reads as marked-reads
 
--- src/zero.rt:86:38
 fixed-at-requires : tie.Need-fixed-at-requires
 fixed-at-requires c κs = search needs
 
--- src/zero.rt:86:24
 enum-known-kind : tie.Need-enum-known-kind
 enum-known-kind c = search needs
 
--- src/zero.rt:87:9
 returns : tie.Need-returns
 returns c = (refl, fixed-found _ _ _ _ (c .before .before .before .fixed-at .result) (c .before .before .before .fixed-at .ensures) (c .before .kind .given .1))
 
 enum-told : tie.Need-enum-told
 enum-told c = search needs
 
--- src/zero.rt:94:5
 marked-requires : tie.Need-marked-requires
 marked-requires c κs = (c .before .before .before .before .pre, fixed-missing _ _ (c .before .before .fixed-at .result) (c .before .before .fixed-at .ensures) (c .enum-told .given .1))
 
--- src/zero.rt:82:1
 returns-2 : tie.Need-returns-2
 returns-2 c = search needs
 

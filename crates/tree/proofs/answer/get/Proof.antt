@@ -1,3 +1,4 @@
+-- `tree::answer::get` meets its contract. Assumes nothing.
 use mathlib.Core.Path.{refl}
 use mathlib.Core.Logic.{inl, inr}
 use Rattle.tree.proofs.Looking.{comes-so}
@@ -8,31 +9,24 @@ use Rattle.tree.proofs.answer.get.Reads as reads
 use Rattle.tree.proofs.answer.get.Lts as lts
 use Rattle.token.proofs.next.next.Reads as next-reads
 
--- src/answer.rt:30:9
 next-requires : tie.Need-next-requires
 next-requires c κs = search needs
 
--- src/answer.rt:32:21
 enum-known-answer : tie.Need-enum-known-answer
 enum-known-answer c = search needs
 
--- src/answer.rt:33:19
 enum-known-answer-2 : tie.Need-enum-known-answer-2
 enum-known-answer-2 c = search needs
 
--- src/answer.rt:34:23
 enum-known-answer-3 : tie.Need-enum-known-answer-3
 enum-known-answer-3 c = search needs
 
--- src/answer.rt:27:1
 returns : tie.Need-returns
 returns c = comes-so _ _ _ (c .before .answer .given .1) (c .before .before .before .next .ensures)
 
--- src/answer.rt:27:1
 returns-2 : tie.Need-returns-2
 returns-2 c = inr (refl, comes-so _ _ _ (c .before .answer2 .given .1) (c .before .before .before .next .ensures))
 
--- src/answer.rt:27:1
 returns-3 : tie.Need-returns-3
 returns-3 c = inl (refl, comes-so _ _ _ (c .before .answer3 .given .1) (c .before .before .before .next .ensures))
 

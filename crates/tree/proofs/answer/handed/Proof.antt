@@ -1,3 +1,4 @@
+-- `tree::answer::handed` meets its contract. Assumes nothing.
 use borrow.Author.Needs.{needs}
 use mathlib.Core.Path.{sym, ap}
 use Rattle.tree.specs.Looks.{handedOn}
@@ -6,19 +7,15 @@ use Rattle.tree.proofs.answer.handed.Tie as tie
 use Rattle.tree.proofs.answer.handed.Reads as reads
 use Rattle.tree.proofs.answer.handed.Lts as lts
 
--- src/answer.rt:44:20
 enum-known-got : tie.Need-enum-known-got
 enum-known-got c = search needs
 
--- src/answer.rt:48:24
 enum-known-got-2 : tie.Need-enum-known-got-2
 enum-known-got-2 c = search needs
 
--- src/answer.rt:40:1
 returns : tie.Need-returns
 returns c = ap handedOn (sym (c .before .got .given .1))
 
--- src/answer.rt:40:1
 returns-2 : tie.Need-returns-2
 returns-2 c = ap handedOn (sym (c .before .got2 .given .1))
 

@@ -1,3 +1,4 @@
+-- `tree::begin::begins` meets its contract. Assumes nothing.
 use mathlib.Core.Path.{refl}
 use Rattle.tree.proofs.Beginning.{literal-begins, later-begins, wrong-begins, names-begin}
 use borrow.Author.Needs.{needs}
@@ -8,99 +9,75 @@ use Rattle.tree.proofs.begin.begins.Lts as lts
 use Rattle.tree.proofs.begin.sign_begins.Reads as sign-begins-reads
 use Rattle.tree.proofs.begin.wrong.Reads as wrong-reads
 
--- src/begin.rt:144:28
 enum-told : tie.Need-enum-told
 enum-told c = search needs
 
--- src/begin.rt:145:29
 enum-told-2 : tie.Need-enum-told-2
 enum-told-2 c = search needs
 
--- src/begin.rt:146:40
 enum-told-3 : tie.Need-enum-told-3
 enum-told-3 c = search needs
 
--- src/begin.rt:147:27
 enum-told-4 : tie.Need-enum-told-4
 enum-told-4 c = search needs
 
--- src/begin.rt:148:23
 enum-told-5 : tie.Need-enum-told-5
 enum-told-5 c = search needs
 
--- src/begin.rt:149:23
 enum-told-6 : tie.Need-enum-told-6
 enum-told-6 c = search needs
 
--- src/begin.rt:150:26
 enum-told-7 : tie.Need-enum-told-7
 enum-told-7 c = search needs
 
--- src/begin.rt:151:24
 enum-told-8 : tie.Need-enum-told-8
 enum-told-8 c = search needs
 
--- src/begin.rt:155:22
 enum-known-kind : tie.Need-enum-known-kind
 enum-known-kind c = search needs
 
--- src/begin.rt:155:31
 sign-begins-requires : tie.Need-sign-begins-requires
 sign-begins-requires c κs = search needs
 
--- src/begin.rt:156:24
 enum-told-9 : tie.Need-enum-told-9
 enum-told-9 c = search needs
 
--- src/begin.rt:156:24
 wrong-requires : tie.Need-wrong-requires
 wrong-requires c κs = search needs
 
--- src/begin.rt:157:28
 enum-told-10 : tie.Need-enum-told-10
 enum-told-10 c = search needs
 
--- src/begin.rt:139:1
 returns : tie.Need-returns
 returns c = literal-begins _ _ _ _ _ (c .enum-told .given .1) refl
 
--- src/begin.rt:139:1
 returns-2 : tie.Need-returns-2
 returns-2 c = literal-begins _ _ _ _ _ (c .enum-told2 .given .1) refl
 
--- src/begin.rt:139:1
 returns-3 : tie.Need-returns-3
 returns-3 c = literal-begins _ _ _ _ _ (c .enum-told3 .given .1) refl
 
--- src/begin.rt:139:1
 returns-4 : tie.Need-returns-4
 returns-4 c = literal-begins _ _ _ _ _ (c .enum-told4 .given .1) refl
 
--- src/begin.rt:139:1
 returns-5 : tie.Need-returns-5
 returns-5 c = literal-begins _ _ _ _ _ (c .enum-told5 .given .1) refl
 
--- src/begin.rt:139:1
 returns-6 : tie.Need-returns-6
 returns-6 c = literal-begins _ _ _ _ _ (c .enum-told6 .given .1) refl
 
--- src/begin.rt:139:1
 returns-7 : tie.Need-returns-7
 returns-7 c = literal-begins _ _ _ _ _ (c .enum-told7 .given .1) refl
 
--- src/begin.rt:139:1
 returns-8 : tie.Need-returns-8
 returns-8 c = later-begins _ _ _ _ (c .enum-told8 .given .1)
 
--- src/begin.rt:139:1
 returns-9 : tie.Need-returns-9
 returns-9 c = c .sign-begins .ensures (c .before .before .kind .given .1)
 
--- src/begin.rt:139:1
 returns-10 : tie.Need-returns-10
 returns-10 c = wrong-begins _ _ _ _ (c .wrong .ensures) _ (c .before .enum-told9 .given .1) _ refl
 
--- src/begin.rt:139:1
 returns-11 : tie.Need-returns-11
 returns-11 c = names-begin _ _ _ _ (c .enum-told10 .given .1)
 

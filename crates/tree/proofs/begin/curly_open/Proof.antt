@@ -1,3 +1,4 @@
+-- `tree::begin::curly_open` meets its contract. Assumes nothing.
 use Rattle.tree.proofs.Beginning.{curly-begins}
 use borrow.Author.Needs.{needs}
 use Rattle.tree.proofs.begin.curly_open.Statement.{statement}
@@ -6,11 +7,9 @@ use Rattle.tree.proofs.begin.curly_open.Reads as reads
 use Rattle.tree.proofs.begin.curly_open.Lts as lts
 use Rattle.tree.proofs.begin.deeper.Reads as deeper-reads
 
--- src/begin.rt:98:5
 deeper-requires : tie.Need-deeper-requires
 deeper-requires c κs = search needs
 
--- src/begin.rt:95:1
 returns : tie.Need-returns
 returns c = λ text forms e. curly-begins text forms _ _ (c .deeper .ensures) e
 

@@ -1,3 +1,4 @@
+-- `tree::begin::deeper` meets its contract. Assumes nothing.
 use mathlib.Core.Path.{refl}
 use mathlib.Core.Logic.{inl, inr}
 use borrow.Author.Needs.{needs}
@@ -6,11 +7,9 @@ use Rattle.tree.proofs.begin.deeper.Tie as tie
 use Rattle.tree.proofs.begin.deeper.Reads as reads
 use Rattle.tree.proofs.begin.deeper.Lts as lts
 
--- src/begin.rt:44:9
 returns : tie.Need-returns
 returns c = inl (search needs, refl)
 
--- src/begin.rt:40:1
 returns-2 : tie.Need-returns-2
 returns-2 c = inr (search needs, refl)
 

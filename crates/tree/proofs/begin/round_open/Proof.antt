@@ -1,3 +1,4 @@
+-- `tree::begin::round_open` meets its contract. Assumes nothing.
 use Rattle.tree.proofs.Beginning.{round-begins, head-refused, head-begins}
 use Rattle.tree.proofs.Looking.{headed-at, headed-none, collects, lacks}
 use borrow.Author.Needs.{needs}
@@ -9,51 +10,40 @@ use Rattle.tree.proofs.begin.deeper.Reads as deeper-reads
 use Rattle.tree.proofs.head.head_at.Reads as head-at-reads
 use Rattle.tree.proofs.level.collection_of.Reads as collection-of-reads
 
--- src/begin.rt:55:9
 head-at-requires : tie.Need-head-at-requires
 head-at-requires c κs = search needs
 
--- src/begin.rt:56:22
 enum-known-headed : tie.Need-enum-known-headed
 enum-known-headed c = search needs
 
--- src/begin.rt:57:33
 enum-told : tie.Need-enum-told
 enum-told c = search needs
 
--- src/begin.rt:57:9
 deeper-requires : tie.Need-deeper-requires
 deeper-requires c κs = search needs
 
--- src/begin.rt:57:9
 returns : tie.Need-returns
 returns c =
     let n = headed-none _ _ (c .before .enum-told .given .1) (c .before .before .before .head-at .ensures) in
     λ e. round-begins _ _ _ _ (c .deeper .ensures) n e
 
--- src/begin.rt:59:9
 collection-of-requires : tie.Need-collection-of-requires
 collection-of-requires c κs = search needs
 
--- src/begin.rt:60:24
 enum-known-held : tie.Need-enum-known-held
 enum-known-held c = search needs
 
--- src/begin.rt:61:9
 enum-told-2 : tie.Need-enum-told-2
 enum-told-2 c = search needs
 
--- src/begin.rt:61:9
 returns-2 : tie.Need-returns-2
 returns-2 c =
     let w = headed-at _ _ (c .before .before .before .before .headed .given .1) (c .before .before .before .before .before .before .head-at .ensures) in
     λ e. head-refused _ _ _ _ w (lacks _ _ (c .enum-told2 .given .1) (c .before .before .collection-of .ensures)) e
 
--- src/begin.rt:66:5
 deeper-requires-2 : tie.Need-deeper-requires-2
 deeper-requires-2 c κs = search needs
 
--- src/begin.rt:52:1
 returns-3 : tie.Need-returns-3
 returns-3 c =
     let w = headed-at _ _ (c .before .before .before .before .before .before .headed .given .1)

@@ -1,3 +1,4 @@
+-- `tree::begin::square_open` meets its contract. Assumes nothing.
 use Rattle.tree.proofs.Beginning.{square-begins, square-newer}
 use borrow.Author.Needs.{needs}
 use Rattle.tree.proofs.begin.square_open.Statement.{statement}
@@ -6,15 +7,12 @@ use Rattle.tree.proofs.begin.square_open.Reads as reads
 use Rattle.tree.proofs.begin.square_open.Lts as lts
 use Rattle.tree.proofs.begin.deeper.Reads as deeper-reads
 
--- src/begin.rt:80:9
 deeper-requires : tie.Need-deeper-requires
 deeper-requires c κs = search needs
 
--- src/begin.rt:80:9
 returns : tie.Need-returns
 returns c = λ text e. square-begins text _ _ _ (c .deeper .ensures) (c .before .if1 .taken) e
 
--- src/begin.rt:76:1
 returns-2 : tie.Need-returns-2
 returns-2 c = λ text e. square-newer text _ _ _ (c .if1 .left) e
 

@@ -1,3 +1,4 @@
+-- `tree::bracket::count` meets its contract. Assumes nothing.
 use borrow.Author.Needs.{needs}
 use mathlib.Core.Path.{refl}
 use Rattle.tree.proofs.Turns.{count-stored}
@@ -8,43 +9,33 @@ use Rattle.tree.proofs.bracket.count.Lts as lts
 use Rattle.table.proofs.put.Reads as put-reads
 use Rattle.tree.proofs.leaf.told.Reads as told-reads
 
--- src/bracket.rt:69:9
 told-requires : tie.Need-told-requires
 told-requires c κs = search needs
 
--- src/bracket.rt:70:16
 add-put : tie.Need-add-put
 add-put c = search needs
 
--- src/bracket.rt:70:16
 add-put-2 : tie.Need-add-put-2
 add-put-2 c = search needs
 
--- src/bracket.rt:72:16
 cast-t13 : tie.Need-cast-t13
 cast-t13 c = search needs
 
--- src/bracket.rt:73:14
 cast-t14 : tie.Need-cast-t14
 cast-t14 c = search needs
 
--- src/bracket.rt:74:17
 cast-t15 : tie.Need-cast-t15
 cast-t15 c = search needs
 
--- src/bracket.rt:70:5
 put-requires : tie.Need-put-requires
 put-requires c κs = search needs
 
--- src/bracket.rt:82:16
 add-t11 : tie.Need-add-t11
 add-t11 c = search needs
 
--- src/bracket.rt:64:1
 same-length : tie.Need-same-length
 same-length c = search needs
 
--- src/bracket.rt:64:1
 returns : tie.Need-returns
 returns c = record { turn-is = refl; stored = count-stored (c .before .before .before .before .before .before .before .before .before .before .args .t) (c .before .before .before .before .before .before .before .before .told .result) (c .before .before .before .before .before .before .before .before .told .ensures) (c .before .before .before .put .ensures) }
 

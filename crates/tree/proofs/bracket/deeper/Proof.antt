@@ -1,3 +1,4 @@
+-- `tree::bracket::deeper` meets its contract. Assumes nothing.
 use borrow.Author.Needs.{needs}
 use mathlib.Core.Path.{refl}
 use mathlib.Core.Logic.{inl, inr}
@@ -7,15 +8,12 @@ use Rattle.tree.proofs.bracket.deeper.Tie as tie
 use Rattle.tree.proofs.bracket.deeper.Reads as reads
 use Rattle.tree.proofs.bracket.deeper.Lts as lts
 
--- src/bracket.rt:92:9
 returns : tie.Need-returns
 returns c = inl (c .if1 .taken, refl)
 
--- src/bracket.rt:103:15
 add-t10 : tie.Need-add-t10
 add-t10 c = search needs
 
--- src/bracket.rt:88:1
 returns-2 : tie.Need-returns-2
 returns-2 c = inr (omega (arith, c .before .if1 .left), refl)
 

@@ -1,3 +1,4 @@
+-- `tree::bracket::shut` meets its contract. Assumes nothing.
 use borrow.Author.Needs.{needs}
 use mathlib.Core.Path.{ap}
 use Prim.Native.Nat.{ℕ}
@@ -11,19 +12,15 @@ use Rattle.tree.proofs.bracket.shut.Lts as lts
 use Rattle.table.proofs.assign.Reads as assign-reads
 use Rattle.tree.proofs.bracket.less.Reads as less-reads
 
--- src/bracket.rt:122:5
 assign-requires : tie.Need-assign-requires
 assign-requires c κs = search needs
 
--- src/bracket.rt:126:15
 less-requires : tie.Need-less-requires
 less-requires c κs = search needs
 
--- src/bracket.rt:119:1
 same-length : tie.Need-same-length
 same-length c = search needs
 
--- src/bracket.rt:119:1
 returns : tie.Need-returns
 returns c = record { turn-is = ap (λ (d : ℕ). Turn.On (behind (c .before .before .before .before .before .before .args .s) (Mode.Headed (c .before .before .before .before .before .before .args .style)) (c .before .before .before .before .before .before .args .t) d (c .before .before .before .before .before .before .args .s .nodes))) (c .less .ensures); role-is = search needs }
 

@@ -1,3 +1,4 @@
+-- `tree::bracket::take` meets its contract: one law for each move. Assumes nothing.
 use borrow.Author.Needs.{needs}
 use mathlib.Core.Path.{refl}
 use Rattle.tree.proofs.Turns.{take-value, take-led, take-tuple, take-count, take-deeper, take-shut, take-close, take-group, take-wrong}
@@ -13,127 +14,96 @@ use Rattle.tree.proofs.bracket.shut.Reads as shut-reads
 use Rattle.tree.proofs.bracket.tuple.Reads as tuple-reads
 use Rattle.tree.proofs.bracket.wrong.Reads as wrong-reads
 
--- src/bracket.rt:169:27
 enum-told : tie.Need-enum-told
 enum-told c = search needs
 
--- src/bracket.rt:169:27
 wrong-requires : tie.Need-wrong-requires
 wrong-requires c κs = search needs
 
--- src/bracket.rt:170:20
 enum-known-taken : tie.Need-enum-known-taken
 enum-known-taken c = search needs
 
--- src/bracket.rt:170:36
 lead-on-requires : tie.Need-lead-on-requires
 lead-on-requires c κs = search needs
 
--- src/bracket.rt:171:36
 enum-told-2 : tie.Need-enum-told-2
 enum-told-2 c = search needs
 
--- src/bracket.rt:171:24
 tuple-requires : tie.Need-tuple-requires
 tuple-requires c κs = search needs
 
--- src/bracket.rt:172:21
 enum-known-taken-2 : tie.Need-enum-known-taken-2
 enum-known-taken-2 c = search needs
 
--- src/bracket.rt:172:31
 count-requires : tie.Need-count-requires
 count-requires c κs = search needs
 
--- src/bracket.rt:173:22
 enum-known-taken-3 : tie.Need-enum-known-taken-3
 enum-known-taken-3 c = search needs
 
--- src/bracket.rt:173:32
 deeper-requires : tie.Need-deeper-requires
 deeper-requires c κs = search needs
 
--- src/bracket.rt:174:22
 enum-known-taken-4 : tie.Need-enum-known-taken-4
 enum-known-taken-4 c = search needs
 
--- src/bracket.rt:174:39
 shut-requires : tie.Need-shut-requires
 shut-requires c κs = search needs
 
--- src/bracket.rt:175:23
 enum-known-taken-5 : tie.Need-enum-known-taken-5
 enum-known-taken-5 c = search needs
 
--- src/bracket.rt:175:47
 close-requires : tie.Need-close-requires
 close-requires c κs = search needs
 
--- src/bracket.rt:179:20
 enum-told-3 : tie.Need-enum-told-3
 enum-told-3 c = search needs
 
--- src/bracket.rt:181:24
 enum-told-4 : tie.Need-enum-told-4
 enum-told-4 c = search needs
 
--- src/bracket.rt:181:24
 wrong-requires-2 : tie.Need-wrong-requires-2
 wrong-requires-2 c κs = search needs
 
--- src/bracket.rt:163:1
 returns : tie.Need-returns
 returns c = take-value (c .before .before .before .before .pre .0) (c .before .before .before .before .pre .1) (c .before .enum-told .given .1) (c .wrong .ensures)
 
--- src/bracket.rt:163:1
 same-length : tie.Need-same-length
 same-length c = search needs
 
--- src/bracket.rt:163:1
 returns-2 : tie.Need-returns-2
 returns-2 c = take-led (c .before .before .before .before .before .before .before .before .pre .0) (c .before .before .before .before .before .before .before .before .pre .1) (c .before .before .before .before .before .taken .given .1) (c .before .before .lead-on .kept .1 .1 .1 .1 .0) (c .before .before .lead-on .ensures)
 
--- src/bracket.rt:163:1
 same-length-2 : tie.Need-same-length-2
 same-length-2 c = search needs
 
--- src/bracket.rt:163:1
 returns-3 : tie.Need-returns-3
 returns-3 c = take-tuple (c .before .before .before .before .before .before .before .pre .0) (c .before .before .before .before .before .before .before .pre .1) (c .before .before .before .before .enum-told2 .given .1) (c .before .before .tuple .kept .1 .1 .0) (c .before .before .tuple .ensures)
 
--- src/bracket.rt:163:1
 same-length-3 : tie.Need-same-length-3
 same-length-3 c = search needs
 
--- src/bracket.rt:163:1
 returns-4 : tie.Need-returns-4
 returns-4 c = take-count (c .before .before .before .before .before .before .before .before .pre .0) (c .before .before .before .before .before .before .before .before .pre .1) (c .before .before .before .before .before .taken2 .given .1) (c .before .before .count .kept .1 .1 .1 .0) (c .before .before .count .ensures)
 
--- src/bracket.rt:163:1
 returns-5 : tie.Need-returns-5
 returns-5 c = take-deeper (c .before .before .before .before .before .pre .0) (c .before .before .before .before .before .pre .1) (c .before .before .taken3 .given .1) (c .deeper .ensures)
 
--- src/bracket.rt:163:1
 same-length-4 : tie.Need-same-length-4
 same-length-4 c = search needs
 
--- src/bracket.rt:163:1
 returns-6 : tie.Need-returns-6
 returns-6 c = take-shut (c .before .before .before .before .before .before .before .before .pre .0) (c .before .before .before .before .before .before .before .before .pre .1) (c .before .before .before .before .before .taken4 .given .1) (c .before .before .shut .kept .1 .1 .1 .1 .0) (c .before .before .shut .ensures)
 
--- src/bracket.rt:163:1
 same-length-5 : tie.Need-same-length-5
 same-length-5 c = search needs
 
--- src/bracket.rt:163:1
 returns-7 : tie.Need-returns-7
 returns-7 c = take-close (c .before .before .before .before .before .before .before .before .pre .0) (c .before .before .before .before .before .before .before .before .pre .1) (c .before .before .before .before .before .taken5 .given .1) (c .before .before .close .ensures)
 
--- src/bracket.rt:163:1
 returns-8 : tie.Need-returns-8
 returns-8 c = take-group (c .before .before .before .pre .0) (c .before .before .before .pre .1) (c .enum-told3 .given .1) refl
 
--- src/bracket.rt:163:1
 returns-9 : tie.Need-returns-9
 returns-9 c = take-wrong (c .before .before .before .before .pre .0) (c .before .before .before .before .pre .1) (c .before .enum-told4 .given .1) (c .wrong2 .ensures)
 

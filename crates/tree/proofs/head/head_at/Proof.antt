@@ -1,3 +1,4 @@
+-- `tree::head::head_at` meets its contract. Assumes nothing.
 use Rattle.rules.proofs.Bools.{clash}
 use Rattle.tree.proofs.Looking.{got-token, got-none, headless, no-word, no-sign, no-colon, head-here, word-is, word-none}
 use borrow.Author.Needs.{needs}
@@ -9,64 +10,50 @@ use Rattle.tree.proofs.answer.get.Reads as get-reads
 use Rattle.tree.proofs.head.head_word.Reads as head-word-reads
 use Rattle.tree.proofs.head.is_colon.Reads as is-colon-reads
 
--- src/head.rt:67:9
 get-requires : tie.Need-get-requires
 get-requires c κs = search needs
 
--- src/head.rt:68:20
 enum-known-first : tie.Need-enum-known-first
 enum-known-first c = search needs
 
--- src/head.rt:69:9
 enum-told : tie.Need-enum-told
 enum-told c = search needs
 
--- src/head.rt:69:9
 returns : tie.Need-returns
 returns c = headless _ _ (λ t k h e. got-none _ _ (c .enum-told .given .1) (c .before .before .get .ensures) t k)
 
--- src/head.rt:72:9
 head-word-requires : tie.Need-head-word-requires
 head-word-requires c κs = search needs
 
--- src/head.rt:73:22
 enum-known-word : tie.Need-enum-known-word
 enum-known-word c = search needs
 
--- src/head.rt:74:9
 enum-told-2 : tie.Need-enum-told-2
 enum-told-2 c = search needs
 
--- src/head.rt:74:9
 returns-2 : tie.Need-returns-2
 returns-2 c =
     let k = got-token _ _ (c .before .before .before .before .first .given .1) (c .before .before .before .before .before .before .get .ensures) in
     no-word _ _ k (word-none _ (c .enum-told2 .given .1) (c .before .before .head-word .ensures))
 
--- src/head.rt:76:9
 get-requires-2 : tie.Need-get-requires-2
 get-requires-2 c κs = search needs
 
--- src/head.rt:77:20
 enum-known-second : tie.Need-enum-known-second
 enum-known-second c = search needs
 
--- src/head.rt:78:9
 enum-told-3 : tie.Need-enum-told-3
 enum-told-3 c = search needs
 
--- src/head.rt:78:9
 returns-3 : tie.Need-returns-3
 returns-3 c =
     let k = got-token _ _ (c .before .before .before .before .before .before .before .before .first .given .1)
     (c .before .before .before .before .before .before .before .before .before .before .get .ensures) in
     no-sign _ _ k (λ u n e. got-none _ _ (c .enum-told3 .given .1) (c .before .before .get2 .ensures) u n)
 
--- src/head.rt:81:8
 is-colon-requires : tie.Need-is-colon-requires
 is-colon-requires c κs = search needs
 
--- src/head.rt:82:9
 returns-4 : tie.Need-returns-4
 returns-4 c =
     let k = got-token _ _ (c .before .before .before .before .before .before .before .before .before .before .before .first .given .1)
@@ -76,7 +63,6 @@ returns-4 c =
     (c .before .before .before .before .before .before .before .before .before .head-word .ensures)) m
     (c .before .is-colon .ensures .true-holds (c .if1 .taken))
 
--- src/head.rt:64:1
 returns-5 : tie.Need-returns-5
 returns-5 c =
     let k = got-token _ _ (c .before .before .before .before .before .before .before .before .before .before .before .first .given .1)

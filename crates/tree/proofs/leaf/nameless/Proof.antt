@@ -1,3 +1,4 @@
+-- `tree::leaf::nameless` meets its contract. Assumes nothing.
 use borrow.Author.Needs.{needs}
 use mathlib.Core.Path.{sym, ap}
 use Rattle.tree.specs.Tellings.{namelessBy}
@@ -6,19 +7,15 @@ use Rattle.tree.proofs.leaf.nameless.Tie as tie
 use Rattle.tree.proofs.leaf.nameless.Reads as reads
 use Rattle.tree.proofs.leaf.nameless.Lts as lts
 
--- src/leaf.rt:189:19
 enum-known-named : tie.Need-enum-known-named
 enum-known-named c = search needs
 
--- src/leaf.rt:193:26
 enum-known-named-2 : tie.Need-enum-known-named-2
 enum-known-named-2 c = search needs
 
--- src/leaf.rt:185:1
 returns : tie.Need-returns
 returns c = ap namelessBy (sym (c .before .named .given .1))
 
--- src/leaf.rt:185:1
 returns-2 : tie.Need-returns-2
 returns-2 c = ap namelessBy (sym (c .before .named2 .given .1))
 

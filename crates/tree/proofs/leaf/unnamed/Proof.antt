@@ -1,3 +1,4 @@
+-- `tree::leaf::unnamed` meets its contract. Assumes nothing.
 use borrow.Author.Needs.{needs}
 use mathlib.Core.Path.{sym, ap}
 use Rattle.tree.specs.Tellings.{unnamedBy}
@@ -6,19 +7,15 @@ use Rattle.tree.proofs.leaf.unnamed.Tie as tie
 use Rattle.tree.proofs.leaf.unnamed.Reads as reads
 use Rattle.tree.proofs.leaf.unnamed.Lts as lts
 
--- src/leaf.rt:176:20
 enum-known-got : tie.Need-enum-known-got
 enum-known-got c = search needs
 
--- src/leaf.rt:180:24
 enum-known-got-2 : tie.Need-enum-known-got-2
 enum-known-got-2 c = search needs
 
--- src/leaf.rt:172:1
 returns : tie.Need-returns
 returns c = ap unnamedBy (sym (c .before .got .given .1))
 
--- src/leaf.rt:172:1
 returns-2 : tie.Need-returns-2
 returns-2 c = ap unnamedBy (sym (c .before .got2 .given .1))
 

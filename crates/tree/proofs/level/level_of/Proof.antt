@@ -1,18 +1,16 @@
+-- `tree::level::level_of` meets its contract. Assumes nothing.
 use Rattle.tree.proofs.Looking.{first-level, second-level, no-level}
 use Rattle.tree.proofs.level.level_of.Statement.{statement}
 use Rattle.tree.proofs.level.level_of.Tie as tie
 use Rattle.tree.proofs.level.level_of.Reads as reads
 use Rattle.tree.proofs.level.level_of.Lts as lts
 
--- src/level.rt:16:9
 returns : tie.Need-returns
 returns c = first-level (c .if1 .taken)
 
--- src/level.rt:25:9
 returns-2 : tie.Need-returns-2
 returns-2 c = second-level (c .if2 .taken)
 
--- src/level.rt:12:1
 returns-3 : tie.Need-returns-3
 returns-3 c = no-level (c .before .if1 .left) (c .if2 .left)
 

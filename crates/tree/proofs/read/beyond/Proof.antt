@@ -1,3 +1,4 @@
+-- `tree::read::beyond` meets its contract. Assumes nothing.
 use borrow.Author.Needs.{needs}
 use mathlib.Core.Path.{sym, ap}
 use Rattle.tree.specs.Whole.{beyondBy}
@@ -6,27 +7,21 @@ use Rattle.tree.proofs.read.beyond.Tie as tie
 use Rattle.tree.proofs.read.beyond.Reads as reads
 use Rattle.tree.proofs.read.beyond.Lts as lts
 
--- src/read.rt:67:21
 enum-known-then : tie.Need-enum-known-then
 enum-known-then c = search needs
 
--- src/read.rt:71:19
 enum-known-then-2 : tie.Need-enum-known-then-2
 enum-known-then-2 c = search needs
 
--- src/read.rt:72:23
 enum-known-then-3 : tie.Need-enum-known-then-3
 enum-known-then-3 c = search needs
 
--- src/read.rt:63:1
 returns : tie.Need-returns
 returns c = ap beyondBy (sym (c .before .then .given .1))
 
--- src/read.rt:63:1
 returns-2 : tie.Need-returns-2
 returns-2 c = ap beyondBy (sym (c .before .then2 .given .1))
 
--- src/read.rt:63:1
 returns-3 : tie.Need-returns-3
 returns-3 c = ap beyondBy (sym (c .before .then3 .given .1))
 

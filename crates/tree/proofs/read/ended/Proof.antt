@@ -1,3 +1,4 @@
+-- `tree::read::ended` meets its contract. Assumes nothing.
 use borrow.Author.Needs.{needs}
 use Rattle.tree.proofs.Wholes.{behind-beyond, behind-end}
 use Rattle.tree.proofs.read.ended.Statement.{statement}
@@ -7,22 +8,18 @@ use Rattle.tree.proofs.read.ended.Lts as lts
 use Rattle.token.proofs.next.next.Reads as next-reads
 use Rattle.tree.proofs.read.beyond.Reads as beyond-reads
 
--- src/read.rt:55:9
 next-requires : tie.Need-next-requires
 next-requires c κs = search needs
 
 enum-told : tie.Need-enum-told
 enum-told c = search needs
 
--- src/read.rt:57:9
 beyond-requires : tie.Need-beyond-requires
 beyond-requires c κs = search needs
 
--- src/read.rt:57:9
 returns : tie.Need-returns
 returns c = behind-beyond _ _ _ (c .before .before .next .result) (c .before .before .next .ensures) (c .before .match .keys2) (c .beyond .ensures)
 
--- src/read.rt:52:1
 returns-2 : tie.Need-returns-2
 returns-2 c = behind-end _ _ _ (c .before .before .next .result) (c .before .before .next .ensures) (c .enum-told .given .1)
 

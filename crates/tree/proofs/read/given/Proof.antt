@@ -1,3 +1,4 @@
+-- `tree::read::given` meets its contract. Assumes nothing.
 use borrow.Author.Needs.{needs}
 use mathlib.Core.Path.{sym, ap, _∙_}
 use Rattle.tree.specs.Whole.{refusal}
@@ -7,27 +8,21 @@ use Rattle.tree.proofs.read.given.Reads as reads
 use Rattle.tree.proofs.read.given.Lts as lts
 use Rattle.tree.proofs.read.refused.Reads as refused-reads
 
--- src/read.rt:93:13
 enum-known-read : tie.Need-enum-known-read
 enum-known-read c = search needs
 
--- src/read.rt:96:14
 refused-requires : tie.Need-refused-requires
 refused-requires c κs = search needs
 
--- src/read.rt:97:25
 enum-known-read-2 : tie.Need-enum-known-read-2
 enum-known-read-2 c = search needs
 
--- src/read.rt:97:44
 refused-requires-2 : tie.Need-refused-requires-2
 refused-requires-2 c κs = search needs
 
--- src/read.rt:88:1
 returns : tie.Need-returns
 returns c = c .refused .ensures ∙ ap refusal (sym (c .before .before .read .given .1))
 
--- src/read.rt:88:1
 returns-2 : tie.Need-returns-2
 returns-2 c = c .refused2 .ensures ∙ ap refusal (sym (c .before .before .read2 .given .1))
 

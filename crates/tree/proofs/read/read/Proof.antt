@@ -1,3 +1,4 @@
+-- `tree::read::read` meets its contract: the tests over the whole text, then the tokens. Assumes nothing.
 use borrow.Author.Needs.{needs}
 use Rattle.tree.proofs.Wholes.{read-no-level, read-long, read-bad, read-told}
 use native.Mathlib.Omega.{arith}
@@ -10,62 +11,48 @@ use Rattle.tree.proofs.level.level_of.Reads as level-of-reads
 use Rattle.tree.proofs.read.refused.Reads as refused-reads
 use Rattle.tree.proofs.read.tokens.Reads as tokens-reads
 
--- src/read.rt:135:9
 level-of-requires : tie.Need-level-of-requires
 level-of-requires c κs = search needs
 
--- src/read.rt:136:22
 enum-known-named : tie.Need-enum-known-named
 enum-known-named c = search needs
 
--- src/read.rt:137:9
 enum-told : tie.Need-enum-told
 enum-told c = search needs
 
--- src/read.rt:137:9
 refused-requires : tie.Need-refused-requires
 refused-requires c κs = search needs
 
--- src/read.rt:137:9
 returns : tie.Need-returns
 returns c = read-no-level _ _ _ (c .before .before .before .level-of .result) (c .before .before .before .level-of .ensures) (c .before .enum-told .given .1) (c .refused .ensures)
 
--- src/read.rt:140:9
 refused-requires-2 : tie.Need-refused-requires-2
 refused-requires-2 c κs = search needs
 
--- src/read.rt:140:9
 returns-2 : tie.Need-returns-2
 returns-2 c = read-long _ _ _ (c .before .before .before .before .before .level-of .result) (c .before .before .before .before .before .level-of .ensures) (c .before .before .before .named .given .1) (c .before .if1 .taken) (c .refused2 .ensures)
 
--- src/read.rt:142:9
 utf8-requires : tie.Need-utf8-requires
 utf8-requires c κs = search needs
 
--- src/read.rt:143:28
 enum-known-encoding : tie.Need-enum-known-encoding
 enum-known-encoding c = search needs
 
--- src/read.rt:144:9
 refused-requires-3 : tie.Need-refused-requires-3
 refused-requires-3 c κs = search needs
 
--- src/read.rt:144:9
 returns-3 : tie.Need-returns-3
 returns-3 c = read-bad _ _ _ (c .before .before .before .before .before .before .before .before .before .level-of .result) (c .before .before .before .before .before .before .before .before .before .level-of .ensures) (c .before .before .before .before .before .before .before .named .given .1) (omega (arith, c .before .before .before .before .before .if1 .left)) (c .before .before .before .before .utf8 .result) (c .before .before .before .before .utf8 .ensures) (c .before .before .encoding .given .1) (c .refused3 .ensures)
 
 enum-told-2 : tie.Need-enum-told-2
 enum-told-2 c = search needs
 
--- src/read.rt:146:5
 tokens-requires : tie.Need-tokens-requires
 tokens-requires c κs = search needs
 
--- src/read.rt:132:1
 same-length : tie.Need-same-length
 same-length c = search needs
 
--- src/read.rt:132:1
 returns-4 : tie.Need-returns-4
 returns-4 c = read-told _ _ _ (c .before .before .before .before .before .before .before .before .before .before .before .level-of .result) (c .before .before .before .before .before .before .before .before .before .before .before .level-of .ensures) (c .before .before .before .before .before .before .before .before .before .named .given .1) (omega (arith, c .before .before .before .before .before .before .before .if1 .left)) (c .before .before .before .before .before .before .utf8 .result) (c .before .before .before .before .before .before .utf8 .ensures) (c .before .before .before .before .enum-told2 .given .1) (c .before .before .tokens .ensures)
 

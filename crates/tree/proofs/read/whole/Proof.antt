@@ -1,3 +1,4 @@
+-- `tree::read::whole` meets its contract: a value, and the end behind it. Assumes nothing.
 use borrow.Author.Needs.{needs}
 use Rattle.tree.proofs.Wholes.{whole-fit, whole-missing, whole-refused, whole-read}
 use Rattle.tree.proofs.Looking.{got-token}
@@ -11,59 +12,45 @@ use Rattle.tree.proofs.answer.handed.Reads as handed-reads
 use Rattle.tree.proofs.read.ended.Reads as ended-reads
 use Rattle.tree.proofs.value.value.Reads as value-reads
 
--- src/read.rt:71:25
 front-requires : tie.Need-front-requires
 front-requires c κs = search needs
 
--- src/read.rt:71:9
 get-requires : tie.Need-get-requires
 get-requires c κs = search needs
 
--- src/read.rt:72:20
 enum-known-got : tie.Need-enum-known-got
 enum-known-got c = search needs
 
--- src/read.rt:73:9
 enum-told : tie.Need-enum-told
 enum-told c = search needs
 
--- src/read.rt:73:9
 handed-requires : tie.Need-handed-requires
 handed-requires c κs = search needs
 
--- src/read.rt:73:9
 returns : tie.Need-returns
 returns c = whole-missing _ _ (c .before .before .before .before .front .ensures) (c .before .before .before .get .result) (c .before .before .before .get .ensures) (c .handed .result) (c .before .enum-told .given .1) (c .handed .ensures)
 
--- src/read.rt:75:9
 value-requires : tie.Need-value-requires
 value-requires c κs = whole-fit _ (got-token _ _ (c .before .before .got .given .1) (c .before .before .before .before .get .ensures)) (c .before .before .before .before .before .before .before .before .pre)
 
--- src/read.rt:77:9
 enum-known-read : tie.Need-enum-known-read
 enum-known-read c = search needs
 
--- src/read.rt:82:9
 enum-told-2 : tie.Need-enum-told-2
 enum-told-2 c = search needs
 
--- src/read.rt:82:9
 same-length : tie.Need-same-length
 same-length c = search needs
 
--- src/read.rt:82:9
 returns-2 : tie.Need-returns-2
 returns-2 c = whole-refused _ _ (c .before .before .before .before .before .before .before .before .before .before .front .ensures) (c .before .before .before .before .before .before .before .before .before .get .result) (c .before .before .before .before .before .before .before .before .before .get .ensures) (c .before .before .before .before .before .before .before .got .given .1) (c .before .before .before .before .value .result) (c .before .before .before .before .value .ensures) (c .enum-told2 .given .1)
 
--- src/read.rt:84:5
 ended-requires : tie.Need-ended-requires
 ended-requires c κs = search needs
 
--- src/read.rt:67:1
 same-length-2 : tie.Need-same-length-2
 same-length-2 c = search needs
 
--- src/read.rt:67:1
 returns-3 : tie.Need-returns-3
 returns-3 c = whole-read _ _ (c .before .before .before .before .before .before .before .before .before .before .before .before .front .ensures) (c .before .before .before .before .before .before .before .before .before .before .before .get .result) (c .before .before .before .before .before .before .before .before .before .before .before .get .ensures) (c .before .before .before .before .before .before .before .before .before .got .given .1) (c .before .before .before .before .before .before .value .result) (c .before .before .before .before .before .before .value .ensures) (c .ended .result) (c .before .before .read .given .1) (c .ended .ensures)
 

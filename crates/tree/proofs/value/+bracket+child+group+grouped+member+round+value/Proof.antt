@@ -1,3 +1,5 @@
+-- The readers of `tree::value`, which call each other, meet their contracts: bytes left, with a rank for each, fall at each call.
+-- A cycle of calls has one proof. The laws are in Readings.antt; here each need is given the facts that it stands on. Assumes nothing.
 use Prim.Native.Nat.{ℕ, _-_, _<_}
 use lib.ListN.{length}
 use mathlib.Core.Path.{refl, sym, _∙_}
@@ -111,7 +113,6 @@ bracket-Inv-loop text forms opener from depth table₀ index parent state₀ tab
 abbrev bracket-μ-loop : bracket-lts.MeasureT-loop
 bracket-μ-loop text forms opener from depth table₀ index parent state₀ table state = length text - state .at
 
--- src/value.rt:134:15
 bracket-add-t14 :
     (t : ℕ) →
     bracket-lts.Need-add-t14
@@ -122,7 +123,6 @@ bracket-add-t14 :
     bracket-μ-loop
 bracket-add-t14 t c = record { fits = omega (arith, c .before .before .pre .1 .deep-fits, c .before .before .pre .1 .inside-text, c .before .before .pre .1 .fit .short) }
 
--- src/value.rt:138:5
 bracket-loop-holds :
     (t : ℕ) →
     bracket-lts.Need-loop-holds
@@ -133,7 +133,6 @@ bracket-loop-holds :
     bracket-μ-loop
 bracket-loop-holds t c = going-starts (c .before .before .pre .1)
 
--- src/value.rt:139:13
 bracket-member-requires :
     (t : ℕ) →
     bracket-lts.Need-member-requires
@@ -144,7 +143,6 @@ bracket-member-requires :
     bracket-μ-loop
 bracket-member-requires t c κs = (rank-falls (c .before .before .before .before .args .text .now) (c .before .before .before .before .pre .0) (c .before .loop .inv .onward) (omega arith), c .before .loop .inv .inner)
 
--- src/value.rt:141:22
 bracket-enum-known-turn :
     (t : ℕ) →
     bracket-lts.Need-enum-known-turn
@@ -155,7 +153,6 @@ bracket-enum-known-turn :
     bracket-μ-loop
 bracket-enum-known-turn t c = search needs
 
--- src/value.rt:138:5
 bracket-loop-less :
     (t : ℕ) →
     bracket-lts.Need-loop-less
@@ -166,7 +163,6 @@ bracket-loop-less :
     bracket-μ-loop
 bracket-loop-less t c = going-less (c .before .before .before .before .before .before .before .loop .inv) (c .before .before .before .before .before .member .result) (c .before .before .before .before .before .member .ensures) (c .before .turn .given .1)
 
--- src/value.rt:138:5
 bracket-loop-again :
     (t : ℕ) →
     bracket-lts.Need-loop-again
@@ -177,14 +173,12 @@ bracket-loop-again :
     bracket-μ-loop
 bracket-loop-again t c = going-on (c .before .before .before .before .before .before .before .loop .inv) (c .before .before .before .before .before .member .result) (c .before .before .before .before .before .member .ensures) (c .before .turn .given .1) (c .before .before .before .before .before .member .kept .1 .1 .1 .1 .0)
 
--- src/value.rt:144:25
 bracket-enum-known-turn-2 : (t : ℕ) → bracket-lts.Need-enum-known-turn-2 (
   member-below t,
   member.Post,
 ) (bracket-at t) bracket.Post bracket-Inv-loop bracket-μ-loop
 bracket-enum-known-turn-2 t c = search needs
 
--- src/value.rt:145:17
 bracket-same-length :
     (t : ℕ) →
     bracket-lts.Need-same-length
@@ -195,7 +189,6 @@ bracket-same-length :
     bracket-μ-loop
 bracket-same-length t c = search needs
 
--- src/value.rt:145:17
 bracket-returns :
     (t : ℕ) →
     bracket-lts.Need-returns
@@ -206,57 +199,46 @@ bracket-returns :
     bracket-μ-loop
 bracket-returns t c = going-ends (c .before .before .before .before .before .before .before .loop .inv) (c .before .before .before .before .before .member .result) (c .before .before .before .before .before .member .ensures) (c .before .turn2 .given .1)
 
--- src/value.rt:174:16
 child-add-last :
     (t : ℕ) → child-lts.Need-add-last (value-below t, value.Post) (child-at t) child.Post
 child-add-last t c = record { fits = omega (arith, c .before .before .pre .1 .0 .after, c .before .before .pre .1 .0 .token-after, c .before .before .pre .1 .0 .token-byte, c .before .before .pre .1 .0 .short) }
 
--- src/value.rt:174:16
 child-add-last-2 :
     (t : ℕ) → child-lts.Need-add-last-2 (value-below t, value.Post) (child-at t) child.Post
 child-add-last-2 t c = record { fits = omega (arith, c .before .before .before .pre .1 .0 .after, c .before .before .before .pre .1 .0 .token-after, c .before .before .before .pre .1 .0 .token-byte, c .before .before .before .pre .1 .0 .short) }
 
--- src/value.rt:175:9
 child-value-requires :
     (t : ℕ) → child-lts.Need-value-requires (value-below t, value.Post) (child-at t) child.Post
 child-value-requires t c κs = (rank-falls (c .before .before .before .before .args .text .now) (c .before .before .before .before .pre .0) (omega arith) (omega arith), (child-fit (c .before .before .before .before .pre .1 .0) (c .before .before .before .before .pre .1 .2) (c .before .before .before .before .pre .1 .3), omega (arith, c .before .before .before .before .pre .1 .1, c .before .before .before .before .pre .1 .0 .token-after)))
 
--- src/value.rt:176:23
 child-enum-known-read :
     (t : ℕ) → child-lts.Need-enum-known-read (value-below t, value.Post) (child-at t) child.Post
 child-enum-known-read t c = search needs
 
--- src/value.rt:177:9
 child-enum-told :
     (t : ℕ) → child-lts.Need-enum-told (value-below t, value.Post) (child-at t) child.Post
 child-enum-told t c = search needs
 
--- src/value.rt:177:9
 child-same-length :
     (t : ℕ) → child-lts.Need-same-length (value-below t, value.Post) (child-at t) child.Post
 child-same-length t c = search needs
 
--- src/value.rt:177:9
 child-returns :
     (t : ℕ) → child-lts.Need-returns (value-below t, value.Post) (child-at t) child.Post
 child-returns t c = child-refused _ _ (c .before .before .before .before .value .result) (c .before .before .before .before .value .ensures) (c .enum-told .given .1)
 
--- src/value.rt:183:16
 child-add-t13 :
     (t : ℕ) → child-lts.Need-add-t13 (value-below t, value.Post) (child-at t) child.Post
 child-add-t13 t c = let v = value-sized _ _ (c .before .before .before .before .before .before .value .ensures) (c .before .before .read .given .1) in record { fits = omega (arith, v .0, v .2, c .before .before .before .before .before .before .before .before .before .before .before .pre .1 .0 .after, c .before .before .before .before .before .before .before .before .before .before .before .pre .1 .0 .token-after, c .before .before .before .before .before .before .before .before .before .before .before .pre .1 .3) }
 
--- src/value.rt:170:1
 child-same-length-2 :
     (t : ℕ) → child-lts.Need-same-length-2 (value-below t, value.Post) (child-at t) child.Post
 child-same-length-2 t c = search needs
 
--- src/value.rt:170:1
 child-returns-2 :
     (t : ℕ) → child-lts.Need-returns-2 (value-below t, value.Post) (child-at t) child.Post
 child-returns-2 t c = child-on _ _ (c .before .before .before .before .before .before .value .result) (c .before .before .before .before .before .before .value .ensures) (c .before .before .read .given .1) (c .before .before .before .before .before .before .value .kept .1 .1 .1 .1 .0)
 
--- src/value.rt:102:9
 group-get-requires : (t : ℕ) → group-lts.Need-get-requires (
   get-reads.Asked,
   get-reads.Learnt,
@@ -267,7 +249,6 @@ group-get-requires : (t : ℕ) → group-lts.Need-get-requires (
 ) (group-at t) group.Post
 group-get-requires t c κs = search needs
 
--- src/value.rt:103:20
 group-enum-known-got : (t : ℕ) → group-lts.Need-enum-known-got (
   get-reads.Asked,
   get-reads.Learnt,
@@ -278,7 +259,6 @@ group-enum-known-got : (t : ℕ) → group-lts.Need-enum-known-got (
 ) (group-at t) group.Post
 group-enum-known-got t c = search needs
 
--- src/value.rt:104:9
 group-enum-told : (t : ℕ) → group-lts.Need-enum-told (
   get-reads.Asked,
   get-reads.Learnt,
@@ -289,7 +269,6 @@ group-enum-told : (t : ℕ) → group-lts.Need-enum-told (
 ) (group-at t) group.Post
 group-enum-told t c = search needs
 
--- src/value.rt:104:9
 group-handed-requires : (t : ℕ) → group-lts.Need-handed-requires (
   get-reads.Asked,
   get-reads.Learnt,
@@ -300,7 +279,6 @@ group-handed-requires : (t : ℕ) → group-lts.Need-handed-requires (
 ) (group-at t) group.Post
 group-handed-requires t c κs = search needs
 
--- src/value.rt:104:9
 group-returns : (t : ℕ) → group-lts.Need-returns (
   get-reads.Asked,
   get-reads.Learnt,
@@ -311,7 +289,6 @@ group-returns : (t : ℕ) → group-lts.Need-returns (
 ) (group-at t) group.Post
 group-returns t c = group-missing _ _ _ 0 _ (c .before .before .before .get .result) (c .handed .result) (c .before .before .before .get .ensures) (c .before .enum-told .given .1) (c .handed .ensures)
 
--- src/value.rt:106:38
 group-add-value : (t : ℕ) → group-lts.Need-add-value (
   get-reads.Asked,
   get-reads.Learnt,
@@ -322,7 +299,6 @@ group-add-value : (t : ℕ) → group-lts.Need-add-value (
 ) (group-at t) group.Post
 group-add-value t c = let f = c .before .before .before .before .before .before .pre .1 .0 in record { fits = omega (arith, c .before .before .before .before .before .before .pre .1 .1, f .some-byte, f .inside-text, f .short) }
 
--- src/value.rt:106:9
 group-value-requires : (t : ℕ) → group-lts.Need-value-requires (
   get-reads.Asked,
   get-reads.Learnt,
@@ -333,7 +309,6 @@ group-value-requires : (t : ℕ) → group-lts.Need-value-requires (
 ) (group-at t) group.Post
 group-value-requires t c κs = let k = got-token _ _ (c .before .before .got .given .1) (c .before .before .before .before .get .ensures) in let y = token-bounds _ k in (byte-falls (c .before .before .before .before .before .before .before .args .text .now) 3 (c .before .before .before .before .before .before .before .pre .0) (omega (arith, y .0, y .1)) (y .2) (omega arith), inner-fit (c .before .before .before .before .before .before .before .pre .1 .0) (c .before .before .before .before .before .before .before .pre .1 .1) k)
 
--- src/value.rt:108:9
 group-enum-known-read : (t : ℕ) → group-lts.Need-enum-known-read (
   get-reads.Asked,
   get-reads.Learnt,
@@ -344,7 +319,6 @@ group-enum-known-read : (t : ℕ) → group-lts.Need-enum-known-read (
 ) (group-at t) group.Post
 group-enum-known-read t c = search needs
 
--- src/value.rt:113:9
 group-enum-told-2 : (t : ℕ) → group-lts.Need-enum-told-2 (
   get-reads.Asked,
   get-reads.Learnt,
@@ -355,7 +329,6 @@ group-enum-told-2 : (t : ℕ) → group-lts.Need-enum-told-2 (
 ) (group-at t) group.Post
 group-enum-told-2 t c = search needs
 
--- src/value.rt:113:9
 group-same-length : (t : ℕ) → group-lts.Need-same-length (
   get-reads.Asked,
   get-reads.Learnt,
@@ -366,7 +339,6 @@ group-same-length : (t : ℕ) → group-lts.Need-same-length (
 ) (group-at t) group.Post
 group-same-length t c = search needs
 
--- src/value.rt:113:9
 group-returns-2 : (t : ℕ) → group-lts.Need-returns-2 (
   get-reads.Asked,
   get-reads.Learnt,
@@ -377,7 +349,6 @@ group-returns-2 : (t : ℕ) → group-lts.Need-returns-2 (
 ) (group-at t) group.Post
 group-returns-2 t c = group-refused _ _ _ 0 _ (c .before .before .before .before .before .before .before .before .before .get .result) (c .before .before .before .before .before .before .before .before .before .get .ensures) (c .before .before .before .before .before .before .before .got .given .1) (c .before .before .before .before .value .result) (c .before .before .before .before .value .ensures) (c .enum-told2 .given .1)
 
--- src/value.rt:115:9
 group-get-requires-2 : (t : ℕ) → group-lts.Need-get-requires-2 (
   get-reads.Asked,
   get-reads.Learnt,
@@ -388,7 +359,6 @@ group-get-requires-2 : (t : ℕ) → group-lts.Need-get-requires-2 (
 ) (group-at t) group.Post
 group-get-requires-2 t c κs = search needs
 
--- src/value.rt:116:20
 group-enum-known-then : (t : ℕ) → group-lts.Need-enum-known-then (
   get-reads.Asked,
   get-reads.Learnt,
@@ -399,7 +369,6 @@ group-enum-known-then : (t : ℕ) → group-lts.Need-enum-known-then (
 ) (group-at t) group.Post
 group-enum-known-then t c = search needs
 
--- src/value.rt:117:9
 group-enum-told-3 : (t : ℕ) → group-lts.Need-enum-told-3 (
   get-reads.Asked,
   get-reads.Learnt,
@@ -410,7 +379,6 @@ group-enum-told-3 : (t : ℕ) → group-lts.Need-enum-told-3 (
 ) (group-at t) group.Post
 group-enum-told-3 t c = search needs
 
--- src/value.rt:117:9
 group-handed-requires-2 : (t : ℕ) → group-lts.Need-handed-requires-2 (
   get-reads.Asked,
   get-reads.Learnt,
@@ -421,7 +389,6 @@ group-handed-requires-2 : (t : ℕ) → group-lts.Need-handed-requires-2 (
 ) (group-at t) group.Post
 group-handed-requires-2 t c κs = search needs
 
--- src/value.rt:117:9
 group-same-length-2 : (t : ℕ) → group-lts.Need-same-length-2 (
   get-reads.Asked,
   get-reads.Learnt,
@@ -432,7 +399,6 @@ group-same-length-2 : (t : ℕ) → group-lts.Need-same-length-2 (
 ) (group-at t) group.Post
 group-same-length-2 t c = search needs
 
--- src/value.rt:117:9
 group-returns-3 : (t : ℕ) → group-lts.Need-returns-3 (
   get-reads.Asked,
   get-reads.Learnt,
@@ -443,7 +409,6 @@ group-returns-3 : (t : ℕ) → group-lts.Need-returns-3 (
 ) (group-at t) group.Post
 group-returns-3 t c = group-open _ _ _ 0 _ (c .before .before .before .before .before .before .before .before .before .before .before .before .before .before .get .result) (c .before .before .before .before .before .before .before .before .before .before .before .before .before .before .get .ensures) (c .before .before .before .before .before .before .before .before .before .before .before .before .got .given .1) (c .before .before .before .before .before .before .before .before .before .value .result) (c .before .before .before .before .before .before .before .before .before .value .ensures) (c .before .before .before .before .before .read .given .1) (c .before .before .before .get2 .result) (c .before .before .before .get2 .ensures) (c .handed2 .result) (c .before .enum-told3 .given .1) (c .handed2 .ensures)
 
--- src/value.rt:98:1
 group-same-length-3 : (t : ℕ) → group-lts.Need-same-length-3 (
   get-reads.Asked,
   get-reads.Learnt,
@@ -454,7 +419,6 @@ group-same-length-3 : (t : ℕ) → group-lts.Need-same-length-3 (
 ) (group-at t) group.Post
 group-same-length-3 t c = search needs
 
--- src/value.rt:98:1
 group-returns-4 : (t : ℕ) → group-lts.Need-returns-4 (
   get-reads.Asked,
   get-reads.Learnt,
@@ -465,7 +429,6 @@ group-returns-4 : (t : ℕ) → group-lts.Need-returns-4 (
 ) (group-at t) group.Post
 group-returns-4 t c = group-read _ _ _ 0 _ (c .before .before .before .before .before .before .before .before .before .before .before .before .before .before .get .result) (c .before .before .before .before .before .before .before .before .before .before .before .before .before .before .get .ensures) (c .before .before .before .before .before .before .before .before .before .before .before .before .got .given .1) (c .before .before .before .before .before .before .before .before .before .value .result) (c .before .before .before .before .before .before .before .before .before .value .ensures) (c .before .before .before .before .before .read .given .1) (c .before .before .before .get2 .result) (c .before .before .before .get2 .ensures) (c .before .before .before .before .before .before .before .before .before .before .before .before .before .before .before .before .before .pre .1 .0 .some-byte) (c .before .then .given .1)
 
--- src/value.rt:74:9
 grouped-returns : (t : ℕ) → grouped-lts.Need-returns (
   get-reads.Asked,
   get-reads.Learnt,
@@ -478,7 +441,6 @@ grouped-returns : (t : ℕ) → grouped-lts.Need-returns (
 ) (grouped-at t) grouped.Post
 grouped-returns t c = grouped-nowhere _ _ _ _ _ (c .if1 .taken)
 
--- src/value.rt:76:9
 grouped-get-requires : (t : ℕ) → grouped-lts.Need-get-requires (
   get-reads.Asked,
   get-reads.Learnt,
@@ -491,7 +453,6 @@ grouped-get-requires : (t : ℕ) → grouped-lts.Need-get-requires (
 ) (grouped-at t) grouped.Post
 grouped-get-requires t c κs = search needs
 
--- src/value.rt:77:20
 grouped-enum-known-got : (t : ℕ) → grouped-lts.Need-enum-known-got (
   get-reads.Asked,
   get-reads.Learnt,
@@ -504,7 +465,6 @@ grouped-enum-known-got : (t : ℕ) → grouped-lts.Need-enum-known-got (
 ) (grouped-at t) grouped.Post
 grouped-enum-known-got t c = search needs
 
--- src/value.rt:78:9
 grouped-enum-told : (t : ℕ) → grouped-lts.Need-enum-told (
   get-reads.Asked,
   get-reads.Learnt,
@@ -517,7 +477,6 @@ grouped-enum-told : (t : ℕ) → grouped-lts.Need-enum-told (
 ) (grouped-at t) grouped.Post
 grouped-enum-told t c = search needs
 
--- src/value.rt:78:9
 grouped-returns-2 : (t : ℕ) → grouped-lts.Need-returns-2 (
   get-reads.Asked,
   get-reads.Learnt,
@@ -530,7 +489,6 @@ grouped-returns-2 : (t : ℕ) → grouped-lts.Need-returns-2 (
 ) (grouped-at t) grouped.Post
 grouped-returns-2 t c = grouped-missing _ _ _ _ _ (c .before .before .get .result) (c .before .before .get .ensures) (c .enum-told .given .1)
 
--- src/value.rt:81:9
 grouped-begins-value-requires : (t : ℕ) → grouped-lts.Need-begins-value-requires (
   get-reads.Asked,
   get-reads.Learnt,
@@ -543,7 +501,6 @@ grouped-begins-value-requires : (t : ℕ) → grouped-lts.Need-begins-value-requ
 ) (grouped-at t) grouped.Post
 grouped-begins-value-requires t c κs = search needs
 
--- src/value.rt:82:9
 grouped-returns-3 : (t : ℕ) → grouped-lts.Need-returns-3 (
   get-reads.Asked,
   get-reads.Learnt,
@@ -556,7 +513,6 @@ grouped-returns-3 : (t : ℕ) → grouped-lts.Need-returns-3 (
 ) (grouped-at t) grouped.Post
 grouped-returns-3 t c = grouped-sign _ _ _ _ _ (c .before .before .before .before .before .get .result) (c .before .before .before .before .before .get .ensures) (c .before .before .before .got .given .1) (sym (c .before .begins-value .ensures) ∙ not-true _ (c .if2 .taken))
 
--- src/value.rt:85:38
 grouped-add-value : (t : ℕ) → grouped-lts.Need-add-value (
   get-reads.Asked,
   get-reads.Learnt,
@@ -569,7 +525,6 @@ grouped-add-value : (t : ℕ) → grouped-lts.Need-add-value (
 ) (grouped-at t) grouped.Post
 grouped-add-value t c = let f = c .before .before .before .before .before .before .before .before .pre .1 .0 in record { fits = omega (arith, c .before .before .before .before .before .before .before .before .pre .1 .1, f .some-byte, f .inside-text, f .short) }
 
--- src/value.rt:85:49
 grouped-slice-aggregate-value : (t : ℕ) → grouped-lts.Need-slice-aggregate-value (
   get-reads.Asked,
   get-reads.Learnt,
@@ -582,7 +537,6 @@ grouped-slice-aggregate-value : (t : ℕ) → grouped-lts.Need-slice-aggregate-v
 ) (grouped-at t) grouped.Post
 grouped-slice-aggregate-value t c = search needs
 
--- src/value.rt:85:9
 grouped-value-requires : (t : ℕ) → grouped-lts.Need-value-requires (
   get-reads.Asked,
   get-reads.Learnt,
@@ -595,7 +549,6 @@ grouped-value-requires : (t : ℕ) → grouped-lts.Need-value-requires (
 ) (grouped-at t) grouped.Post
 grouped-value-requires t c κs = let k = got-token _ _ (c .before .before .before .before .got .given .1) (c .before .before .before .before .before .before .get .ensures) in let y = token-bounds _ k in (byte-falls (c .before .before .before .before .before .before .before .before .before .args .text .now) 3 (c .before .before .before .before .before .before .before .before .before .pre .0) (omega (arith, y .0, y .1)) (y .2) (omega arith), inner-fit (c .before .before .before .before .before .before .before .before .before .pre .1 .0) (c .before .before .before .before .before .before .before .before .before .pre .1 .1) k)
 
--- src/value.rt:87:9
 grouped-enum-known-read : (t : ℕ) → grouped-lts.Need-enum-known-read (
   get-reads.Asked,
   get-reads.Learnt,
@@ -608,7 +561,6 @@ grouped-enum-known-read : (t : ℕ) → grouped-lts.Need-enum-known-read (
 ) (grouped-at t) grouped.Post
 grouped-enum-known-read t c = search needs
 
--- src/value.rt:92:9
 grouped-enum-told-2 : (t : ℕ) → grouped-lts.Need-enum-told-2 (
   get-reads.Asked,
   get-reads.Learnt,
@@ -621,7 +573,6 @@ grouped-enum-told-2 : (t : ℕ) → grouped-lts.Need-enum-told-2 (
 ) (grouped-at t) grouped.Post
 grouped-enum-told-2 t c = search needs
 
--- src/value.rt:92:9
 grouped-returns-4 : (t : ℕ) → grouped-lts.Need-returns-4 (
   get-reads.Asked,
   get-reads.Learnt,
@@ -634,7 +585,6 @@ grouped-returns-4 : (t : ℕ) → grouped-lts.Need-returns-4 (
 ) (grouped-at t) grouped.Post
 grouped-returns-4 t c = grouped-refused _ _ _ _ _ (c .before .before .before .before .before .before .before .before .before .before .get .result) (c .before .before .before .before .before .before .before .before .before .before .get .ensures) (c .before .before .before .before .before .before .before .before .got .given .1) (sym (c .before .before .before .before .before .before .begins-value .ensures) ∙ not-false _ (c .before .before .before .before .before .if2 .left)) (c .before .before .before .value .result) (c .before .before .before .value .ensures) (c .enum-told2 .given .1)
 
--- src/value.rt:94:5
 grouped-closes-round-requires : (t : ℕ) → grouped-lts.Need-closes-round-requires (
   get-reads.Asked,
   get-reads.Learnt,
@@ -647,7 +597,6 @@ grouped-closes-round-requires : (t : ℕ) → grouped-lts.Need-closes-round-requ
 ) (grouped-at t) grouped.Post
 grouped-closes-round-requires t c κs = search needs
 
--- src/value.rt:69:1
 grouped-returns-5 : (t : ℕ) → grouped-lts.Need-returns-5 (
   get-reads.Asked,
   get-reads.Learnt,
@@ -660,7 +609,6 @@ grouped-returns-5 : (t : ℕ) → grouped-lts.Need-returns-5 (
 ) (grouped-at t) grouped.Post
 grouped-returns-5 t c = grouped-said _ _ _ _ _ (c .before .before .before .before .before .before .before .before .before .before .before .before .get .result) (c .before .before .before .before .before .before .before .before .before .before .before .before .get .ensures) (c .before .before .before .before .before .before .before .before .before .before .got .given .1) (sym (c .before .before .before .before .before .before .before .before .begins-value .ensures) ∙ not-false _ (c .before .before .before .before .before .before .before .if2 .left)) (c .before .before .before .before .before .value .result) (c .before .before .before .before .before .value .ensures) (c .before .before .read .given .1) (c .closes-round .ensures)
 
--- src/value.rt:156:9
 member-get-requires : (t : ℕ) → member-lts.Need-get-requires (
   get-reads.Asked,
   get-reads.Learnt,
@@ -675,7 +623,6 @@ member-get-requires : (t : ℕ) → member-lts.Need-get-requires (
 ) (member-at t) member.Post
 member-get-requires t c κs = search needs
 
--- src/value.rt:157:20
 member-enum-known-got : (t : ℕ) → member-lts.Need-enum-known-got (
   get-reads.Asked,
   get-reads.Learnt,
@@ -690,7 +637,6 @@ member-enum-known-got : (t : ℕ) → member-lts.Need-enum-known-got (
 ) (member-at t) member.Post
 member-enum-known-got t c = search needs
 
--- src/value.rt:158:28
 member-enum-told : (t : ℕ) → member-lts.Need-enum-told (
   get-reads.Asked,
   get-reads.Learnt,
@@ -705,7 +651,6 @@ member-enum-told : (t : ℕ) → member-lts.Need-enum-told (
 ) (member-at t) member.Post
 member-enum-told t c = search needs
 
--- src/value.rt:158:28
 member-handed-requires : (t : ℕ) → member-lts.Need-handed-requires (
   get-reads.Asked,
   get-reads.Learnt,
@@ -720,7 +665,6 @@ member-handed-requires : (t : ℕ) → member-lts.Need-handed-requires (
 ) (member-at t) member.Post
 member-handed-requires t c κs = search needs
 
--- src/value.rt:158:9
 member-returns : (t : ℕ) → member-lts.Need-returns (
   get-reads.Asked,
   get-reads.Learnt,
@@ -735,7 +679,6 @@ member-returns : (t : ℕ) → member-lts.Need-returns (
 ) (member-at t) member.Post
 member-returns t c = member-missing _ _ (c .before .before .before .before .before .before .pre .1) (c .before .before .before .get .result) (c .before .before .before .get .ensures) (c .handed .result) (c .before .enum-told .given .1) (c .handed .ensures)
 
--- src/value.rt:162:9
 member-step-requires : (t : ℕ) → member-lts.Need-step-requires (
   get-reads.Asked,
   get-reads.Learnt,
@@ -750,7 +693,6 @@ member-step-requires : (t : ℕ) → member-lts.Need-step-requires (
 ) (member-at t) member.Post
 member-step-requires t c κs = search needs
 
--- src/value.rt:163:21
 member-enum-known-taken : (t : ℕ) → member-lts.Need-enum-known-taken (
   get-reads.Asked,
   get-reads.Learnt,
@@ -765,7 +707,6 @@ member-enum-known-taken : (t : ℕ) → member-lts.Need-enum-known-taken (
 ) (member-at t) member.Post
 member-enum-known-taken t c = search needs
 
--- src/value.rt:164:9
 member-take-requires : (t : ℕ) → member-lts.Need-take-requires (
   get-reads.Asked,
   get-reads.Learnt,
@@ -780,7 +721,6 @@ member-take-requires : (t : ℕ) → member-lts.Need-take-requires (
 ) (member-at t) member.Post
 member-take-requires t c κs = (turn-narrow (c .before .before .before .before .before .before .before .before .before .pre .1) (got-token _ _ (c .before .before .before .before .got .given .1) (c .before .before .before .before .before .before .get .ensures)), turn-outer (c .before .before .before .before .before .before .before .before .before .pre .1))
 
--- src/value.rt:164:9
 member-same-length : (t : ℕ) → member-lts.Need-same-length (
   get-reads.Asked,
   get-reads.Learnt,
@@ -795,7 +735,6 @@ member-same-length : (t : ℕ) → member-lts.Need-same-length (
 ) (member-at t) member.Post
 member-same-length t c = search needs
 
--- src/value.rt:164:9
 member-returns-2 : (t : ℕ) → member-lts.Need-returns-2 (
   get-reads.Asked,
   get-reads.Learnt,
@@ -810,7 +749,6 @@ member-returns-2 : (t : ℕ) → member-lts.Need-returns-2 (
 ) (member-at t) member.Post
 member-returns-2 t c = member-taken _ _ (c .before .before .before .before .before .before .before .before .before .before .before .before .pre .1) (c .before .before .before .before .before .before .before .before .before .get .result) (c .before .before .before .before .before .before .before .before .before .get .ensures) (c .before .before .before .before .before .before .before .got .given .1) (c .before .before .before .before .before .step .ensures) (c .before .before .take .result) (c .before .before .take .ensures .0) (c .before .before .take .ensures .1) (signs-told (c .before .before .before .before .before .step .result) (c .before .before .before .before .match2 .keys2))
 
--- src/value.rt:166:5
 member-child-requires : (t : ℕ) → member-lts.Need-child-requires (
   get-reads.Asked,
   get-reads.Learnt,
@@ -825,7 +763,6 @@ member-child-requires : (t : ℕ) → member-lts.Need-child-requires (
 ) (member-at t) member.Post
 member-child-requires t c κs = let i = c .before .before .before .before .before .before .before .before .before .before .before .pre .1 in let k = got-token _ _ (c .before .before .before .before .before .before .got .given .1) (c .before .before .before .before .before .before .before .before .get .ensures) in let y = token-bounds _ k in (byte-falls (c .before .before .before .before .before .before .before .before .before .before .before .args .text .now) 2 (c .before .before .before .before .before .before .before .before .before .before .before .pre .0) (omega (arith, y .0, y .1)) (y .2) (omega arith), (turn-narrow i k, i .deep-fits, y .2, i .fit .short))
 
--- src/value.rt:152:1
 member-same-length-2 : (t : ℕ) → member-lts.Need-same-length-2 (
   get-reads.Asked,
   get-reads.Learnt,
@@ -840,7 +777,6 @@ member-same-length-2 : (t : ℕ) → member-lts.Need-same-length-2 (
 ) (member-at t) member.Post
 member-same-length-2 t c = search needs
 
--- src/value.rt:152:1
 member-returns-3 : (t : ℕ) → member-lts.Need-returns-3 (
   get-reads.Asked,
   get-reads.Learnt,
@@ -855,7 +791,6 @@ member-returns-3 : (t : ℕ) → member-lts.Need-returns-3 (
 ) (member-at t) member.Post
 member-returns-3 t c = member-child _ _ (c .before .before .before .before .before .before .before .before .before .before .before .before .before .before .pre .1) (c .before .before .before .before .before .before .before .before .before .before .before .get .result) (c .before .before .before .before .before .before .before .before .before .before .before .get .ensures) (c .before .before .before .before .before .before .before .before .before .got .given .1) (c .before .before .before .before .before .before .before .step .ensures) (c .before .before .child .result) (c .before .before .before .before .before .taken .given .1) (c .before .before .child .ensures)
 
--- src/value.rt:52:8
 round-grouped-requires : (t : ℕ) → round-lts.Need-grouped-requires (
   grouped-below t,
   grouped.Post,
@@ -866,7 +801,6 @@ round-grouped-requires : (t : ℕ) → round-lts.Need-grouped-requires (
 ) (round-at t) round.Post
 round-grouped-requires t c κs = (rank-falls (c .before .before .args .text .now) (c .before .before .pre .0) (omega arith) (omega arith), (fit-self (c .before .before .pre .1 .0), c .before .before .pre .1 .1))
 
--- src/value.rt:53:9
 round-group-requires : (t : ℕ) → round-lts.Need-group-requires (
   grouped-below t,
   grouped.Post,
@@ -877,7 +811,6 @@ round-group-requires : (t : ℕ) → round-lts.Need-group-requires (
 ) (round-at t) round.Post
 round-group-requires t c κs = (rank-falls (c .before .before .before .before .before .args .text .now) (c .before .before .before .before .before .pre .0) (omega arith) (omega arith), c .before .before .before .before .before .pre .1)
 
--- src/value.rt:53:9
 round-same-length : (t : ℕ) → round-lts.Need-same-length (
   grouped-below t,
   grouped.Post,
@@ -888,7 +821,6 @@ round-same-length : (t : ℕ) → round-lts.Need-same-length (
 ) (round-at t) round.Post
 round-same-length t c = search needs
 
--- src/value.rt:53:9
 round-returns : (t : ℕ) → round-lts.Need-returns (
   grouped-below t,
   grouped.Post,
@@ -899,7 +831,6 @@ round-returns : (t : ℕ) → round-lts.Need-returns (
 ) (round-at t) round.Post
 round-returns t c = round-group _ _ _ _ _ _ _ _ (c .before .before .before .before .before .before .before .before .pre .1 .0) (c .before .before .group .result) (c .before .before .before .before .before .grouped .ensures) (c .before .before .before .before .if1 .taken) (c .before .before .group .ensures)
 
--- src/value.rt:55:5
 round-bracket-requires : (t : ℕ) → round-lts.Need-bracket-requires (
   grouped-below t,
   grouped.Post,
@@ -910,7 +841,6 @@ round-bracket-requires : (t : ℕ) → round-lts.Need-bracket-requires (
 ) (round-at t) round.Post
 round-bracket-requires t c κs = (rank-falls (c .before .before .before .before .before .args .text .now) (c .before .before .before .before .before .pre .0) (omega arith) (omega arith), start-inner (c .before .before .before .before .before .pre .1 .0) (c .before .before .before .before .before .pre .1 .1) (omega arith, c .before .before .before .before .before .pre .1 .0 .inside-text))
 
--- src/value.rt:48:1
 round-same-length-2 : (t : ℕ) → round-lts.Need-same-length-2 (
   grouped-below t,
   grouped.Post,
@@ -921,7 +851,6 @@ round-same-length-2 : (t : ℕ) → round-lts.Need-same-length-2 (
 ) (round-at t) round.Post
 round-same-length-2 t c = search needs
 
--- src/value.rt:48:1
 round-returns-2 : (t : ℕ) → round-lts.Need-returns-2 (
   grouped-below t,
   grouped.Post,
@@ -932,7 +861,6 @@ round-returns-2 : (t : ℕ) → round-lts.Need-returns-2 (
 ) (round-at t) round.Post
 round-returns-2 t c = round-bracket _ _ _ _ _ _ _ _ (c .before .before .before .before .before .before .before .before .pre .1 .0) (c .before .before .bracket .result) (c .before .before .before .before .before .grouped .ensures) (c .before .before .before .before .if1 .left) refl (c .before .before .bracket .ensures)
 
--- src/value.rt:35:9
 value-begins-requires : (t : ℕ) → value-lts.Need-begins-requires (
   begins-reads.Asked,
   begins-reads.Learnt,
@@ -947,7 +875,6 @@ value-begins-requires : (t : ℕ) → value-lts.Need-begins-requires (
 ) (value-at t) value.Post
 value-begins-requires t c κs = search needs
 
--- src/value.rt:37:35
 value-enum-told : (t : ℕ) → value-lts.Need-enum-told (
   begins-reads.Asked,
   begins-reads.Learnt,
@@ -962,7 +889,6 @@ value-enum-told : (t : ℕ) → value-lts.Need-enum-told (
 ) (value-at t) value.Post
 value-enum-told t c = search needs
 
--- src/value.rt:37:27
 value-leaf-requires : (t : ℕ) → value-lts.Need-leaf-requires (
   begins-reads.Asked,
   begins-reads.Learnt,
@@ -977,7 +903,6 @@ value-leaf-requires : (t : ℕ) → value-lts.Need-leaf-requires (
 ) (value-at t) value.Post
 value-leaf-requires t c κs = fit-slim (c .before .before .before .before .before .before .pre .1 .0)
 
--- src/value.rt:38:40
 value-enum-told-2 : (t : ℕ) → value-lts.Need-enum-told-2 (
   begins-reads.Asked,
   begins-reads.Learnt,
@@ -992,7 +917,6 @@ value-enum-told-2 : (t : ℕ) → value-lts.Need-enum-told-2 (
 ) (value-at t) value.Post
 value-enum-told-2 t c = search needs
 
--- src/value.rt:38:25
 value-names-requires : (t : ℕ) → value-lts.Need-names-requires (
   begins-reads.Asked,
   begins-reads.Learnt,
@@ -1007,7 +931,6 @@ value-names-requires : (t : ℕ) → value-lts.Need-names-requires (
 ) (value-at t) value.Post
 value-names-requires t c κs = c .before .before .before .before .before .before .pre .1 .0
 
--- src/value.rt:39:54
 value-enum-told-3 : (t : ℕ) → value-lts.Need-enum-told-3 (
   begins-reads.Asked,
   begins-reads.Learnt,
@@ -1022,7 +945,6 @@ value-enum-told-3 : (t : ℕ) → value-lts.Need-enum-told-3 (
 ) (value-at t) value.Post
 value-enum-told-3 t c = search needs
 
--- src/value.rt:39:25
 value-round-requires : (t : ℕ) → value-lts.Need-round-requires (
   begins-reads.Asked,
   begins-reads.Learnt,
@@ -1037,7 +959,6 @@ value-round-requires : (t : ℕ) → value-lts.Need-round-requires (
 ) (value-at t) value.Post
 value-round-requires t c κs = (rank-falls (c .before .before .before .before .before .before .args .text .now) (c .before .before .before .before .before .before .pre .0) (omega arith) (omega arith), c .before .before .before .before .before .before .pre .1)
 
--- src/value.rt:40:26
 value-enum-known-begun : (t : ℕ) → value-lts.Need-enum-known-begun (
   begins-reads.Asked,
   begins-reads.Learnt,
@@ -1052,7 +973,6 @@ value-enum-known-begun : (t : ℕ) → value-lts.Need-enum-known-begun (
 ) (value-at t) value.Post
 value-enum-known-begun t c = search needs
 
--- src/value.rt:41:13
 value-bracket-requires : (t : ℕ) → value-lts.Need-bracket-requires (
   begins-reads.Asked,
   begins-reads.Learnt,
@@ -1067,7 +987,6 @@ value-bracket-requires : (t : ℕ) → value-lts.Need-bracket-requires (
 ) (value-at t) value.Post
 value-bracket-requires t c κs = let g = begin-from (c .before .before .before .before .begins .result) (c .before .before .before .before .before .before .before .pre .1 .0) (c .before .before .before .before .begins .ensures) (c .before .before .begun .given .1) in (rank-falls (c .before .before .before .before .before .before .before .args .text .now) (c .before .before .before .before .before .before .before .pre .0) (g .0) (omega arith), start-inner (c .before .before .before .before .before .before .before .pre .1 .0) (c .before .before .before .before .before .before .before .pre .1 .1) g)
 
--- src/value.rt:43:26
 value-enum-known-begun-2 : (t : ℕ) → value-lts.Need-enum-known-begun-2 (
   begins-reads.Asked,
   begins-reads.Learnt,
@@ -1082,7 +1001,6 @@ value-enum-known-begun-2 : (t : ℕ) → value-lts.Need-enum-known-begun-2 (
 ) (value-at t) value.Post
 value-enum-known-begun-2 t c = search needs
 
--- src/value.rt:31:1
 value-same-length : (t : ℕ) → value-lts.Need-same-length (
   begins-reads.Asked,
   begins-reads.Learnt,
@@ -1097,7 +1015,6 @@ value-same-length : (t : ℕ) → value-lts.Need-same-length (
 ) (value-at t) value.Post
 value-same-length t c = search needs
 
--- src/value.rt:31:1
 value-returns : (t : ℕ) → value-lts.Need-returns (
   begins-reads.Asked,
   begins-reads.Learnt,
@@ -1112,7 +1029,6 @@ value-returns : (t : ℕ) → value-lts.Need-returns (
 ) (value-at t) value.Post
 value-returns t c = value-leaf _ _ _ _ _ _ _ _ (c .before .before .before .before .before .before .before .before .before .pre .1 .0) (c .before .before .before .before .before .before .begins .result) (c .before .before .before .before .before .before .begins .ensures) (c .before .before .leaf .result) (c .before .before .before .before .enum-told .given .1) (c .before .before .leaf .ensures)
 
--- src/value.rt:31:1
 value-same-length-2 : (t : ℕ) → value-lts.Need-same-length-2 (
   begins-reads.Asked,
   begins-reads.Learnt,
@@ -1127,7 +1043,6 @@ value-same-length-2 : (t : ℕ) → value-lts.Need-same-length-2 (
 ) (value-at t) value.Post
 value-same-length-2 t c = search needs
 
--- src/value.rt:31:1
 value-returns-2 : (t : ℕ) → value-lts.Need-returns-2 (
   begins-reads.Asked,
   begins-reads.Learnt,
@@ -1142,7 +1057,6 @@ value-returns-2 : (t : ℕ) → value-lts.Need-returns-2 (
 ) (value-at t) value.Post
 value-returns-2 t c = value-names _ _ _ _ _ _ _ _ (c .before .before .before .before .before .before .before .before .before .pre .1 .0) (c .before .before .before .before .before .before .begins .result) (c .before .before .before .before .before .before .begins .ensures) (c .before .before .names .result) (c .before .before .before .before .enum-told2 .given .1) (c .before .before .names .ensures)
 
--- src/value.rt:31:1
 value-same-length-3 : (t : ℕ) → value-lts.Need-same-length-3 (
   begins-reads.Asked,
   begins-reads.Learnt,
@@ -1157,7 +1071,6 @@ value-same-length-3 : (t : ℕ) → value-lts.Need-same-length-3 (
 ) (value-at t) value.Post
 value-same-length-3 t c = search needs
 
--- src/value.rt:31:1
 value-returns-3 : (t : ℕ) → value-lts.Need-returns-3 (
   begins-reads.Asked,
   begins-reads.Learnt,
@@ -1172,7 +1085,6 @@ value-returns-3 : (t : ℕ) → value-lts.Need-returns-3 (
 ) (value-at t) value.Post
 value-returns-3 t c = value-round _ _ _ _ _ _ _ _ (c .before .before .before .before .before .before .before .before .before .pre .1 .0) (c .before .before .before .before .before .before .begins .result) (c .before .before .before .before .before .before .begins .ensures) (c .before .before .round .result) (c .before .before .before .before .enum-told3 .given .1) (c .before .before .round .ensures)
 
--- src/value.rt:31:1
 value-same-length-4 : (t : ℕ) → value-lts.Need-same-length-4 (
   begins-reads.Asked,
   begins-reads.Learnt,
@@ -1187,7 +1099,6 @@ value-same-length-4 : (t : ℕ) → value-lts.Need-same-length-4 (
 ) (value-at t) value.Post
 value-same-length-4 t c = search needs
 
--- src/value.rt:31:1
 value-returns-4 : (t : ℕ) → value-lts.Need-returns-4 (
   begins-reads.Asked,
   begins-reads.Learnt,
@@ -1202,7 +1113,6 @@ value-returns-4 : (t : ℕ) → value-lts.Need-returns-4 (
 ) (value-at t) value.Post
 value-returns-4 t c = value-bracket _ _ _ _ _ _ _ _ (c .before .before .before .before .before .before .before .before .before .before .pre .1 .0) (c .before .before .before .before .before .before .before .begins .result) (c .before .before .before .before .before .before .before .begins .ensures) (c .before .before .bracket .result) (c .before .before .before .before .before .begun .given .1) (c .before .before .bracket .ensures)
 
--- src/value.rt:31:1
 value-returns-5 : (t : ℕ) → value-lts.Need-returns-5 (
   begins-reads.Asked,
   begins-reads.Learnt,
