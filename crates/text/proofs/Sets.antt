@@ -12,6 +12,7 @@ use Rattle.rules.proofs.Bools.{and-left, and-right}
 use Rattle.lexicon.specs.Bytes.{classOf, members, weight, sets, bit}
 use Rattle.lexicon.specs.declared.Set.{Set}
 use Rattle.lexicon.specs.declared.Set.the-variants.{Binary, Octal, Decimal, Hexadecimal, Base64, WordStart, WordRest, Dividing}
+use Rattle.text.specs.Classes.{IsTable, inSum}
 use Rattle.text.proofs.Table.{listed, entry}
 
 -- the set's bit of a class
@@ -65,6 +66,15 @@ one-bit true = refl
 one-bit false = refl
 
 -- so the bit of a byte's class says whether the byte is in the set
-pub in-bit : (s : Set) {t : Set} {b x : ℕ} → t ≡ s → x ≡ classOf b → b < 256 → eqb (x / weight s % 2) 1 ≡ has (members t) b
-in-bit s {t} {b} {x} e c h =
-    ap (λ (y : ℕ). eqb (bitOf s y) 1) c ∙ (ap (λ (y : ℕ). eqb y 1) (bits s b h) ∙ (one-bit (has (members s) b) ∙ ap (λ (u : Set). has (members u) b) (sym e)))
+pub in-class : (s : Set) (b : ℕ) → b < 256 → inSum s (classOf b) ≡ has (members s) b
+unfolding inSum
+in-class s b h = ap (λ (y : ℕ). eqb y 1) (bits s b h) ∙ one-bit (has (members s) b)
+
+-- and so does the bit of its entry in the table
+pub in-table : (s : Set) {table : List ℕ} {b : ℕ} {o : Bool} → IsTable table → b < 256 → o ≡ inSum s (getD table b 0) → o ≡ has (members s) b
+in-table s {table} {b} t h e = e ∙ (ap (inSum s) (t .entry b h) ∙ in-class s b h)
+
+-- a bit at a set that is known
+pub bit-at : (s : Set) {t : Set} (x : ℕ) → t ≡ s → eqb (bitOf s x) 1 ≡ inSum t x
+unfolding inSum
+bit-at s x e = ap (λ (u : Set). inSum u x) (sym e)

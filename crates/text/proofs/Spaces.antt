@@ -1,32 +1,63 @@
 -- What a byte says of dividing space: it is blank, it is none, or it opens a comment, which ends at its closer or nowhere.
 -- Assumes nothing.
-use mathlib.Core.Path.{_≡_, refl, sym, _∙_}
-use mathlib.Core.Bool.{Bool, true, false}
-use mathlib.Core.List.{List}
+use mathlib.Core.Path.{_≡_, refl, sym, subst}
+use mathlib.Core.Logic.{inl, inr, ⊎-elim}
+use mathlib.Core.List.{List, [], _∷_}
 use Prim.Native.Nat.{ℕ, _+_, _≤_, _<_}
 use native.Mathlib.Omega.{arith}
+use borrow.Author.Tests.{leb-true, leb-false}
+use types.Run.{OneOf}
+use lib.Dec.{leb}
 use lib.ListN.{length, getD}
-use Rattle.rules.specs.Class.{has}
+use Rattle.rules.specs.Class.{_upto_, just, anyIn, has, In}
 use Rattle.rules.specs.Rule.{one, many, Takes, byte, both, left, right, Fails}
-use Rattle.rules.proofs.Bools.{clash}
-use Rattle.rules.proofs.Classes.{apart, apartSpan, apart-no, just-is}
+use Rattle.rules.proofs.Bools.{decide}
+use Rattle.rules.proofs.Classes.{apart, apartSpan, apart-no, just-is, in-cons}
 use Rattle.rules.proofs.Matches.{starting}
 use Rattle.rules.proofs.Ways.{never}
 use Rattle.rules.proofs.Closed.{never-closes}
 use Rattle.lexicon.specs.Bytes.{dividing}
 use Rattle.lexicon.specs.Space.{grave, notGrave, blank}
 use Rattle.lexicon.proofs.Spaces.{byte-single}
+use Rattle.text.proofs.Ranges.{in-first, in-later}
 use Rattle.text.proofs.Searches.{fails-end}
 
-module _ {text : List ℕ} where
-  pub blank-byte : {i : ℕ} {o : Bool} → i < length text → o ≡ has dividing (getD text i 0) → o ≡ true → Takes text blank i (i + 1)
-  blank-byte h e t = left (byte (h, sym e ∙ t) refl)
+-- the dividing bytes as `space` tells them: a tab or a newline, or one of the two others
+divides-low : (b : ℕ) → 0x09 ≤ b → b < 0x0B → In dividing b
+divides-low b l h =
+    ⊎-elim (λ e. in-first 0x09 0x09 (anyIn (0x0A ∷ 0x0D ∷ 0x20 ∷ [])) b l (leb-true b 0x09 e))
+    (λ e.
+    in-later 0x09 0x09 (anyIn (0x0A ∷ 0x0D ∷ 0x20 ∷ [])) b
+    (in-first 0x0A 0x0A (anyIn (0x0D ∷ 0x20 ∷ [])) b (leb-false b 0x09 e) (omega arith)))
+    (decide (leb b 0x09))
 
-  pub no-blank : {i : ℕ} {o : Bool} → (getD text i 0 ≡ 0x60 → ⊥) → o ≡ has dividing (getD text i 0) → o ≡ false → Fails text blank i
-  no-blank {i} {o} n e f = record { none = go }
+divides-key : (b : ℕ) → OneOf (0x0D ∷ 0x20 ∷ []) b → In dividing b
+unfolding has
+divides-key b (inl e) = subst (In dividing) (sym e) refl
+divides-key b (inr e) = subst (In dividing) (sym e) refl
+
+-- and no other byte divides
+no-other : (b : ℕ) → (0x09 ≤ b → b < 0x0B → ⊥) → (OneOf (0x0D ∷ 0x20 ∷ []) b → ⊥) → In dividing b → ⊥
+no-other b low key d =
+    ⊎-elim (λ x. let e = just-is 0x09 b x in low (omega arith) (omega arith))
+    (λ c.
+    ⊎-elim (λ x. let e = just-is 0x0A b x in low (omega arith) (omega arith))
+    (λ f. key (⊎-elim (λ x. inl (just-is 0x0D b x)) (λ x. inr (just-is 0x20 b x)) (in-cons (0x0D upto 0x0D) (just 0x20) b f)))
+    (in-cons (0x0A upto 0x0A) (anyIn (0x0D ∷ 0x20 ∷ [])) b c))
+    (in-cons (0x09 upto 0x09) (anyIn (0x0A ∷ 0x0D ∷ 0x20 ∷ [])) b d)
+
+module _ {text : List ℕ} where
+  pub blank-low : (i : ℕ) → i < length text → 0x09 ≤ getD text i 0 → getD text i 0 < 0x0B → Takes text blank i (i + 1)
+  blank-low i h l m = left (byte (h, divides-low (getD text i 0) l m) refl)
+
+  pub blank-key : (i : ℕ) → i < length text → OneOf (0x0D ∷ 0x20 ∷ []) (getD text i 0) → Takes text blank i (i + 1)
+  blank-key i h k = left (byte (h, divides-key (getD text i 0) k) refl)
+
+  pub no-blank : (i : ℕ) → (0x09 ≤ getD text i 0 → getD text i 0 < 0x0B → ⊥) → (OneOf (0x0D ∷ 0x20 ∷ []) (getD text i 0) → ⊥) → (getD text i 0 ≡ 0x60 → ⊥) → Fails text blank i
+  no-blank i low key n = record { none = go }
     where
       go : {k : ℕ} → Takes text blank i k → ⊥
-      go (left (byte a x)) = clash (a .1) (sym e ∙ f)
+      go (left (byte a x)) = no-other (getD text i 0) low key (a .1)
       go (right (both (byte a x) u)) = n (just-is 0x60 (getD text i 0) (a .1))
 
   pub no-blank-end : {i : ℕ} → length text ≤ i → Fails text blank i

@@ -4,6 +4,7 @@ use lexicon::Set;
 ghost use mathlib.Core.Path.{_≡_};
 ghost use Rattle.rules.specs.Class.{has};
 ghost use Rattle.lexicon.specs.Bytes.{classOf, members};
+ghost use Rattle.text.specs.Classes.{IsTable, inSum};
 
 const CLASSES: [u8; 256] = [
     0,
@@ -264,26 +265,40 @@ const CLASSES: [u8; 256] = [
     0,
 ];
 
+// The table. Each use of the constant builds it anew, so a loop asks for it once.
+pub fn classes() -> [u8; 256]
+    ensures { λ r. ⌜ IsTable r ⌝ }
+{
+    CLASSES
+}
+
 pub fn class(b: u8) -> u8
     ensures { λ r. ⌜ r ≡ classOf b ⌝ }
 {
+    let classes = classes();
     let i = b as usize;
-    CLASSES[i]
+    classes[i]
+}
+
+// Whether what the set adds is in the class: the set's bit.
+pub fn holds(class: u8, set: Set) -> bool
+    ensures { λ r. ⌜ r ≡ inSum set class ⌝ }
+{
+    match set {
+        Set::Binary => class / 1 % 2 == 1,
+        Set::Octal => class / 2 % 2 == 1,
+        Set::Decimal => class / 4 % 2 == 1,
+        Set::Hexadecimal => class / 8 % 2 == 1,
+        Set::Base64 => class / 16 % 2 == 1,
+        Set::WordStart => class / 32 % 2 == 1,
+        Set::WordRest => class / 64 % 2 == 1,
+        Set::Dividing => class / 128 % 2 == 1,
+    }
 }
 
 // Whether the byte is in the set: the set's bit of the byte's class.
 pub fn in_set(b: u8, set: Set) -> bool
     ensures { λ r. ⌜ r ≡ has (members set) b ⌝ }
 {
-    let sum = class(b);
-    match set {
-        Set::Binary => sum / 1 % 2 == 1,
-        Set::Octal => sum / 2 % 2 == 1,
-        Set::Decimal => sum / 4 % 2 == 1,
-        Set::Hexadecimal => sum / 8 % 2 == 1,
-        Set::Base64 => sum / 16 % 2 == 1,
-        Set::WordStart => sum / 32 % 2 == 1,
-        Set::WordRest => sum / 64 % 2 == 1,
-        Set::Dividing => sum / 128 % 2 == 1,
-    }
+    holds(class(b), set)
 }

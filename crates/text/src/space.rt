@@ -1,6 +1,4 @@
 // Dividing space: any run of the four dividing bytes and whole comments.
-use crate::class::in_set;
-use lexicon::Set;
 ghost use Rattle.lexicon.specs.Space.{Skips};
 
 const GRAVE: u8 = b'`';
@@ -11,12 +9,16 @@ pub fn space(text: &[u8], at: usize) -> usize
 {
     let mut end = at;
     'space: while end < text.len() {
-        if text[end] != GRAVE {
-            if !in_set(text[end], Set::Dividing) {
+        match text[end] {
+            0x09 | 0x0A | 0x0D | 0x20 => {
+                end += 1;
+                continue 'space;
+            }
+            // A comment, if another closes it.
+            GRAVE => {}
+            _ => {
                 break 'space;
             }
-            end += 1;
-            continue 'space;
         }
         let mut i = end + 1;
         loop {

@@ -64,6 +64,11 @@ pub fn utf8(text: &[u8]) -> Encoding
 {
     let mut at = 0;
     while at < text.len() {
+        // Most bytes of most texts are sequences by themselves: no call for one.
+        if text[at] < 0x80 {
+            at += 1;
+            continue;
+        }
         let Found::At(end) = sequence(text, at) else {
             return Encoding::BadAt(at);
         };

@@ -4,7 +4,8 @@ use lexicon::Form;
 use lexicon::Found;
 use lexicon::Head;
 use lexicon::Set;
-use text::class::in_set;
+use text::class::classes;
+use text::class::holds;
 ghost use Rattle.lexicon.specs.Found.{Finds};
 ghost use Rattle.lexicon.specs.Literals as Literals;
 ghost use Rattle.word.specs.Heads.{Tells, TellsOf, tuples, intervals, collections};
@@ -13,15 +14,16 @@ ghost use Rattle.word.specs.Heads.{Tells, TellsOf, tuples, intervals, co
 pub fn word(text: &[u8], at: usize) -> Found
     ensures { λ r. ⌜ Finds (now (text .entry)) Literals.word at r ⌝ }
 {
+    let classes = classes();
     if at >= text.len() {
         return Found::Nothing;
     }
-    if !in_set(text[at], Set::WordStart) {
+    if !holds(classes[text[at] as usize], Set::WordStart) {
         return Found::Nothing;
     }
     let mut i = at + 1;
     while i < text.len() {
-        if !in_set(text[i], Set::WordRest) {
+        if !holds(classes[text[i] as usize], Set::WordRest) {
             return Found::At(i);
         }
         i += 1;

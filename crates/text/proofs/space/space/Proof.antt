@@ -1,18 +1,17 @@
 -- `text::space::space` meets its contract. Outer invariant: what stands up to `end` is a run of space. Inner: `end` is unchanged, and no
 -- grave accent stands between it and `i`. What is left of the text is the measure of both. Assumes nothing.
 use mathlib.Core.Path.{_≡_, refl}
+use mathlib.Core.Logic.{⊎-elim}
 use Prim.Native.Nat.{_+_, _≤_, _-_}
 use lib.ListN.{length}
 use native.Mathlib.Omega.{arith}
-use borrow.Author.Needs.{needs}
-use borrow.Author.Tests.{not-true, not-false}
 use Rattle.rules.specs.Rule.{one, many, Takes, stop}
 use Rattle.rules.proofs.Matches.{forward}
 use Rattle.rules.proofs.Chains.{snoc}
 use Rattle.lexicon.specs.Space.{grave, notGrave, blank}
 use Rattle.lexicon.proofs.Spaces.{skips}
 use Rattle.text.proofs.Ranges.{byte-is, byte-but}
-use Rattle.text.proofs.Spaces.{blank-byte, no-blank, no-blank-end, comment-blank, lone-grave}
+use Rattle.text.proofs.Spaces.{blank-low, blank-key, no-blank, no-blank-end, comment-blank, lone-grave}
 use Rattle.text.proofs.space.space.Statement.{statement}
 use Rattle.text.proofs.space.space.Tie as tie
 
@@ -30,21 +29,15 @@ abbrev μ-space : tie.MeasureT-space
 
 -- where a comment begins
 opener :
-    (c : tie.Else1 Inv-loop μ-loop Inv-space μ-space) →
-    Takes (c .before .before .before .before .before .args .text .now) (one grave) (c .before .before .before .space .end) (c .before .before .before .space .end + 1)
-opener c = byte-is 0x60 (c .before .before .before .space .end) (c .before .before .space-test .taken) (c .if1 .left)
+    (c : tie.At-match-keys2 Inv-loop μ-loop Inv-space μ-space) →
+    Takes (c .before .before .before .before .args .text .now) (one grave) (c .before .before .before .space .end) (c .before .before .before .space .end + 1)
+opener c = byte-is 0x60 (c .before .before .before .space .end) (c .before .before .space-test .taken) (c .match .keys2)
 
 space-holds : tie.Need-space-holds Inv-loop μ-loop Inv-space μ-space
 space-holds c = stop refl
 
-shared-slice-read-if1 : tie.Need-shared-slice-read-if1 Inv-loop μ-loop Inv-space μ-space
-shared-slice-read-if1 c = omega arith
-
-shared-slice-read-in-set : tie.Need-shared-slice-read-in-set Inv-loop μ-loop Inv-space μ-space
-shared-slice-read-in-set c = omega arith
-
-in-set-requires : tie.Need-in-set-requires Inv-loop μ-loop Inv-space μ-space
-in-set-requires c κs = search needs
+shared-slice-read-match : tie.Need-shared-slice-read-match Inv-loop μ-loop Inv-space μ-space
+shared-slice-read-match c = omega arith
 
 add-end : tie.Need-add-end Inv-loop μ-loop Inv-space μ-space
 add-end c = omega arith
@@ -54,7 +47,9 @@ space-less c = omega arith
 
 space-again : tie.Need-space-again Inv-loop μ-loop Inv-space μ-space
 space-again c =
-    snoc (c .before .before .before .before .before .before .space .inv) (blank-byte (c .before .before .before .before .before .space-test .taken) (c .before .in-set .ensures) (not-false (c .before .in-set .result) (c .if2 .left)))
+    let i = c .before .before .before .space .end in
+    let here = c .before .before .space-test .taken in
+    snoc (c .before .before .before .space .inv) (⊎-elim (λ k. blank-key i here (k .keys1)) (λ k. blank-low i here (k .1 .left) (k .2 .taken)) (c .match .came))
 
 add-i : tie.Need-add-i Inv-loop μ-loop Inv-space μ-space
 add-i c = omega arith
@@ -85,7 +80,7 @@ loop-less c = omega arith
 
 loop-again : tie.Need-loop-again Inv-loop μ-loop Inv-space μ-space
 loop-again c =
-    (c .before .before .before .loop .inv .0, omega arith, snoc (c .before .before .before .loop .inv .2) (byte-but 0x5F (c .before .before .before .loop .i) (omega arith) (c .if3 .left) (c .before .shared-slice-known4 .given (c .before .before .before .loop .i) .fits)))
+    (c .before .before .before .loop .inv .0, omega arith, snoc (c .before .before .before .loop .inv .2) (byte-but 0x5F (c .before .before .before .loop .i) (omega arith) (c .if3 .left) (c .before .shared-slice-known2 .given (c .before .before .before .loop .i) .fits)))
 
 returns : tie.Need-returns Inv-loop μ-loop Inv-space μ-space
 returns c =
@@ -93,10 +88,14 @@ returns c =
 
 returns-2 : tie.Need-returns-2 Inv-loop μ-loop Inv-space μ-space
 returns-2 c =
-    skips (c .before .before .before .before .before .before .space .inv) (no-blank (c .before .before .before .if1 .taken) (c .before .in-set .ensures) (not-true (c .before .in-set .result) (c .if2 .taken)))
+    skips (c .before .before .before .before .space .inv) (no-blank (c .before .before .before .before .space .end) (λ l h. omega arith) (c .before .match .rest .0 .1) (c .before .match .rest .1))
 
 returns-3 : tie.Need-returns-3 Inv-loop μ-loop Inv-space μ-space
 returns-3 c =
+    skips (c .before .before .before .before .before .space .inv) (no-blank (c .before .before .before .before .before .space .end) (λ l h. omega arith) (c .before .before .match .rest .0 .1) (c .before .before .match .rest .1))
+
+returns-4 : tie.Need-returns-4 Inv-loop μ-loop Inv-space μ-space
+returns-4 c =
     rw (c .before .loop .inv .0)
     (skips (c .before .before .before .before .before .space .inv) (lone-grave (opener (c .before .before)) (c .before .loop .inv .2) (omega arith)))
 
@@ -109,9 +108,7 @@ space-spec =
     Inv-space
     μ-space
     space-holds
-    shared-slice-read-if1
-    shared-slice-read-in-set
-    in-set-requires
+    shared-slice-read-match
     add-end
     space-less
     space-again
@@ -126,4 +123,5 @@ space-spec =
     loop-again
     returns
     returns-2
-    returns-3)
+    returns-3
+    returns-4)

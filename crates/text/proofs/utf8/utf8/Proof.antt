@@ -11,6 +11,7 @@ use Rattle.rules.proofs.Chains.{snoc}
 use Rattle.rules.proofs.Ways.{grows}
 use Rattle.lexicon.specs.Utf8.{sequence}
 use Rattle.lexicon.proofs.Answers.{found-at, found-none}
+use Rattle.text.proofs.Sequences.{ascii}
 use Rattle.text.proofs.utf8.utf8.Statement.{statement}
 use Rattle.text.proofs.utf8.utf8.Tie as tie
 
@@ -23,6 +24,21 @@ abbrev μ-loop : tie.MeasureT-loop
 loop-holds : tie.Need-loop-holds Inv-loop μ-loop
 loop-holds c =
     (omega arith, stop refl)
+
+shared-slice-read-if1 : tie.Need-shared-slice-read-if1 Inv-loop μ-loop
+shared-slice-read-if1 c = search needs
+
+add-at : tie.Need-add-at Inv-loop μ-loop
+add-at c = search needs
+
+loop-less : tie.Need-loop-less Inv-loop μ-loop
+loop-less c = omega arith
+
+loop-again : tie.Need-loop-again Inv-loop μ-loop
+loop-again c =
+    let here = c .before .before .loop-test .taken in
+    let start = c .before .before .before in
+    (omega arith, snoc (start .loop .inv .1) (ascii (start .before .before .args .text .now) (start .loop .at) here (c .if1 .taken) .takes))
 
 sequence-requires : tie.Need-sequence-requires Inv-loop μ-loop
 sequence-requires c κs = search needs
@@ -38,20 +54,20 @@ enum-told c =
 returns : tie.Need-returns Inv-loop μ-loop
 returns c =
     record {
-      reached = c .before .before .before .before .loop .inv .1;
-      within = c .before .before .before .loop-test .taken;
+      reached = c .before .before .before .before .before .before .loop .inv .1;
+      within = c .before .before .before .before .before .loop-test .taken;
       none = found-none (c .enum-told .given .1) (c .before .before .sequence .ensures);
     }
 
-loop-less : tie.Need-loop-less Inv-loop μ-loop
-loop-less c =
+loop-less-2 : tie.Need-loop-less-2 Inv-loop μ-loop
+loop-less-2 c =
     let t = found-at (c .before .end .given .1) (c .before .before .before .sequence .ensures) .takes in
-    omega (arith, grows sequence refl t, inside t (c .before .before .before .before .before .loop .inv .0))
+    omega (arith, grows sequence refl t, inside t (c .before .before .before .before .before .before .before .loop .inv .0))
 
-loop-again : tie.Need-loop-again Inv-loop μ-loop
-loop-again c =
+loop-again-2 : tie.Need-loop-again-2 Inv-loop μ-loop
+loop-again-2 c =
     let t = found-at (c .before .end .given .1) (c .before .before .before .sequence .ensures) .takes in
-    (inside t (c .before .before .before .before .before .loop .inv .0), snoc (c .before .before .before .before .before .loop .inv .1) t)
+    (inside t (c .before .before .before .before .before .before .before .loop .inv .0), snoc (c .before .before .before .before .before .before .before .loop .inv .1) t)
 
 returns-2 : tie.Need-returns-2 Inv-loop μ-loop
 returns-2 c =
@@ -64,10 +80,14 @@ utf8-spec =
     Inv-loop
     μ-loop
     loop-holds
+    shared-slice-read-if1
+    add-at
+    loop-less
+    loop-again
     sequence-requires
     enum-known-end
     enum-told
     returns
-    loop-less
-    loop-again
+    loop-less-2
+    loop-again-2
     returns-2)

@@ -1,0 +1,2 @@
+-- What the table of classes says.
+pub mod Classes
