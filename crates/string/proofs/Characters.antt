@@ -1,10 +1,10 @@
--- A character inside quotes is a well-formed sequence of bytes, narrowed. Assumes nothing.
+-- A character inside quotes, by its first byte: ASCII, C2, or that of another well-formed sequence. Assumes nothing.
 use mathlib.Core.Path.{_≡_, refl, subst}
 use mathlib.Core.Logic.{inl, inr, ⊎-elim}
 use mathlib.Core.Bool.{Bool, true, false}
 use mathlib.Core.List.{List, [], _∷_}
 use Prim.Native.Nat.{ℕ, _+_, _≤_, _<_}
-use native.Mathlib.Decide.{decLe, ℕ-discrete}
+use native.Mathlib.Decide.{decLe}
 use native.Mathlib.Omega.{arith}
 use lib.ListN.{length, getD}
 use types.Run.{OneOf}
@@ -17,8 +17,12 @@ use Rattle.rules.proofs.Ways.{nullable, never, never-takes, end-takes}
 use Rattle.lexicon.specs.Literals.{plainByte, unescaped}
 use Rattle.lexicon.specs.Utf8.{range, beyond, sequence}
 use Rattle.text.proofs.Ranges.{in-first, in-later, low-in, in-high, byte-is}
-use Rattle.text.proofs.Searches.{fails}
+use Rattle.text.proofs.Searches.{found, fails}
 use Rattle.rules.proofs.Tests.{refuted}
+use Rattle.rules.proofs.Closed.{agree}
+use Rattle.lexicon.specs.declared.Found.{Found}
+use Rattle.lexicon.specs.Found.{Finds}
+use Rattle.string.proofs.Items.{backslash-unescaped, unescaped-single}
 
 low-none : never (0x00 upto 0x1F ∷ []) unescaped ≡ true
 unfolding never apart apartSpan
@@ -27,10 +31,6 @@ low-none = refl
 quote-none : never (just 0x22) unescaped ≡ true
 unfolding never apart apartSpan
 quote-none = refl
-
-backslash-none : never (just 0x5C) unescaped ≡ true
-unfolding never apart apartSpan
-backslash-none = refl
 
 grave-none : never (just 0x60) unescaped ≡ true
 unfolding never apart apartSpan
@@ -72,16 +72,7 @@ module _ {text : List ℕ} where
   widen : (c d : Class) → includes c d ≡ true → {i j : ℕ} → Takes text (one c) i j → Takes text (one d) i j
   widen c d w {i} (byte a e) = byte (a .0, includes-in c d (getD text i 0) w (a .1)) e
 
-  -- a character is a sequence
-  to-sequence : {i j : ℕ} → Takes text unescaped i j → Takes text sequence i j
-  unfolding includes inSome
-  to-sequence (left t) = left (widen plainByte (0x00 upto 0x7F ∷ []) refl t)
-  to-sequence (right (left (both t u))) = right (left (both (widen (just 0xC2) (0xC2 upto 0xDF ∷ []) refl t) (widen (0xA0 upto 0xBF ∷ []) (0x80 upto 0xBF ∷ []) refl u)))
-  to-sequence (right (right (left (both t u)))) = right (left (both (widen (0xC3 upto 0xDF ∷ []) (0xC2 upto 0xDF ∷ []) refl t) u))
-  to-sequence (right (right (right t))) = right (right t)
-
-  pub no-character : {i : ℕ} → Fails text sequence i → Fails text unescaped i
-  no-character f = record { none = λ t. f .none (to-sequence t) }
+  -- ---- the ways out of `character`, by the first byte
 
   pub control : (i : ℕ) → i < length text → getD text i 0 < 0x20 → Fails text unescaped i
   control i h l =
@@ -90,7 +81,11 @@ module _ {text : List ℕ} where
   pub barred : (i : ℕ) → i < length text → OneOf (0x22 ∷ 0x5C ∷ 0x60 ∷ []) (getD text i 0) → Fails text unescaped i
   barred i h k =
       ⊎-elim (λ e. fails quote-none (byte-is 0x22 i h e))
-      (λ k. ⊎-elim (λ e. fails backslash-none (byte-is 0x5C i h e)) (λ e. fails grave-none (byte-is 0x60 i h e)) k) k
+      (λ k. ⊎-elim (λ e. fails backslash-unescaped (byte-is 0x5C i h e)) (λ e. fails grave-none (byte-is 0x60 i h e)) k) k
+
+  pub ascii : (i : ℕ) → i < length text → getD text i 0 < 0x80 → 0x20 ≤ getD text i 0 → (OneOf (0x22 ∷ 0x5C ∷ 0x60 ∷ []) (getD text i 0) → ⊥) → Longest text unescaped i (i + 1)
+  ascii i h u l n =
+      agree unescaped-single (left (byte (h, plain-in (getD text i 0) (omega arith) l (λ x. n (inl x)) (λ x. n (inr (inl x))) (λ x. n (inr (inr x)))) refl))
 
   -- behind C2 the second byte decides
   second-byte : {i j : ℕ} → Takes text (one (just 0xC2)) i (i + 1) → Takes text unescaped i j → Takes text (range 0xA0 0xBF) (i + 1) j
@@ -104,29 +99,25 @@ module _ {text : List ℕ} where
       go : {j : ℕ} → Takes text (range 0xA0 0xBF) (i + 1) j → ⊥
       go t = refuted s f (byte (byte-at t) refl)
 
-  -- a sequence of another kind is a character
-  of-sequence : {i j : ℕ} → 0x20 ≤ getD text i 0 → (OneOf (0x22 ∷ 0x5C ∷ 0x60 ∷ []) (getD text i 0) → ⊥) → (getD text i 0 ≡ 0xC2 → Takes text (range 0xA0 0xBF) (i + 1) (i + 2)) → Takes text sequence i j → Takes text unescaped i j
-  of-sequence {i} l n c (left (byte a e)) =
-      left (byte (a .0, plain-in (getD text i 0) (in-high 0x00 0x7F _ (a .1)) l (λ x. n (inl x)) (λ x. n (inr (inl x))) (λ x. n (inr (inr x)))) e)
-  of-sequence {i} {j} l n c (right (left (both {m = m} (byte a e) (byte b f)))) = go (ℕ-discrete (getD text i 0) 0xC2)
-    where
-      go : Dec (getD text i 0 ≡ 0xC2) → Takes text unescaped i j
-      go (yes x) =
-          let h : i + 2 ≡ j = omega arith in right (left (both (byte-is 0xC2 i (a .0) x) (ending h (c x))))
-      go (no x) =
-          let y = low-in 0xC2 0xDF (getD text i 0) (a .1) in
-          let z = in-high 0xC2 0xDF (getD text i 0) (a .1) in
-          right (right (left (both (byte (a .0, in-first 0xC3 0xDF [] (getD text i 0) (omega (arith, x)) z) e) (byte b f))))
-  of-sequence l n c (right (right t)) = right (right (right t))
+  pub character-C2 : (i : ℕ) (o : Bool) → i < length text → getD text i 0 ≡ 0xC2 → Says o (Takes text (range 0xA0 0xBF) (i + 1) (i + 1 + 1)) → o ≡ true → Longest text unescaped i (i + 2)
+  character-C2 i o h e s f =
+      agree unescaped-single (right (left (both (byte-is 0xC2 i h e) (ending (omega arith) (s .true-holds f)))))
 
-  longest-of : {i j : ℕ} → (Takes text sequence i j → Takes text unescaped i j) → Longest text sequence i j → Longest text unescaped i j
-  longest-of f l = record { takes = f (l .takes); most = λ t. l .most (to-sequence t) }
+  -- from any other byte above 7F a character is a sequence
+  to-sequence : {i j : ℕ} → Takes text unescaped i j → Takes text sequence i j
+  unfolding includes inSome
+  to-sequence (left t) = left (widen plainByte (0x00 upto 0x7F ∷ []) refl t)
+  to-sequence (right (left (both t u))) = right (left (both (widen (just 0xC2) (0xC2 upto 0xDF ∷ []) refl t) (widen (0xA0 upto 0xBF ∷ []) (0x80 upto 0xBF ∷ []) refl u)))
+  to-sequence (right (right (left (both t u)))) = right (left (both (widen (0xC3 upto 0xDF ∷ []) (0xC2 upto 0xDF ∷ []) refl t) u))
+  to-sequence (right (right (right t))) = right (right t)
 
-  pub character-C2 : (i j : ℕ) (o : Bool) → Longest text sequence i j → getD text i 0 ≡ 0xC2 → Says o (Takes text (range 0xA0 0xBF) (i + 1) (i + 1 + 1)) → o ≡ true → Longest text unescaped i j
-  character-C2 i j o l e s f = longest-of (of-sequence (omega arith) none (λ x. ending (omega arith) (s .true-holds f))) l
-    where
-      none : OneOf (0x22 ∷ 0x5C ∷ 0x60 ∷ []) (getD text i 0) → ⊥
-      none k = ⊎-elim (λ x. omega arith) (λ k. ⊎-elim (λ x. omega arith) (λ x. omega arith) k) k
+  of-sequence : {i j : ℕ} → 0x80 ≤ getD text i 0 → (getD text i 0 ≡ 0xC2 → ⊥) → Takes text sequence i j → Takes text unescaped i j
+  of-sequence {i} l n (left (byte a e)) = absurd (omega (arith, in-high 0x00 0x7F (getD text i 0) (a .1)))
+  of-sequence {i} l n (right (left (both (byte a e) u))) =
+      let y = low-in 0xC2 0xDF (getD text i 0) (a .1) in
+      let z = in-high 0xC2 0xDF (getD text i 0) (a .1) in
+      right (right (left (both (byte (a .0, in-first 0xC3 0xDF [] (getD text i 0) (omega (arith, n)) z) e) u)))
+  of-sequence l n (right (right t)) = right (right (right t))
 
-  pub character-other : (i j : ℕ) → Longest text sequence i j → 0x20 ≤ getD text i 0 → (OneOf (0x22 ∷ 0x5C ∷ 0x60 ∷ []) (getD text i 0) → ⊥) → (OneOf (0xC2 ∷ []) (getD text i 0) → ⊥) → Longest text unescaped i j
-  character-other i j l h n m = longest-of (of-sequence h n (λ x. absurd (m x))) l
+pub other : (text : List ℕ) (i : ℕ) (r : Found) → 0x80 ≤ getD text i 0 → (getD text i 0 ≡ 0xC2 → ⊥) → Finds text sequence i r → Finds text unescaped i r
+other text i r l n f = found r (record { there = to-sequence; back = of-sequence l n }) f

@@ -15,24 +15,28 @@ ghost use Rattle.string.specs.Parts.{BadAngled, BadRest};
 fn character(text: &[u8], at: usize) -> Found
     ensures { λ r. ⌜ Finds (now (text .entry)) Literals.unescaped at r ⌝ }
 {
-    let Found::At(end) = sequence(text, at) else {
+    if text.len() <= at {
         return Found::Nothing;
-    };
+    }
     let b = text[at];
-    if b < 0x20 {
+    // Of ASCII the byte decides alone.
+    if b < 0x80 {
+        if b < 0x20 {
+            return Found::Nothing;
+        }
+        match b {
+            b'"' | b'\\' | b'`' => return Found::Nothing,
+            _ => return Found::At(at + 1),
+        }
+    }
+    // U+0080 to U+009F may not stand.
+    if b == 0xC2 {
+        if within(text, at + 1, 0xA0, 0xBF) {
+            return Found::At(at + 2);
+        }
         return Found::Nothing;
     }
-    match b {
-        b'"' | b'\\' | b'`' => Found::Nothing,
-        // U+0080 to U+009F may not stand.
-        0xC2 => {
-            if within(text, at + 1, 0xA0, 0xBF) {
-                return Found::At(end);
-            }
-            Found::Nothing
-        }
-        _ => Found::At(end),
-    }
+    sequence(text, at)
 }
 
 // A code point by its number and the closing angle.
@@ -86,43 +90,49 @@ fn item(text: &[u8], at: usize) -> Literal
 fn restricted(text: &[u8], at: usize) -> Found
     ensures { λ r. ⌜ Finds (now (text .entry)) Literals.restricted at r ⌝ }
 {
-    if stands(text, at, b'\\') {
-        return Found::At(at + 1);
-    }
     let Found::At(end) = character(text, at) else {
+        if stands(text, at, b'\\') {
+            return Found::At(at + 1);
+        }
         return Found::Nothing;
     };
     Found::At(end)
 }
 
-// Characters and backslashes up to the closing quote.
+// Characters and backslashes up to the closing quote, which begins none of them.
 fn plain(text: &[u8], at: usize) -> Found
     ensures { λ r. ⌜ Finds (now (text .entry)) Parts.plainRest at r ⌝ }
 {
     let mut i = at;
-    while !stands(text, i, b'"') {
+    loop {
         let Found::At(next) = restricted(text, i) else {
-            return Found::Nothing;
+            break;
         };
         i = next;
     }
-    Found::At(i + 1)
+    if stands(text, i, b'"') {
+        return Found::At(i + 1);
+    }
+    Found::Nothing
 }
 
-// Characters and escapes up to the closing quote.
+// Characters and escapes up to the closing quote, which begins none of them.
 fn escaped(text: &[u8], at: usize) -> Literal
     ensures { λ r. ⌜ Judges (now (text .entry)) Parts.escapedRest (BadRest (now (text .entry))) at r ⌝ }
 {
     let mut i = at;
     let mut bad = false;
-    while !stands(text, i, b'"') {
+    loop {
         let Literal::At { end, bad: worse } = item(text, i) else {
-            return Literal::Nothing;
+            break;
         };
         i = end;
         bad = bad | worse;
     }
-    Literal::At { end: i + 1, bad }
+    if stands(text, i, b'"') {
+        return Literal::At { end: i + 1, bad };
+    }
+    Literal::Nothing
 }
 
 // A segment.

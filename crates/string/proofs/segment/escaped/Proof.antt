@@ -4,7 +4,6 @@ use borrow.Author.Needs.{needs}
 use mathlib.Core.Path.{refl}
 use Prim.Native.Nat.{_-_}
 use native.Mathlib.Omega.{arith}
-use borrow.Author.Tests.{not-true, not-false}
 use lib.ListN.{length}
 use Rattle.rules.specs.Test.{Says}
 use Rattle.rules.specs.Rule.{many, Takes, stop, Among}
@@ -30,9 +29,6 @@ abbrev μ-loop : tie.MeasureT-loop
 loop-holds : tie.Need-loop-holds Inv-loop μ-loop
 loop-holds c = (stop refl, none-said _ item (BadEscape _) item-single item-strict _)
 
-stands-requires : tie.Need-stands-requires Inv-loop μ-loop
-stands-requires c κs = search needs
-
 item-requires : tie.Need-item-requires Inv-loop μ-loop
 item-requires c κs = search needs
 
@@ -42,22 +38,25 @@ enum-known-end c = search needs
 enum-told : tie.Need-enum-told Inv-loop μ-loop
 enum-told c = search needs
 
-returns : tie.Need-returns Inv-loop μ-loop
-returns c = never-closes item quote item-single quote-item (c .before .before .before .before .before .loop .inv .0) (judged-none (BadEscape (c .before .before .before .before .before .before .before .args .text .now)) (c .enum-told .given .1) (c .before .before .item .ensures))
-    (not-there (c .before .before .before .before .stands .ensures) (not-true _ (c .before .before .before .if1 .taken)))
-
 loop-less : tie.Need-loop-less Inv-loop μ-loop
-loop-less c = let y = judged-at (BadEscape (c .before .before .before .before .before .before .before .before .args .text .now)) (c .before .end .given .1) (c .before .before .before .item .ensures) in omega (arith, begins-within item refl (y .0 .takes), item-strict .less (y .0 .takes))
+loop-less c = let y = judged-at (BadEscape (c .before .before .before .before .before .before .args .text .now)) (c .before .end .given .1) (c .before .before .before .item .ensures) in omega (arith, begins-within item refl (y .0 .takes), item-strict .less (y .0 .takes))
 
 loop-again : tie.Need-loop-again Inv-loop μ-loop
-loop-again c = let y = judged-at (BadEscape (c .before .before .before .before .before .before .before .before .args .text .now)) (c .before .end .given .1) (c .before .before .before .item .ensures) in let v = c .before .before .before .before .before .before .loop .inv in
-    (snoc (v .0) (y .0 .takes), said _ item (BadEscape (c .before .before .before .before .before .before .before .before .args .text .now)) item-single item-strict (v .0) (y .0 .takes) (v .1) (y .1))
+loop-again c = let y = judged-at (BadEscape (c .before .before .before .before .before .before .args .text .now)) (c .before .end .given .1) (c .before .before .before .item .ensures) in let v = c .before .before .before .before .loop .inv in
+    (snoc (v .0) (y .0 .takes), said _ item (BadEscape (c .before .before .before .before .before .before .args .text .now)) item-single item-strict (v .0) (y .0 .takes) (v .1) (y .1))
 
-add-t10 : tie.Need-add-t10 Inv-loop μ-loop
-add-t10 c = omega (arith, there (c .before .stands .ensures) (not-false _ (c .if1 .left)) .0)
+stands-requires : tie.Need-stands-requires Inv-loop μ-loop
+stands-requires c κs = search needs
+
+add-t9 : tie.Need-add-t9 Inv-loop μ-loop
+add-t9 c = omega (arith, there (c .before .stands .ensures) (c .if1 .taken) .0)
+
+returns : tie.Need-returns Inv-loop μ-loop
+returns c = let v = c .before .before .before .before .before .loop .inv in rest-judged _ (v .0) (there (c .before .stands .ensures) (c .if1 .taken)) (v .1)
 
 returns-2 : tie.Need-returns-2 Inv-loop μ-loop
-returns-2 c = let v = c .before .before .loop .inv in rest-judged _ (v .0) (there (c .before .stands .ensures) (not-false _ (c .if1 .left))) (v .1)
+returns-2 c = never-closes item quote item-single quote-item (c .before .before .before .before .before .loop .inv .0) (judged-none (BadEscape (c .before .before .before .before .before .before .before .args .text .now)) (c .before .before .enum-told .given .1) (c .before .before .before .before .item .ensures))
+    (not-there (c .before .stands .ensures) (c .if1 .left))
 
 pub escaped-spec : {M : Type 1} → statement M
 escaped-spec =
@@ -66,12 +65,12 @@ escaped-spec =
     Inv-loop
     μ-loop
     loop-holds
-    stands-requires
     item-requires
     enum-known-end
     enum-told
-    returns
     loop-less
     loop-again
-    add-t10
+    stands-requires
+    add-t9
+    returns
     returns-2)

@@ -4,7 +4,6 @@ use borrow.Author.Needs.{needs}
 use mathlib.Core.Path.{refl}
 use Prim.Native.Nat.{_-_}
 use native.Mathlib.Omega.{arith}
-use borrow.Author.Tests.{not-true, not-false}
 use lib.ListN.{length}
 use Rattle.rules.specs.Rule.{many, Takes, stop}
 use Rattle.rules.proofs.Chains.{snoc}
@@ -26,9 +25,6 @@ abbrev μ-loop : tie.MeasureT-loop
 loop-holds : tie.Need-loop-holds Inv-loop μ-loop
 loop-holds c = stop refl
 
-stands-requires : tie.Need-stands-requires Inv-loop μ-loop
-stands-requires c κs = search needs
-
 restricted-requires : tie.Need-restricted-requires Inv-loop μ-loop
 restricted-requires c κs = search needs
 
@@ -38,21 +34,24 @@ enum-known-next c = search needs
 enum-told : tie.Need-enum-told Inv-loop μ-loop
 enum-told c = search needs
 
-returns : tie.Need-returns Inv-loop μ-loop
-returns c = never-closes restricted quote restricted-single quote-restricted (c .before .before .before .before .before .loop .inv) (found-none (c .enum-told .given .1) (c .before .before .restricted .ensures))
-    (not-there (c .before .before .before .before .stands .ensures) (not-true _ (c .before .before .before .if1 .taken)))
-
 loop-less : tie.Need-loop-less Inv-loop μ-loop
-loop-less c = omega (arith, begins-within restricted refl (found-at (c .before .next .given .1) (c .before .before .before .restricted .ensures) .takes), restricted-strict .less (found-at (c .before .next .given .1) (c .before .before .before .restricted .ensures) .takes))
+loop-less c = let l = found-at (c .before .next .given .1) (c .before .before .before .restricted .ensures) in omega (arith, begins-within restricted refl (l .takes), restricted-strict .less (l .takes))
 
 loop-again : tie.Need-loop-again Inv-loop μ-loop
-loop-again c = snoc (c .before .before .before .before .before .before .loop .inv) (found-at (c .before .next .given .1) (c .before .before .before .restricted .ensures) .takes)
+loop-again c = snoc (c .before .before .before .before .loop .inv) (found-at (c .before .next .given .1) (c .before .before .before .restricted .ensures) .takes)
 
-add-t8 : tie.Need-add-t8 Inv-loop μ-loop
-add-t8 c = omega (arith, there (c .before .stands .ensures) (not-false _ (c .if1 .left)) .0)
+stands-requires : tie.Need-stands-requires Inv-loop μ-loop
+stands-requires c κs = search needs
+
+add-t7 : tie.Need-add-t7 Inv-loop μ-loop
+add-t7 c = omega (arith, there (c .before .stands .ensures) (c .if1 .taken) .0)
+
+returns : tie.Need-returns Inv-loop μ-loop
+returns c = closes restricted quote restricted-single quote-restricted (c .before .before .before .before .before .loop .inv) (there (c .before .stands .ensures) (c .if1 .taken))
 
 returns-2 : tie.Need-returns-2 Inv-loop μ-loop
-returns-2 c = closes restricted quote restricted-single quote-restricted (c .before .before .loop .inv) (there (c .before .stands .ensures) (not-false _ (c .if1 .left)))
+returns-2 c = never-closes restricted quote restricted-single quote-restricted (c .before .before .before .before .before .loop .inv) (found-none (c .before .before .enum-told .given .1) (c .before .before .before .before .restricted .ensures))
+    (not-there (c .before .stands .ensures) (c .if1 .left))
 
 pub plain-spec : {M : Type 1} → statement M
 plain-spec =
@@ -61,12 +60,12 @@ plain-spec =
     Inv-loop
     μ-loop
     loop-holds
-    stands-requires
     restricted-requires
     enum-known-next
     enum-told
-    returns
     loop-less
     loop-again
-    add-t8
+    stands-requires
+    add-t7
+    returns
     returns-2)
