@@ -1,14 +1,16 @@
 -- The running sum: one byte of base-64 characters or of digits, and one byte more at the end. Assumes nothing.
 use mathlib.Core.Path.{_≡_, refl, sym, ap, _∙_}
 use mathlib.Core.List.{List, _++_, foldl-append}
-use Prim.Native.Nat.{ℕ, _+_}
+use Prim.Native.Nat.{ℕ, _+_, _*_, _≤_}
+use native.Mathlib.Nat.{mul-le-mul-left}
 use native.Mathlib.Numerals.{add-one}
+use native.Mathlib.Omega.{arith}
 use borrow.Author.Tests.{eq-eqb, ne-eqb}
 use lib.ListN.{getD}
 use Rattle.lexicon.specs.declared.Set.{Set}
 use Rattle.lexicon.specs.Bytes.{size}
 use Rattle.lexicon.specs.Values.{read}
-use Rattle.lexicon.specs.Limited.{limited}
+use Rattle.lexicon.specs.Limited.{limit, limited}
 use Rattle.lexicon.proofs.Limits.{read-more}
 use Rattle.number.specs.Tally.{paddedOf, tallyOf, tallies}
 
@@ -40,6 +42,12 @@ pub tally-digit : (set : Set) (n sum b r : ℕ) → n ≡ size set → (n ≡ 0 
 unfolding tallyOf
 tally-digit set n sum b r e z f =
     f ∙ ap (λ (k : ℕ). limited k sum b) e ∙ sym (rw (ne-eqb (size set) 0 (λ q. z (e ∙ q))) refl)
+
+-- a sum at the limit is not below it with a digit more
+pub tally-full : (set : Set) (n sum b : ℕ) → n ≡ size set → (n ≡ 0 → ⊥) → sum ≡ limit → sum ≡ tallyOf set sum b
+unfolding limited
+tally-full set n sum b e z f =
+    let m : sum * 1 ≤ sum * n = mul-le-mul-left sum (omega (arith, z)) in tally-digit set n sum b sum e z (omega (arith, f, m))
 
 -- ---- one byte more
 

@@ -1,4 +1,4 @@
--- What the searches for the parts of a Fraction answer. Assumes nothing.
+-- What the searches for a Fraction, its parts, or else an Integer answer. Assumes nothing.
 use mathlib.Core.Path.{_≡_}
 use mathlib.Core.Bool.{Bool, false}
 use mathlib.Core.List.{List}
@@ -6,12 +6,18 @@ use Prim.Native.Nat.{ℕ}
 use lib.Dec.{eqb}
 use Rattle.rules.specs.Rule.{Takes, Fails, _then_}
 use Rattle.lexicon.specs.declared.Base.{Base}
+use Rattle.lexicon.specs.declared.Found as Found
 use Rattle.lexicon.specs.declared.Literal.{Literal}
 use Rattle.lexicon.specs.declared.Literal.the-variants as Literal
 use Rattle.lexicon.specs.Bytes.{digits, digitSet}
 use Rattle.lexicon.specs.Space.{Skips}
-use Rattle.lexicon.specs.Literals.{unit, integer, spaced}
+use Rattle.lexicon.specs.Found.{Finds, Judges}
+use Rattle.lexicon.specs.Literals.{unit, integer, spaced, significand, fraction}
 use Rattle.lexicon.specs.Values.{Number}
+use Rattle.lexicon.specs.Bad.{BadFraction}
+use Rattle.lexicon.proofs.Integers.{Start}
+use Rattle.number.specs.declared.Numeral as Numeral
+use Rattle.number.specs.declared.Numeral.{Numeral}
 use Rattle.number.specs.Groups.{Row}
 use Rattle.number.specs.Number.{IsNumber, NoNumber}
 
@@ -54,3 +60,13 @@ pub record ZeroRatio (text : List ℕ) (i j : ℕ) : Type 0 where
   pub start : ℕ
   pub before : Takes text (integer then spaced "/") i start
   pub zero : Number text start j 0
+
+-- the longest significand of a number that has the base b and ends at e, wherever its sign or the number begins
+pub record Behind (text : List ℕ) (b : Base) (e : ℕ) (r : Literal) : Type 0 where
+  pub of : {i g v : ℕ} → Start text i g → IsNumber text b g e v → Judges text significand (ZeroRatio text) i r
+
+-- the literal that begins with a number at i: a Fraction if one stands there, else an Integer
+abbrev pub NumeralAt : List ℕ → ℕ → Numeral → Type 0
+NumeralAt text i (Numeral.the-variants.Integer j) = Fails text fraction i × Finds text integer i (Found.the-variants.At j)
+NumeralAt text i (Numeral.the-variants.Fraction j z) = Judges text fraction (BadFraction text) i (Literal.At j z)
+NumeralAt text i Numeral.the-variants.Nothing = Fails text fraction i × Fails text integer i

@@ -1,5 +1,6 @@
 // Fractions: a significand with a point or a slash, and an optional power.
 // A function with a `requires` is this crate's own: its place is within the text by its caller's search, so that sums of places fit.
+use crate::Numeral;
 use crate::integer::Number;
 use crate::integer::digits;
 use crate::integer::integer;
@@ -14,10 +15,9 @@ ghost use Prim.Native.Nat.{_≤_};
 ghost use lib.ListN.{length};
 ghost use Rattle.rules.specs.Rule.{_then_};
 ghost use Rattle.lexicon.specs.Found.{Finds, Judges};
-ghost use Rattle.lexicon.specs.Literals.{integer as integerOf, spaced, fraction as fractionOf, significand as significandOf, power as powerOf};
-ghost use Rattle.lexicon.specs.Bad.{BadFraction};
+ghost use Rattle.lexicon.specs.Literals.{integer as integerOf, spaced, power as powerOf};
 ghost use Rattle.lexicon.proofs.Powers.{SmallPower};
-ghost use Rattle.number.specs.Fraction.{Pointed, Divided, ZeroRatio};
+ghost use Rattle.number.specs.Fraction.{Pointed, Divided, Behind, NumeralAt};
 
 // The digits behind a significand's point, of the base that stands before it.
 fn point(text: &[u8], at: usize, base: Base) -> Literal
@@ -56,20 +56,11 @@ fn ratio(text: &[u8], at: usize) -> Literal
     }
 }
 
-// The longest significand; one with denominator 0 is bad.
-fn significand(text: &[u8], at: usize) -> Literal
-    requires { ⌜ at ≤ length (now text) ⌝ }
-    ensures { λ r. ⌜ Judges (now (text .entry)) significandOf (ZeroRatio (now (text .entry))) at r ⌝ }
+// The longest significand whose number was read to its end; one with denominator 0 is bad.
+fn behind(text: &[u8], end: usize, base: Base) -> Literal
+    requires { ⌜ end ≤ length (now text) ⌝ }
+    ensures { λ r. ⌜ Behind (now (text .entry)) base end r ⌝ }
 {
-    let begin = start(text, at);
-    let Number::At {
-        base,
-        end,
-        value: _,
-    } = number_at(text, begin)
-    else {
-        return Literal::Nothing;
-    };
     let sign = space(text, end);
     if stands(text, sign, b'.') {
         return point(text, sign + 1, base);
@@ -120,24 +111,33 @@ fn power(text: &[u8], at: usize) -> Literal
     }
 }
 
-// The Fraction at a place.
-pub fn fraction(text: &[u8], at: usize) -> Literal
-    ensures { λ r. ⌜ Judges (now (text .entry)) fractionOf (BadFraction (now (text .entry))) at r ⌝ }
+// The Fraction at a place, or else the Integer: both begin with one number, which is read once.
+pub fn numeral(text: &[u8], at: usize) -> Numeral
+    ensures { λ r. ⌜ NumeralAt (now (text .entry)) at r ⌝ }
 {
     if at > text.len() {
-        return Literal::Nothing;
+        return Numeral::Nothing;
     }
-    let Literal::At { end, bad } = significand(text, at) else {
-        return Literal::Nothing;
+    let begin = start(text, at);
+    let Number::At {
+        base,
+        end: whole,
+        value: _,
+    } = number_at(text, begin)
+    else {
+        return Numeral::Nothing;
+    };
+    let Literal::At { end, bad } = behind(text, whole, base) else {
+        return Numeral::Integer(whole);
     };
     let Literal::At {
         end: last,
         bad: small,
     } = power(text, end)
     else {
-        return Literal::At { end, bad };
+        return Numeral::Fraction { end, bad };
     };
-    Literal::At {
+    Numeral::Fraction {
         end: last,
         bad: bad || small,
     }

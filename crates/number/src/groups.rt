@@ -3,6 +3,8 @@
 use crate::tally::tally_unit;
 use lexicon::Found;
 use lexicon::Set;
+use text::class::classes;
+use text::class::holds;
 ghost use Prim.Native.Nat.{_+_, _≤_};
 ghost use lib.ListN.{length};
 ghost use Rattle.rules.specs.Test.{Says};
@@ -10,6 +12,7 @@ ghost use Rattle.rules.specs.Rule.{Takes};
 ghost use Rattle.lexicon.specs.Bytes.{members};
 ghost use Rattle.lexicon.specs.Literals.{unit as unitOf};
 ghost use Rattle.lexicon.proofs.Groups.{Clear};
+ghost use Rattle.text.specs.Classes.{IsTable};
 ghost use Rattle.number.specs.Groups.{Grouped, Joined};
 
 // The end of the longest row of groups and the sum over its digits.
@@ -19,8 +22,8 @@ pub enum Groups {
 }
 
 // Whether a unit stands at a place.
-fn unit(text: &[u8], at: usize, set: Set, width: usize) -> bool
-    requires { ⌜ (at ≤ length (now text)) × (width ≤ 8) ⌝ }
+fn unit(text: &[u8], at: usize, set: Set, width: usize, classes: &[u8; 256]) -> bool
+    requires { ⌜ (at ≤ length (now text)) × (width ≤ 8) × IsTable (now classes) ⌝ }
     ensures { λ r. ⌜ Says r (Takes (now (text .entry)) (unitOf width (members set)) at (at + width)) ⌝ }
 {
     let mut k = 0;
@@ -29,7 +32,8 @@ fn unit(text: &[u8], at: usize, set: Set, width: usize) -> bool
         if i >= text.len() {
             return false;
         }
-        if !text::class::in_set(text[i], set) {
+        let b = text[i] as usize;
+        if !holds(classes[b], set) {
             return false;
         }
         k += 1;
@@ -38,41 +42,42 @@ fn unit(text: &[u8], at: usize, set: Set, width: usize) -> bool
 }
 
 // Where the next unit begins: here, behind one `_`, or behind the dividing space.
-fn joined(text: &[u8], at: usize, set: Set, width: usize) -> Found
-    requires { ⌜ (at ≤ length (now text)) × (1 ≤ width) × (width ≤ 8) × Clear (members set) ⌝ }
+fn joined(text: &[u8], at: usize, set: Set, width: usize, classes: &[u8; 256]) -> Found
+    requires { ⌜ (at ≤ length (now text)) × (1 ≤ width) × (width ≤ 8) × Clear (members set) × IsTable (now classes) ⌝ }
     ensures { λ r. ⌜ Joined (now (text .entry)) set width at r ⌝ }
 {
-    if unit(text, at, set, width) {
+    if unit(text, at, set, width, classes) {
         return Found::At(at);
     }
     if at >= text.len() {
         return Found::Nothing;
     }
     if text[at] == b'_' {
-        if unit(text, at + 1, set, width) {
+        if unit(text, at + 1, set, width, classes) {
             return Found::At(at + 1);
         }
         return Found::Nothing;
     }
     let next = text::space::space(text, at);
-    if unit(text, next, set, width) {
+    if unit(text, next, set, width, classes) {
         return Found::At(next);
     }
     Found::Nothing
 }
 
-// The longest row of units from a place.
+// The longest row of units from a place. The table of classes is made once, for all of them.
 pub(crate) fn longest_row(text: &[u8], at: usize, set: Set, width: usize) -> Groups
     requires { ⌜ (at ≤ length (now text)) × (1 ≤ width) × (width ≤ 8) × Clear (members set) ⌝ }
     ensures { λ r. ⌜ Grouped (now (text .entry)) set width at r ⌝ }
 {
-    if !unit(text, at, set, width) {
+    let classes = classes();
+    if !unit(text, at, set, width, &classes) {
         return Groups::Nothing;
     }
     let mut end = at + width;
     let mut sum = tally_unit(text, at, width, set, 0);
     loop {
-        let Found::At(next) = joined(text, end, set, width) else {
+        let Found::At(next) = joined(text, end, set, width, &classes) else {
             return Groups::At { end, sum };
         };
         sum = tally_unit(text, next, width, set, sum);

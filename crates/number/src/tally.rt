@@ -9,6 +9,9 @@ ghost use lib.ListN.{length};
 ghost use Rattle.lexicon.specs.Values.{read};
 ghost use Rattle.number.specs.Tally.{paddedOf, tallyOf, tallies};
 
+// Where `limited` stops counting.
+const LIMIT: u32 = 0x11_0000;
+
 // 0 before the first `=`, 1 behind it, 2 once another character stands behind one.
 fn padded(sum: u32, b: u8) -> u32
     ensures { λ r. ⌜ r ≡ paddedOf sum b ⌝ }
@@ -22,13 +25,16 @@ fn padded(sum: u32, b: u8) -> u32
     if sum == 0 { 0 } else { 2 }
 }
 
-// The sum with one byte more.
+// The sum with one byte more. One at the limit stays there, whatever the digit.
 fn tally(set: Set, sum: u32, b: u8) -> u32
     ensures { λ r. ⌜ r ≡ tallyOf set sum b ⌝ }
 {
     let n = radix(set);
     if n == 0 {
         return padded(sum, b);
+    }
+    if sum == LIMIT {
+        return sum;
     }
     limited(sum, n, b)
 }

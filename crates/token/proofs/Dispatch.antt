@@ -28,12 +28,15 @@ use Rattle.lexicon.specs.declared.Sign.the-variants.{ArrowRight}
 use Rattle.lexicon.specs.Bytes.{wordStart, decimal}
 use Rattle.lexicon.specs.Space.{Skips}
 use Rattle.lexicon.specs.Literals.{ignorance, boolean, integer, fraction, bits, blob, quoted, word, codePoint, later, plusMinus}
-use Rattle.lexicon.specs.Bad.{BadCode, BadQuoted, BadPadding, ZeroDenominator, SmallRadix}
+use Rattle.lexicon.specs.Bad.{BadCode, BadQuoted, BadPadding, BadFraction}
 use Rattle.lexicon.specs.Token.{Lexeme, anIgnorance, aBoolean, anInteger, aFraction, aBits, aBlob, aQuoted, aWord, aCodePoint, aLater, aSymbol, rule, Here, Is, Bad, Comes}
 use Rattle.lexicon.proofs.Tokens.{every, for-every, begins, begins-with, outreaches, alone, oneOf, is-one}
 use Rattle.lexicon.proofs.Unique.{integer-below}
 use Rattle.text.proofs.Ranges.{in-first, low-in, in-high}
 use Rattle.word.specs.Heads.{Tells}
+use Rattle.number.specs.declared.Numeral.{Numeral}
+use Rattle.number.specs.declared.Numeral.the-variants as Numeral
+use Rattle.number.specs.Fraction.{NumeralAt}
 use Rattle.lexicon.specs.declared.Next.{Next}
 use Rattle.lexicon.specs.declared.Next.the-variants as Next
 use Rattle.token.specs.declared.symbol.Symbol as Symbols
@@ -198,7 +201,7 @@ module _ (text : List ℕ) where
     pub integer-is : {j : ℕ} {s : Bool} → Fails text fraction i → Longest text integer i j → s ≡ has plusMinus (getD text i 0) → TokenAt text (Integer s) i j false
     integer-is f l e = record { is = record { told = (integer-here f l, e) }; bad-is = says-no (λ x. x) }
 
-    pub fraction-is : {j : ℕ} {b : Bool} → Longest text fraction i j → Says b (ZeroDenominator text i j ⊎ SmallRadix text i j) → TokenAt text Fraction i j b
+    pub fraction-is : {j : ℕ} {b : Bool} → Longest text fraction i j → Says b (BadFraction text i j) → TokenAt text Fraction i j b
     fraction-is l s = record { is = record { told = fraction-here l }; bad-is = s }
 
     pub number-none : Fails text fraction i → Fails text integer i → NoneAt text i
@@ -335,6 +338,15 @@ module _ (text : List ℕ) where
           (or-cases (opens opening (rule m)) (symbolic m) (for-every (λ m. opens opening (rule m) || symbolic m) literals-open m))
 
   -- ---- what the searches answered
+
+  pub integer-found : (i j : ℕ) (r : Numeral) → NumeralAt text i r → r ≡ Numeral.Integer j → Fails text fraction i × Longest text integer i j
+  integer-found i j r t e = subst (NumeralAt text i) e t
+
+  pub fraction-found : (i j : ℕ) (b : Bool) (r : Numeral) → NumeralAt text i r → r ≡ Numeral.Fraction j b → Longest text fraction i j × Says b (BadFraction text i j)
+  fraction-found i j b r t e = subst (NumeralAt text i) e t
+
+  pub numeral-missing : (i : ℕ) (r : Numeral) → NumeralAt text i r → r ≡ Numeral.Nothing → Fails text fraction i × Fails text integer i
+  numeral-missing i r t e = subst (NumeralAt text i) e t
 
   pub fixed-found : (i : ℕ) (k : Kind) (j : ℕ) (r : Fixed) → FixedAt text i r → r ≡ Fixed.At k j → TokenAt text k i j false
   fixed-found i k j r t e = subst (FixedAt text i) e t

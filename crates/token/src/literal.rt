@@ -6,17 +6,16 @@ use lexicon::Kind;
 use lexicon::Literal;
 use lexicon::Next;
 use lexicon::Token;
-use number::fraction::fraction;
-use number::integer::integer;
+use number::Numeral;
+use number::fraction::numeral;
 use string::quoted::quoted;
 use word::word::form;
 use word::word::word;
 ghost use Prim.Native.Nat.{_<_};
 ghost use lib.ListN.{length};
 ghost use Rattle.rules.specs.Class.{just};
-ghost use Rattle.rules.specs.Rule.{At, Fails};
+ghost use Rattle.rules.specs.Rule.{At};
 ghost use Rattle.lexicon.specs.Bytes.{wordStart};
-ghost use Rattle.lexicon.specs.Literals.{fraction as fractionOf};
 ghost use Rattle.token.specs.Answers.{StartsAt, NumberOnly};
 
 // At a quotation mark.
@@ -52,37 +51,29 @@ pub(crate) fn word_token(text: &[u8], at: usize) -> Next
     })
 }
 
-// An Integer that no Fraction outreaches.
-fn integer_token(text: &[u8], at: usize) -> Next
-    requires { ⌜ (at < length (now text)) × NumberOnly (now text) at × Fails (now text) fractionOf at ⌝ }
-    ensures { λ r. ⌜ StartsAt (now (text .entry)) at r ⌝ }
-{
-    let Found::At(end) = integer(text, at) else {
-        return Next::NoToken(at);
-    };
-    let b = text[at];
-    Next::Token(Token {
-        kind: Kind::Integer {
-            signed: b == b'+' || b == b'-',
-        },
-        first: at,
-        end,
-        bad: false,
-    })
-}
-
 // Where none but a number can start.
 pub(crate) fn number_token(text: &[u8], at: usize) -> Next
     requires { ⌜ (at < length (now text)) × NumberOnly (now text) at ⌝ }
     ensures { λ r. ⌜ StartsAt (now (text .entry)) at r ⌝ }
 {
-    let Literal::At { end, bad } = fraction(text, at) else {
-        return integer_token(text, at);
-    };
-    Next::Token(Token {
-        kind: Kind::Fraction,
-        first: at,
-        end,
-        bad,
-    })
+    match numeral(text, at) {
+        Numeral::Integer(end) => {
+            let b = text[at];
+            Next::Token(Token {
+                kind: Kind::Integer {
+                    signed: b == b'+' || b == b'-',
+                },
+                first: at,
+                end,
+                bad: false,
+            })
+        }
+        Numeral::Fraction { end, bad } => Next::Token(Token {
+            kind: Kind::Fraction,
+            first: at,
+            end,
+            bad,
+        }),
+        Numeral::Nothing => Next::NoToken(at),
+    }
 }

@@ -11,7 +11,8 @@ use lexicon::Kind;
 use lexicon::Next;
 use lexicon::Set;
 use lexicon::Token;
-use text::class::in_set;
+use text::class::class;
+use text::class::holds;
 use text::space::space;
 ghost use Prim.Native.Nat.{_<_};
 ghost use lib.ListN.{length};
@@ -46,13 +47,14 @@ fn starting(text: &[u8], at: usize) -> Next
     if b == b'"' {
         return quoted_token(text, at);
     }
-    if in_set(b, Set::WordStart) {
+    let class = class(b);
+    if holds(class, Set::WordStart) {
         return word_token(text, at);
     }
     if b == b'0' {
         return zero(text, at);
     }
-    if in_set(b, Set::Decimal) {
+    if holds(class, Set::Decimal) {
         return number_token(text, at);
     }
     if b == b'+' {

@@ -24,8 +24,8 @@ add-unit c = search needs
 unit-requires-2 : tie.Need-unit-requires-2
 unit-requires-2 c κs = search needs
 
-add-t13 : tie.Need-add-t13
-add-t13 c = search needs
+add-t14 : tie.Need-add-t14
+add-t14 c = search needs
 
 returns-3 : tie.Need-returns-3
 returns-3 c = search (joins-line, needs)
@@ -37,7 +37,7 @@ space-requires : tie.Need-space-requires
 space-requires c κs = search needs
 
 unit-requires-3 : tie.Need-unit-requires-3
-unit-requires-3 c κs = (omega (arith, inside (c .space .ensures .takes) (search needs)), search needs)
+unit-requires-3 c κs = (omega (arith, inside (c .space .ensures .takes) (search needs)), search needs, search needs)
 
 returns-5 : tie.Need-returns-5
 returns-5 c = search (joins-space, needs)
@@ -55,7 +55,7 @@ joined-spec =
     shared-slice-read-if3
     add-unit
     unit-requires-2
-    add-t13
+    add-t14
     returns-3
     returns-4
     space-requires
