@@ -5,7 +5,6 @@ pub mod Unique
 pub mod Decide
 pub mod Stands
 pub mod At
-pub mod Same
 pub mod Exists
 pub mod Agree
 pub mod Depth

@@ -2,3 +2,6 @@
 pub mod Words
 pub mod Stores
 pub mod Written
+pub mod Lifts
+pub mod Shifted
+pub mod Raised

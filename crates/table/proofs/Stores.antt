@@ -13,10 +13,10 @@ use Rattle.table.specs.Over.{over, roleWord, entryWords, Stored, Assigne
 use Rattle.table.proofs.Words.{over-nothing, over-first}
 
 -- six words, the last first
-abbrev pub stores : List ℕ → (k a b c d e f : ℕ) → List ℕ
+abbrev stores : List ℕ → (k a b c d e f : ℕ) → List ℕ
 stores t k a b c d e f = set (set (set (set (set (set t (k + 5) f) (k + roleWord) e) (k + 3) d) (k + 2) c) (k + 1) b) k a
 
-six : (t : List ℕ) (k a b c d e f : ℕ) → over t k (a ∷ b ∷ c ∷ d ∷ e ∷ f ∷ []) ≡ stores t k a b c d e f
+pub six : (t : List ℕ) (k a b c d e f : ℕ) → over t k (a ∷ b ∷ c ∷ d ∷ e ∷ f ∷ []) ≡ stores t k a b c d e f
 six t k a b c d e f =
     over-first t k (k + 1) a _ refl
     ∙ ap (λ (l : List ℕ). set l k a) (over-first t (k + 1) (k + 2) b _ (omega arith)
@@ -30,13 +30,11 @@ module _ (t : List ℕ) (i : ℕ) where
   pub not-stored : (ws : List ℕ) → length t / nodeWords ≤ i → Stored t t i ws
   not-stored ws g = record { fits = λ h. absurd (omega arith); else = λ h. refl }
 
-  pub stored : (n : Entry) (r : ℕ) → i < length t / nodeWords → r ≡ roleNumber (roleOf (n .role)) →
-      Stored t (stores t (i * nodeWords) (n .kind) (n .first) (n .end) (n .parent) r (n .detail)) i (entryWords n)
-  stored n r g e =
+  pub stored : {t' : List ℕ} (n : Entry) (r : ℕ) → i < length t / nodeWords → r ≡ roleNumber (roleOf (n .role)) →
+      t' ≡ over t (i * nodeWords) (n .kind ∷ n .first ∷ n .end ∷ n .parent ∷ r ∷ n .detail ∷ []) → Stored t t' i (entryWords n)
+  stored n r g e s =
       record {
-        fits = λ h.
-            ap (λ (x : ℕ). stores t (i * nodeWords) (n .kind) (n .first) (n .end) (n .parent) x (n .detail)) e
-            ∙ sym (six t (i * nodeWords) (n .kind) (n .first) (n .end) (n .parent) (roleNumber (roleOf (n .role))) (n .detail));
+        fits = λ h. s ∙ ap (λ (x : ℕ). over t (i * nodeWords) (n .kind ∷ n .first ∷ n .end ∷ n .parent ∷ x ∷ n .detail ∷ [])) e;
         else = λ h. absurd (omega arith);
       }
 

@@ -3,7 +3,7 @@ use mathlib.Core.Path.{_≡_, refl, sym, ap, _∙_}
 use mathlib.Core.List.{List, [], _∷_, _++_, append-assoc}
 use Prim.Native.Nat.{ℕ, zero, suc, _+_, _*_, _≤_, _<_}
 use native.Mathlib.Omega.{arith}
-use lib.ListN.{length, set, drop, length-append}
+use lib.ListN.{length, set, getD, drop, length-append}
 use Rattle.grammar.specs.Nodes.{Node, Role, words, nodeWords, tableWords, roleNumber}
 use Rattle.moves.proofs.Means.{roled}
 use Rattle.table.specs.Over.{over, roleWord}
@@ -44,6 +44,31 @@ over-swap (x ∷ t) zero zero (w ∷ ws) vs h = absurd (omega arith)
 over-swap (x ∷ t) zero (suc j) (w ∷ ws) vs h = ap (λ (l : List ℕ). w ∷ l) (over-swap t zero j ws vs (omega arith))
 over-swap (x ∷ t) (suc k) zero ws vs h = absurd (omega arith)
 over-swap (x ∷ t) (suc k) (suc j) ws vs h = ap (λ (l : List ℕ). x ∷ l) (over-swap t k j ws vs (omega arith))
+
+-- a piece over a shorter one
+pub over-again : (t : List ℕ) (k : ℕ) (ws vs : List ℕ) → length ws ≤ length vs → over (over t k ws) k vs ≡ over t k vs
+over-again [] k ws vs h = refl
+over-again (x ∷ t) zero [] vs h = refl
+over-again (x ∷ t) zero (w ∷ ws) [] h = absurd (omega arith)
+over-again (x ∷ t) zero (w ∷ ws) (v ∷ vs) h = ap (λ (l : List ℕ). v ∷ l) (over-again t zero ws vs (omega arith))
+over-again (x ∷ t) (suc k) ws vs h = ap (λ (l : List ℕ). x ∷ l) (over-again t k ws vs h)
+
+-- what stands before the words, and each of the words
+pub over-before : (t : List ℕ) (k j : ℕ) (ws : List ℕ) → j < k → getD (over t k ws) j 0 ≡ getD t j 0
+over-before [] k j ws h = refl
+over-before (x ∷ t) zero j ws h = absurd (omega arith)
+over-before (x ∷ t) (suc k) zero ws h = refl
+over-before (x ∷ t) (suc k) (suc j) ws h = over-before t k j ws (omega arith)
+
+pub over-at : (t : List ℕ) (k j m : ℕ) (ws : List ℕ) → j ≡ k + m → m < length ws → j < length t → getD (over t k ws) j 0 ≡ getD ws m 0
+over-at [] k j m ws e h g = absurd (omega arith)
+over-at (x ∷ t) zero j m [] e h g = absurd (omega arith)
+over-at (x ∷ t) zero zero zero (w ∷ ws) e h g = refl
+over-at (x ∷ t) zero zero (suc m) (w ∷ ws) e h g = absurd (omega arith)
+over-at (x ∷ t) zero (suc j) zero (w ∷ ws) e h g = absurd (omega arith)
+over-at (x ∷ t) zero (suc j) (suc m) (w ∷ ws) e h g = over-at t zero j m ws (omega arith) (omega arith) (omega arith)
+over-at (x ∷ t) (suc k) zero m ws e h g = absurd (omega arith)
+over-at (x ∷ t) (suc k) (suc j) m ws e h g = over-at t k j m ws (omega arith) h (omega arith)
 
 -- one of the words, changed
 pub over-set : (t : List ℕ) (k j m v : ℕ) (ws : List ℕ) → j ≡ k + m → m < length ws → set (over t k ws) j v ≡ over t k (set ws m v)

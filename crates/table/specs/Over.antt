@@ -1,8 +1,8 @@
 -- Words written over those of the lent table, and nodes written so. Assumes nothing.
 use mathlib.Core.Path.{_≡_}
-use mathlib.Core.List.{List, [], _∷_}
-use Prim.Native.Nat.{ℕ, zero, suc, _+_, _*_, _≤_, _<_}
-use lib.ListN.{length, set}
+use mathlib.Core.List.{List, [], _∷_, _++_}
+use Prim.Native.Nat.{ℕ, zero, suc, _+_, _*_, _≤_, _<_, min}
+use lib.ListN.{length, set, getD}
 use Rattle.grammar.specs.Nodes.{Node, kindNumber, roleNumber, words, nodeWords, tableWords}
 use Rattle.moves.specs.declared.Role.{Role}
 use Rattle.moves.specs.declared.Role.the-variants as Role
@@ -16,7 +16,10 @@ over (x ∷ t) zero [] = x ∷ t
 over (x ∷ t) zero (w ∷ ws) = w ∷ over t zero ws
 over (x ∷ t) (suc k) ws = x ∷ over t k ws
 
--- which of a node's words tells its role, counted from 0
+-- which of a node's words tells its parent's index, and which its role, counted from 0
+abbrev pub parentWord : ℕ
+parentWord = 3
+
 abbrev pub roleWord : ℕ
 roleWord = 4
 
@@ -32,6 +35,33 @@ pub record Tells (e : Entry) (n : Node) : Type 0 where
   pub parent : n .parent ≡ e .parent
   pub role : n .role ≡ roleOf (e .role)
   pub detail : n .detail ≡ e .detail
+
+-- ---- nodes moved up by one
+
+abbrev pub largestWord : ℕ
+largestWord = 4294967295
+
+-- a number as a word holds it
+abbrev pub capped : ℕ → ℕ
+capped n = min n largestWord
+
+-- word j of the node at index i
+abbrev pub wordOf : List ℕ → ℕ → ℕ → ℕ
+wordOf t i j = getD t (i * nodeWords + j) 0
+
+-- the words of the node at index i, but with parent p
+abbrev pub under : List ℕ → ℕ → ℕ → List ℕ
+under t i p = wordOf t i 0 ∷ wordOf t i 1 ∷ wordOf t i 2 ∷ p ∷ wordOf t i roleWord ∷ wordOf t i 5 ∷ []
+
+-- the words of n nodes from index i on, but with each parent's index one more
+abbrev pub lifted : List ℕ → ℕ → ℕ → List ℕ
+lifted t i zero = []
+lifted t i (suc n) = under t i (capped (wordOf t i parentWord + 1)) ++ lifted t (i + 1) n
+
+-- the same, but the first's parent is what stands at index i from now on
+abbrev pub raised : List ℕ → ℕ → ℕ → List ℕ
+raised t i zero = []
+raised t i (suc n) = under t i (capped i) ++ lifted t (i + 1) n
 
 module _ (t t' : List ℕ) (i : ℕ) where
   -- t' is t with the words ws at index i, or t where no node fits there
@@ -51,3 +81,14 @@ module _ (t t' : List ℕ) (i : ℕ) where
   -- t' is t with the nodes from index i on, if they fit
   pub record Written (ns : List Node) : Type 0 where
     pub words-are : (i + length ns) * nodeWords ≤ length t → t' ≡ over t (i * nodeWords) (tableWords ns)
+
+  -- t' is t with the n nodes from index i on moved up by one, or t where they do not fit there; the slot at index i is left as it was
+  pub record Raised (n : ℕ) : Type 0 where
+    pub fits : (i + n + 1) * nodeWords ≤ length t → t' ≡ over t ((i + 1) * nodeWords) (raised t i n)
+    pub else : length t < (i + n + 1) * nodeWords → t' ≡ t
+
+  -- t' is t but for the words of one node at index i
+  pub record Reserved : Type 0 where
+    pub slot : List ℕ
+    pub few : length slot ≤ nodeWords
+    pub is : t' ≡ over t (i * nodeWords) slot

@@ -1,14 +1,22 @@
 // Nodes in the lent table of words, one behind the other.
 use moves::Role;
 ghost use mathlib.Core.Path.{_≡_};
-ghost use Rattle.grammar.specs.Nodes.{roleNumber};
+ghost use mathlib.Core.List.{[], _∷_};
+ghost use Prim.Native.Nat.{_+_, _*_, _≤_};
+ghost use lib.ListN.{length};
+ghost use Rattle.grammar.specs.Nodes.{roleNumber, nodeWords};
 ghost use Rattle.moves.proofs.Means.{roleOf};
-ghost use Rattle.table.specs.Over.{entryWords, Stored, Assigned};
+ghost use Rattle.table.specs.Over.{over, under, capped as cappedOf, entryWords, Stored, Assigned, Raised};
 
-// Words of a node, and which of them tells its role.
+// Words of a node, and which of them tell its parent's index and its role.
 const WORDS: usize = 6;
 
+const PARENT: usize = 3;
+
 const ROLE: usize = 4;
+
+// The largest word.
+const LARGEST: usize = 0xFFFF_FFFF;
 
 // A node: its kind's number, first byte, byte after the last, parent's index, role, detail.
 pub struct Entry {
@@ -37,6 +45,29 @@ fn role_number(role: Role) -> u32
     }
 }
 
+// Writes the six words of a node from a word on. The caller saw that they fit.
+fn store(
+    table: &mut [u32],
+    at: usize,
+    kind: u32,
+    first: u32,
+    end: u32,
+    parent: u32,
+    role: u32,
+    detail: u32,
+)
+    requires { ⌜ at + nodeWords ≤ length (now table) ⌝ }
+    ensures { λ _. ⌜ now (table .exit) ≡ over (now (table .entry)) at (kind ∷ first ∷ end ∷ parent ∷ role ∷ detail ∷ []) ⌝ }
+{
+    // the last word first: so the stores are the definition's own
+    table[at + 5] = detail;
+    table[at + ROLE] = role;
+    table[at + PARENT] = parent;
+    table[at + 2] = end;
+    table[at + 1] = first;
+    table[at] = kind;
+}
+
 // Writes the node at the index, if it fits.
 pub fn put(table: &mut [u32], index: usize, node: Entry)
     ensures { λ _. ⌜ Stored (now (table .entry)) (now (table .exit)) index (entryWords node) ⌝ }
@@ -44,16 +75,18 @@ pub fn put(table: &mut [u32], index: usize, node: Entry)
     if index >= table.len() / WORDS {
         return;
     }
-    let at = index * WORDS;
     let role = node.role;
     let number = role_number(role);
-    // the last word first: so the stores are the definition's own
-    table[at + 5] = node.detail;
-    table[at + ROLE] = number;
-    table[at + 3] = node.parent;
-    table[at + 2] = node.end;
-    table[at + 1] = node.first;
-    table[at] = node.kind;
+    store(
+        table,
+        index * WORDS,
+        node.kind,
+        node.first,
+        node.end,
+        node.parent,
+        number,
+        node.detail,
+    );
 }
 
 // Changes the role of the node at the index, if it fits. Root stands for no change.
@@ -70,4 +103,61 @@ pub fn assign(table: &mut [u32], index: usize, role: Role)
     }
     let at = index * WORDS + ROLE;
     table[at] = number;
+}
+
+// The number as a word holds it.
+fn capped(number: usize) -> u32
+    ensures { λ r. ⌜ r ≡ cappedOf number ⌝ }
+{
+    if number > LARGEST {
+        return LARGEST as u32;
+    }
+    number as u32
+}
+
+// One more, as a word holds it.
+fn next(word: u32) -> u32
+    ensures { λ r. ⌜ r ≡ cappedOf (word + 1) ⌝ }
+{
+    capped(word as usize + 1)
+}
+
+// Copies the node at the index to the next one, under another parent. The caller saw that both are inside the table.
+fn lift(table: &mut [u32], index: usize, parent: u32)
+    requires { ⌜ (index + 2) * nodeWords ≤ length (now table) ⌝ }
+    ensures { λ _. ⌜ now (table .exit) ≡ over (now (table .entry)) ((index + 1) * nodeWords) (under (now (table .entry)) index parent) ⌝ }
+{
+    let at = index * WORDS;
+    let kind = table[at];
+    let first = table[at + 1];
+    let end = table[at + 2];
+    let role = table[at + ROLE];
+    let detail = table[at + 5];
+    store(table, at + WORDS, kind, first, end, parent, role, detail);
+}
+
+// Moves so many nodes, the first at the index, up by one, if they fit: each other's indices are one more, and the first's parent is what
+// stands at the index from now on.
+pub fn raise(table: &mut [u32], index: usize, nodes: usize)
+    ensures { λ _. ⌜ Raised (now (table .entry)) (now (table .exit)) index nodes ⌝ }
+{
+    let room = table.len() / WORDS;
+    if index >= room {
+        return;
+    }
+    if nodes >= room - index {
+        return;
+    }
+    if nodes == 0 {
+        return;
+    }
+    // the last first: each is moved before another is written over it
+    let mut left = nodes - 1;
+    while left > 0 {
+        let node = index + left;
+        let parent = next(table[node * WORDS + PARENT]);
+        lift(table, node, parent);
+        left -= 1;
+    }
+    lift(table, index, capped(index));
 }

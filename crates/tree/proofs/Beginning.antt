@@ -35,11 +35,12 @@ use Rattle.moves.specs.declared.SquareFrame.the-variants as Square
 use Rattle.moves.specs.declared.Frame.the-variants as Frame
 use Rattle.moves.specs.declared.Mode.the-variants as Mode
 use Rattle.moves.proofs.Means.{levelOf, collectionStyle}
+use Rattle.tree.specs.declared.answer.Got.{Got}
 use Rattle.tree.specs.declared.begin.Begin.{Begin}
 use Rattle.tree.specs.declared.begin.Begin.the-variants as Begin
 use Rattle.tree.specs.declared.level.Collection.{Collection}
 use Rattle.tree.specs.declared.level.Collection.the-variants as Collection
-use Rattle.tree.specs.Looks.{HeadHere, NoHead, Collects}
+use Rattle.tree.specs.Looks.{Gets, HeadHere, NoHead, Collects}
 use Rattle.tree.specs.Readers.{literal, spanOf, Stands, Asks, opened, BeginsSo}
 use Rattle.tree.proofs.Bounds.{token-bounds}
 
@@ -201,10 +202,10 @@ module _ (text : List ℕ) (forms : Forms) (d : ℕ) (t : Token.Token) where
         steps = λ K. ap (λ (y : Kind). wantClass l (classKind y) (spanOf t) K) e;
       }
 
-  pub round-begins : {r : Begin} → Deeper Begin.Round r → NoHead text (t .end) → t .kind ≡ Kind.Symbol Sign.RoundOpen → So r
-  round-begins x n e =
+  pub round-begins : {r : Begin} (g : Got) → Deeper (Begin.Round g) r → Gets text (t .end) g → NoHead text (t .end) → t .kind ≡ Kind.Symbol Sign.RoundOpen → So r
+  round-begins g x k n e =
       let o = opens-round e (λ h end w. absurd (n .none h end w)) in
-      either _ x (λ h. too-deep o h) (λ h. record { from = λ y. tt; begun = λ K at a. (goes-in o h K at a, n) })
+      either _ x (λ h. too-deep o h) (λ h. record { from = λ y. k; begun = λ K at a. (goes-in o h K at a, n) })
 
   -- one place has one head
   head-same : {h j : Head} {p q : ℕ} → HeadHere text (t .end) h p → HeadHere text (t .end) j q → h ≡ j

@@ -158,7 +158,7 @@ module _ (t : Token.Token) (lent left : List ℕ) (index parent : ℕ) where
               shape-is = v .shape-is ∙ sym (says .shape-is);
               bare = λ g x. (v .bare g (sym (says .shape-is) ∙ x), refl);
               count-is = sym (ap length (v .nodes-are parent index));
-              written = λ faultless.
+              written =
                   subst (λ (ns : List Nodes.Node). Written lent left index ns) (sym (v .nodes-are parent index))
                   (written-node node
                   (told-put {e = alone r} {n = node}

@@ -30,7 +30,7 @@ use Rattle.tree.specs.declared.head.Headed.{Headed}
 use Rattle.tree.specs.declared.head.Headed.the-variants as Headed
 use Rattle.tree.specs.declared.level.Collection.{Collection}
 use Rattle.tree.specs.declared.level.Collection.the-variants as Collection
-use Rattle.tree.specs.Looks.{Gets, HeadHere, NoHead, Heads, Collects, IsHeadWord, ClosesAt, isClose}
+use Rattle.tree.specs.Looks.{Gets, HeadHere, NoHead, Heads, Collects, IsHeadWord, isClose}
 
 -- ---- levels
 
@@ -154,12 +154,12 @@ module _ (text : List ℕ) (at : ℕ) where
   pub headed-at : {r : Headed} {h : Head} {end : ℕ} → r ≡ Headed.At h end → Heads text at r → HeadHere text at h end
   headed-at e x = subst (λ (y : Headed). Heads text at y) e x
 
-  pub headed-none : {r : Headed} → r ≡ Headed.Nothing → Heads text at r → NoHead text at
-  headed-none e x = subst (λ (y : Headed). Heads text at y) e x
+  pub headed-other : {r : Headed} {g : Got} → r ≡ Headed.Other g → Heads text at r → Gets text at g × NoHead text at
+  headed-other e x = subst (λ (y : Headed). Heads text at y) e x
 
 -- ---- `)`
 
-close-class : (k : Class) → isClose k ≡ true → k ≡ Tokens.mark Tokens.roundClose
+pub close-class : (k : Class) → isClose k ≡ true → k ≡ Tokens.mark Tokens.roundClose
 close-class (Tokens.atom a) e = absurd (false≢true e)
 close-class (Tokens.text w) e = absurd (false≢true e)
 close-class Tokens.names e = absurd (false≢true e)
@@ -176,14 +176,3 @@ close-class (Tokens.mark Tokens.leftArrow) e = absurd (false≢true e)
 close-class (Tokens.mark Tokens.dots) e = absurd (false≢true e)
 close-class (Tokens.mark (Tokens.star a c)) e = absurd (false≢true e)
 close-class Tokens.later e = absurd (false≢true e)
-
-pub none-closes : (text : List ℕ) (at : ℕ) (g : Got) {n q : ℕ} → Gets text at g → g ≡ Got.Refused n q → Says false (ClosesAt text at)
-none-closes text at g x e = record { true-holds = λ y. absurd (false≢true y); holds-true = λ y. absurd (got-none text at e x (y .sign) (y .comes)) }
-
-pub closes-said : (text : List ℕ) (at : ℕ) (g : Got) (t : Token.Token) {r : Bool} → Gets text at g → g ≡ Got.Token t → r ≡ isClose (classKind (t .kind)) → Says r (ClosesAt text at)
-closes-said text at g t x e q =
-    let k = got-token text at e x in
-    record {
-      true-holds = λ y. record { sign = t; comes = k; sign-is = close-class (classKind (t .kind)) (sym q ∙ y) };
-      holds-true = λ y. q ∙ ap (λ (u : Token.Token). isClose (classKind (u .kind))) (pick text k (y .comes)) ∙ ap isClose (y .sign-is);
-    }

@@ -247,7 +247,7 @@ module _ (text : List ℕ) where
                   shape-is = refl;
                   bare = λ g x. let z : _≡_ {A = ℕ} 0 1 = cc in absurd (omega arith);
                   count-is = refl;
-                  written = λ faultless.
+                  written =
                       written-node node
                       (told-put {e = named end} {n = node}
                       (record {

@@ -28,13 +28,13 @@ use Rattle.grammar.specs.Nodes.{Node, nodes}
 use Rattle.grammar.proofs.Frames as Frames
 use Rattle.grammar.proofs.Frames.{Config, Stack, want, have, namesOf}
 use Rattle.grammar.proofs.Machine.{wantMark, haveClass}
+use Rattle.grammar.proofs.NodeLaws.{some-node, same-size}
 use Rattle.reading.specs.Sizes.{base}
 use Rattle.reading.specs.Tokens.{seen, openMark}
 use Rattle.reading.proofs.Rows.{pick}
 use Rattle.reading.proofs.Decide.{whole}
 use Rattle.reading.proofs.At.{At, none-here, end-here, sign-on}
 use Rattle.reading.proofs.Depth.{depth-is}
-use Rattle.reading.proofs.Same.{same-value}
 use Rattle.moves.specs.declared.Forms.{Forms}
 use Rattle.moves.specs.declared.Shape.{Shape}
 use Rattle.moves.specs.declared.Shape.the-variants as Shape
@@ -49,8 +49,9 @@ use Rattle.moves.proofs.Model.{move}
 use Rattle.moves.proofs.Means.{levelOf, given, shapeOf, frameOf, modeOf, inside, below, openOf, framed, before, children}
 use Rattle.moves.proofs.Effects.{headBare, nested, opening, openingFrame, held, Does, Begins, Asked}
 use Rattle.moves.proofs.Does.{does}
-use Rattle.table.specs.Over.{Written}
+use Rattle.table.specs.Over.{Written, Raised, Reserved}
 use Rattle.table.proofs.Written.{written-nothing, written-more}
+use Rattle.table.proofs.Raised.{raised-value, raised-length, reserved-written, reserved-length}
 use Rattle.tree.specs.declared.answer.Read.{Read}
 use Rattle.tree.specs.declared.answer.Read.the-variants as Read
 use Rattle.tree.specs.declared.answer.Got.{Got}
@@ -60,12 +61,12 @@ use Rattle.tree.specs.declared.begin.Begin.the-variants as Begin
 use Rattle.tree.specs.declared.bracket.State as State
 use Rattle.tree.specs.declared.bracket.Turn.{Turn}
 use Rattle.tree.specs.declared.bracket.Turn.the-variants as Turn
-use Rattle.tree.specs.Looks.{Gets, NotNext, NoHead, HeadHere, noMark, ClosesAt, handedOn}
+use Rattle.tree.specs.Looks.{Gets, NotNext, NoHead, HeadHere, noMark, isClose, handedOn}
 use Rattle.tree.specs.Readers
-use Rattle.tree.specs.Readers.{spanOf, literal, opened, Fit, Sized, Inner, From, Turned, Born, Refuses, Stands, Faulty, Faultless, Stops, Asks, IsValue, Outcome, Reads, Entered, Begun, BeginsSo, NoGroup, Holds, Turns, Bore, Member, Bracketed, IsGroup, Grouped, Group, Rounded, entering, signs, Ends, Alone, Slim, Literal, Nesting, Taken}
+use Rattle.tree.specs.Readers.{spanOf, literal, opened, Fit, Sized, Inner, From, Turned, Born, Refuses, Stands, Faulty, Asks, IsValue, Outcome, Reads, Entered, Begun, BeginsSo, Holds, Turns, Bore, Member, Bracketed, Rounded, entering, signs, Ends, Alone, Slim, Literal, Nesting, Taken}
 use Rattle.tree.specs.Turning.{Narrow, Outer}
 use Rattle.tree.proofs.Bounds.{token-bounds}
-use Rattle.tree.proofs.Looking.{got-token}
+use Rattle.tree.proofs.Looking.{got-token, close-class}
 use Rattle.tree.proofs.Turns.{isBare}
 
 pub not-false : (b : Bool) → not b ≡ false → b ≡ true
@@ -146,6 +147,10 @@ signs-told Move.Wrong x = refl
 mark-not : (k : Class) (m : Mark) → noMark k ≡ true → k ≡ Tokens.mark m → ⊥
 mark-not k m e q = false≢true (sym (ap noMark q) ∙ e)
 
+-- behind the first value of a bracket, written as if in a group and then moved
+abbrev pub behindFirst : ℕ → ℕ → ℕ → ℕ → Shape → State.State
+behindFirst d index end n shape = record { mode = Mode.Have (Frame.Round Round.Opened) shape; at = end; deep = d + 1; nodes = n; last = index + 1 }
+
 module _ (text : List ℕ) (forms : Forms) where
   -- what the token before a value leaves open is open behind it
   same-depth : {d e p q : ℕ} {v : Value} {K : Stack} → Stands text forms d p (want K) → Stands text forms e q (have v K) → e ≡ d
@@ -185,8 +190,8 @@ module _ (text : List ℕ) (forms : Forms) where
       pub value-names : (r : Read) → b ≡ Begin.Names → Nesting text t lent left index parent r → Reads text forms d t lent left index parent r
       value-names r e l = record { sized = l .sized; outcome = λ K at a. l .outcome forms K d at a (begun-as Begin.Names e K at a) }
 
-      pub value-round : (r : Read) → b ≡ Begin.Round → Rounded text forms d t lent left index parent r → Reads text forms d t lent left index parent r
-      value-round r e l = record { sized = l .sized; outcome = λ K at a. let z = begun-as Begin.Round e K at a in l .outcome K (z .0) (z .1) }
+      pub value-round : (g : Got) (r : Read) → b ≡ Begin.Round g → Rounded text forms d t lent left index parent r → Reads text forms d t lent left index parent r
+      value-round g r e l = record { sized = l .sized; outcome = λ K at a. let z = begun-as (Begin.Round g) e K at a in l .outcome K (z .0) (z .1) }
 
       pub value-refused : {n q : ℕ} → b ≡ Begin.Refused n q → Reads text forms d t lent left index parent (Read.Refused n q)
       value-refused {n} {q} e = record { sized = tt; outcome = λ K at a. begun-as (Begin.Refused n q) e K at a }
@@ -201,30 +206,51 @@ module _ (text : List ℕ) (forms : Forms) where
             open-is = g .open-is;
             no-head = λ y. absurd (clash y (unheld-head (g .config) (g .no-value) (g .within)));
             no-names = λ y. absurd (clash y (unheld-names (g .config) (g .no-value) (g .within)));
-            fresh = λ y. absurd (clash y (g .no-first));
             unread = λ y. absurd (clash y (g .no-first));
             no-group = λ y. absurd (clash y (g .no-first));
             length-is = refl;
             count-is = ap (λ (ns : List Node). length ns) (sym (g .no-member index));
             last-is = λ y. absurd (clash y (g .no-value));
-            written = λ z. subst (λ (ns : List Node). Written lent lent (index + 1) ns) (sym (g .no-member index)) written-nothing;
+            written = subst (λ (ns : List Node). Written lent lent (index + 1) ns) (sym (g .no-member index)) written-nothing;
           }
 
-      pub value-bracket : {mode : Mode} {at : ℕ} (r : Read) → b ≡ Begin.Bracket mode at → Bracketed text forms t (entering mode at d index) lent left index parent r →
+      pub value-bracket : {mode : Mode} {at : ℕ} (s : State.State) (r : Read) → b ≡ Begin.Bracket mode at → s ≡ entering mode at d index → Bracketed text forms t s lent left index parent r →
           Reads text forms d t lent left index parent r
-      value-bracket {mode} {at} r e l =
-          record { sized = l .sized; outcome = λ K p a. let g = begun-as (Begin.Bracket mode at) e K p a in l .outcome K (g .config) (entered-holds g) }
+      value-bracket {mode} {at} s r e i l =
+          record {
+            sized = l .sized;
+            outcome = λ K p a.
+                let g = begun-as (Begin.Bracket mode at) e K p a in
+                l .outcome lent K (g .config) (subst (λ (x : State.State). Holds text forms t lent lent index K (g .config) x) (sym i) (entered-holds g));
+          }
 
-    -- ---- `(`
+  -- ---- `(`
 
-    pub round-group : {words : ℕ} {g : Bool} (r : Read) → Grouped text forms d words t g → g ≡ true → Group text forms d t lent left index parent r →
-        Rounded text forms d t lent left index parent r
-    round-group r x e l = record { sized = l .sized; outcome = λ K a n. l .outcome K a (x .yes K a e) }
+  -- the bracket's own node takes the slot that was left to it
+  reserved-outcome : (K : Stack) (t : Token.Token) {lent spare : List ℕ} (left : List ℕ) {index : ℕ} (parent : ℕ) (z : Read) → Reserved lent spare index →
+      Outcome text forms K t spare left index parent z → Outcome text forms K t lent left index parent z
+  reserved-outcome K t left {index} parent (Read.Value end n shape) r o =
+      record {
+        tree = o .tree;
+        depth = o .depth;
+        stands = o .stands;
+        stops = o .stops;
+        shape-is = o .shape-is;
+        bare = o .bare;
+        count-is = o .count-is;
+        written = reserved-written r (some-node (o .tree) parent Nodes.root index) (o .written);
+      }
+  reserved-outcome K t left parent (Read.Refused n q) r o = o
 
-    opened-holds : {words : ℕ} {g : Bool} {K : Stack} → Grouped text forms d words t g → g ≡ false → words ≡ length lent →
-        Stands text forms (suc d) (t .end) (want (opened text forms t K)) → NoHead text (t .end) →
+  module _ (d : ℕ) (t : Token.Token) (lent : List ℕ) (index parent : ℕ) where
+    pub round-missing : {n q : ℕ} {left : List ℕ} (g : Got) (h : Read) → Gets text (t .end) g → g ≡ Got.Refused n q → h ≡ handedOn g → Rounded text forms d t lent left index parent h
+    round-missing {left = left} g h x e y =
+        subst (Rounded text forms d t lent left index parent) (sym (handed-refusal g e y)) (record { sized = tt; outcome = λ K a n. refused-here g a refl x e })
+
+    opened-holds : {K : Stack} {u : Token.Token} → Comes text (t .end) (Next.Token u) → noMark (classKind (u .kind)) ≡ false →
+        Stands text forms (suc d) (t .end) (want (opened text forms t K)) →
         Holds text forms t lent lent index K (want (opened text forms t K)) (entering (Mode.Want (Frame.Round Round.Opened)) (t .end) d index)
-    opened-holds {words} {g} {K} x e w a n =
+    opened-holds {K} {u} k m a =
         record {
           stands = subst (λ (y : ℕ). Stands text forms y (t .end) (want (opened text forms t K))) (omega arith) a;
           within = refl;
@@ -233,118 +259,113 @@ module _ (text : List ℕ) (forms : Forms) where
           open-is = refl;
           no-head = λ y. absurd (false≢true y);
           no-names = λ y. absurd (false≢true y);
-          fresh = λ y z. n;
-          unread = λ y z h q. x .no K a e (omega (arith, h, w)) q;
+          unread = λ y z w k'. ap (λ (x : Token.Token). noMark (classKind (x .kind))) (pick text k' k) ∙ m;
           no-group = λ y z. absurd (false≢true z);
           length-is = refl;
           count-is = refl;
           last-is = λ y. absurd (false≢true y);
-          written = λ z. written-nothing;
+          written = written-nothing;
         }
 
-    pub round-bracket : {words : ℕ} {g : Bool} (r : Read) → Grouped text forms d words t g → g ≡ false → words ≡ length lent →
-        Bracketed text forms t (entering (Mode.Want (Frame.Round Round.Opened)) (t .end) d index) lent left index parent r → Rounded text forms d t lent left index parent r
-    round-bracket r x e w l = record { sized = l .sized; outcome = λ K a n. l .outcome K (want (opened text forms t K)) (opened-holds x e w a n) }
-
-  -- ---- whether a group stands here
-
-  module _ (d words : ℕ) (t : Token.Token) where
-    pub grouped-nowhere : words ≡ 0 → Grouped text forms d words t false
-    grouped-nowhere e = record { yes = λ K a q. absurd (false≢true q); no = λ K a q w. absurd (omega (arith, e, w)) }
-
-    pub grouped-missing : {n q : ℕ} (g : Got) → Gets text (t .end) g → g ≡ Got.Refused n q → Grouped text forms d words t false
-    grouped-missing {n} {q} g x e =
-        record { yes = λ K a y. absurd (false≢true y); no = λ K a y w f. absurd (f n q (refused-here g a refl x e)) }
-
-    pub grouped-sign : {u : Token.Token} (g : Got) → Gets text (t .end) g → g ≡ Got.Token u → noMark (classKind (u .kind)) ≡ false → Grouped text forms d words t false
-    grouped-sign {u} g x e m =
+    -- no value begins behind it
+    pub round-bracket : {u : Token.Token} {left : List ℕ} (s : State.State) (r : Read) → Comes text (t .end) (Next.Token u) → noMark (classKind (u .kind)) ≡ false →
+        s ≡ entering (Mode.Want (Frame.Round Round.Opened)) (t .end) d index → Bracketed text forms t s lent left index parent r → Rounded text forms d t lent left index parent r
+    round-bracket s r k m i l =
         record {
-          yes = λ K a y. absurd (false≢true y);
-          no = λ K a y w f v k z. absurd (clash z (ap (λ (y : Token.Token). noMark (classKind (y .kind))) (pick text k (got-token text (t .end) e x)) ∙ m));
+          sized = l .sized;
+          outcome = λ K a n.
+              l .outcome lent K (want (opened text forms t K))
+              (subst (λ (x : State.State). Holds text forms t lent lent index K (want (opened text forms t K)) x) (sym i) (opened-holds k m a));
         }
 
-    -- behind `(`, before a token that begins a value
-    asks-first : {K : Stack} {u : Token.Token} → Stands text forms (suc d) (t .end) (want (opened text forms t K)) → Comes text (t .end) (Next.Token u) →
-        noMark (classKind (u .kind)) ≡ true → Asks text forms (opened text forms t K) (d + 1) (t .end) u
-    asks-first {K} {u} a k e =
-        record {
-          stands = subst (λ (y : ℕ). Stands text forms y (t .end) (want (opened text forms t K))) (omega arith) a;
-          comes = k;
-          no-sign = λ m q. absurd (mark-not (classKind (u .kind)) m e q);
-        }
+    -- a value begins behind it
+    module _ {u : Token.Token} {mid : List ℕ} (k : Comes text (t .end) (Next.Token u)) (m : noMark (classKind (u .kind)) ≡ true) (r : Read)
+        (y : Reads text forms (d + 1) u lent mid index parent r) where
+      first-read : (z : Read) → r ≡ z → (K : Stack) → Stands text forms (suc d) (t .end) (want (opened text forms t K)) → Outcome text forms (opened text forms t K) u lent mid index parent z
+      first-read z q K a =
+          subst (λ (w : Read). Outcome text forms (opened text forms t K) u lent mid index parent w) q
+          (y .outcome (opened text forms t K) (t .end)
+          (record {
+            stands = subst (λ (x : ℕ). Stands text forms x (t .end) (want (opened text forms t K))) (omega arith) a;
+            comes = k;
+            no-sign = λ x e. absurd (mark-not (classKind (u .kind)) x m e);
+          }))
 
-    module _ {u : Token.Token} {lent left : List ℕ} {index parent : ℕ} (g : Got) (x : Gets text (t .end) g) (e : g ≡ Got.Token u) (m : noMark (classKind (u .kind)) ≡ true)
-        (r : Read) (y : Reads text forms (d + 1) u lent left index parent r) where
-      first-read : (z : Read) → r ≡ z → (K : Stack) → Stands text forms (suc d) (t .end) (want (opened text forms t K)) → Outcome text forms (opened text forms t K) u lent left index parent z
-      first-read z q K a = subst (λ (w : Read). Outcome text forms (opened text forms t K) u lent left index parent w) q (y .outcome (opened text forms t K) (t .end) (asks-first a (got-token text (t .end) e x) m))
+      pub first-refused : {n p : ℕ} {left : List ℕ} → r ≡ Read.Refused n p → Rounded text forms d t lent left index parent r
+      first-refused {n} {p} {left} q =
+          subst (Rounded text forms d t lent left index parent) (sym q) (record { sized = tt; outcome = λ K a i. first-read (Read.Refused n p) q K a })
 
-      pub grouped-refused : {n p : ℕ} → r ≡ Read.Refused n p → Grouped text forms d words t false
-      grouped-refused {n} {p} q =
-          record { yes = λ K a z. absurd (false≢true z); no = λ K a z w f. absurd (f n p (first-read (Read.Refused n p) q K a)) }
+      module _ {end n : ℕ} {shape : Shape} (q : r ≡ Read.Value end n shape) (h : Got) (x : Gets text end h) where
+        pub first-open : {i p : ℕ} {left : List ℕ} (z : Read) → h ≡ Got.Refused i p → z ≡ handedOn h → Rounded text forms d t lent left index parent z
+        first-open {left = left} z e y' =
+            subst (Rounded text forms d t lent left index parent) (sym (handed-refusal h e y'))
+            (record { sized = tt; outcome = λ K a i. refused-here h (first-read (Read.Value end n shape) q K a .stands) refl x e })
 
-      pub grouped-said : {end n : ℕ} {shape : Shape} {c : Bool} → r ≡ Read.Value end n shape → Says c (ClosesAt text end) → Grouped text forms d words t c
-      grouped-said {end} {n} {shape} {c} q s =
-          record {
-            yes = λ K a z.
-                let v = first-read (Read.Value end n shape) q K a in
-                let o = s .true-holds z in
-                record { first = u; first-comes = got-token text (t .end) e x; first-is = m; tree = v .tree; depth = v .depth; end = end; stands = v .stands; stops = v .stops; sign = o .sign; comes = o .comes; sign-is = o .sign-is };
-            no = λ K a z w f i k o.
-                let v = first-read (Read.Value end n shape) q K a in
-                record {
-                  none = λ j h p b l i' k' m'.
-                      let same = same-value base (levelOf forms) text a (v .stands) b (v .stops) l in
-                      clash (s .holds-true (record { sign = i'; comes = subst (λ (x : ℕ). Comes text x (Next.Token i')) (sym (same .1)) k'; sign-is = m' })) z;
-                };
-          }
-
-    -- ---- a group
-
-    pub group-missing : {lent left : List ℕ} {index parent n q : ℕ} (g : Got) (h : Read) → Gets text (t .end) g → g ≡ Got.Refused n q → h ≡ handedOn g → Group text forms d t lent left index parent h
-    group-missing {lent} {left} {index} {parent} g h x e y =
-        subst (Group text forms d t lent left index parent) (sym (handed-refusal g e y)) (record { sized = tt; outcome = λ K a z. refused-here g a refl x e })
-
-    module _ {u : Token.Token} {lent left : List ℕ} {index parent : ℕ} (g : Got) (x : Gets text (t .end) g) (e : g ≡ Got.Token u) (r : Read) (y : Reads text forms (d + 1) u lent left index parent r) where
-      inner-read : (z : Read) → r ≡ z → (K : Stack) → Stands text forms (suc d) (t .end) (want (opened text forms t K)) → IsGroup text forms K t → Outcome text forms (opened text forms t K) u lent left index parent z
-      inner-read z q K a i =
-          let k = got-token text (t .end) e x in
-          let m = ap (λ (w : Token.Token). noMark (classKind (w .kind))) (pick text k (i .first-comes)) ∙ i .first-is in
-          subst (λ (w : Read). Outcome text forms (opened text forms t K) u lent left index parent w) q (y .outcome (opened text forms t K) (t .end) (asks-first a k m))
-
-      pub group-refused : {n p : ℕ} → r ≡ Read.Refused n p → Group text forms d t lent left index parent r
-      group-refused {n} {p} q =
-          subst (Group text forms d t lent left index parent) (sym q) (record { sized = tt; outcome = λ K a i. inner-read (Read.Refused n p) q K a i })
-
-      module _ {end n : ℕ} {shape : Shape} (q : r ≡ Read.Value end n shape) (h : Got) (x' : Gets text end h) where
-        pub group-open : {m p : ℕ} (z : Read) → h ≡ Got.Refused m p → z ≡ handedOn h → Group text forms d t lent left index parent z
-        group-open z e' y' =
-            subst (Group text forms d t lent left index parent) (sym (handed-refusal h e' y'))
-            (record { sized = tt; outcome = λ K a i. refused-here h (inner-read (Read.Value end n shape) q K a i .stands) refl x' e' })
-
-        pub group-read : {w : Token.Token} → t .first < t .end → h ≡ Got.Token w → Group text forms d t lent left index parent (Read.Value (w .end) n Shape.Other)
-        group-read {w} z e' =
+        -- and `)` behind the value: a group
+        pub first-group : {w : Token.Token} → t .first < t .end → h ≡ Got.Token w → isClose (classKind (w .kind)) ≡ true → Rounded text forms d t lent mid index parent (Read.Value (w .end) n Shape.Other)
+        first-group {w} z e c =
+            let k' = got-token text end e x in
+            let i = close-class (classKind (w .kind)) c in
             record {
               sized =
-                  let o = token-bounds text (got-token text (t .end) e x) in
-                  let c = token-bounds text (got-token text end e' x') in
+                  let o = token-bounds text k in
+                  let p = token-bounds text k' in
                   let v = value-sized y q in
-                  (omega (arith, z, o .0, v .0, c .0, c .1), omega (arith, o .0, o .1, v .1, c .0, c .1), c .2);
-              outcome = λ K a i.
-                  let v = inner-read (Read.Value end n shape) q K a i in
-                  let same = same-value base (levelOf forms) text a (v .stands) (i .stands) (v .stops) (i .stops) in
-                  let k = got-token text end e' x' in
-                  let is : w ≡ i .sign = pick text k (subst (λ (p : ℕ). Comes text p (Next.Token (i .sign))) (sym (same .1)) (i .comes)) in
-                  let m : classKind (w .kind) ≡ Tokens.mark Tokens.roundClose = ap (λ (p : Token.Token). classKind (p .kind)) is ∙ i .sign-is in
+                  (omega (arith, z, o .0, v .0, p .0, p .1), omega (arith, o .0, o .1, v .1, p .0, p .1), p .2);
+              outcome = λ K a f.
+                  let v = first-read (Read.Value end n shape) q K a in
                   record {
                     tree = Tree.plain (Tree.group (spanOf t) (v .tree) (spanOf w));
                     depth = openMark Tokens.roundClose (v .depth);
-                    stands = sign-on base (levelOf forms) text (v .stands) w k Tokens.roundClose m (ap (λ (c : Class). haveClass (levelOf forms) c (v .tree) (spanOf w) (opened text forms t K)) m);
+                    stands = sign-on base (levelOf forms) text (v .stands) w k' Tokens.roundClose i (ap (λ (p : Class). haveClass (levelOf forms) p (v .tree) (spanOf w) (opened text forms t K)) i);
                     stops = λ p p' p''. refl;
                     shape-is = refl;
                     bare = λ p p'. absurd (false≢true (ap isBare p'));
                     count-is = v .count-is;
-                    written = λ p. v .written p;
+                    written = v .written;
                   };
+            }
+
+        -- no `)` behind it: the value is a bracket's first
+        first-holds : {K : Stack} {w : Token.Token} {spare up : List ℕ} → Stands text forms (suc d) (t .end) (want (opened text forms t K)) → NoHead text (t .end) →
+            h ≡ Got.Token w → isClose (classKind (w .kind)) ≡ false → (v : IsValue text forms (opened text forms t K) u end n shape lent mid index parent) →
+            length up ≡ length spare → Written spare up (index + 1) (nodes (v .tree) index Nodes.root (index + 1)) →
+            Holds text forms t spare up index K (have (v .tree) (opened text forms t K)) (behindFirst d index end n shape)
+        first-holds {K} {w} {spare} {up} a f e c v len wr =
+            record {
+              stands = subst (λ (z : ℕ). Stands text forms z end (have (v .tree) (opened text forms t K))) (same-depth a (v .stands) ∙ omega arith) (v .stands);
+              within = refl;
+              mode-is = ap (λ (z : Shape). Mode.Have (Frame.Round Round.Opened) z) (v .shape-is);
+              stack-is = refl;
+              open-is = refl;
+              no-head = λ b. record {
+                none = λ p k' z.
+                    let o = bare-first (v .tree) (Frames.inRound (Frames.opened (spanOf t))) K b in
+                    let j = v .bare (o .1 .0) (sym (v .shape-is) ∙ o .1 .1) in
+                    f .none (o .1 .0) (p .end)
+                    (record { word = u; comes = k; word-is = j .0; sign = p; then = subst (λ (i : ℕ). Comes text i (Next.Token p)) (j .1) k'; sign-is = z; end-is = refl });
+              };
+              no-names = λ b. record { none = λ p k' z. clash b (ap given (v .stops p k' z)) };
+              unread = λ b b'. absurd (false≢true (sym b'));
+              no-group = λ b b' p k'. ap (λ (z : Token.Token). isClose (classKind (z .kind))) (pick text k' (got-token text end e x)) ∙ c;
+              length-is = len;
+              count-is = v .count-is ∙ same-size (v .tree) parent index Nodes.root Nodes.root index (index + 1 + 0);
+              last-is = λ b. omega arith;
+              written = subst (λ (i : ℕ). Written spare up (index + 1) (nodes (v .tree) index Nodes.root i)) (omega arith) wr;
+            }
+
+        pub first-bracket : {w : Token.Token} {up left : List ℕ} (z : Read) → Fit text t index parent → h ≡ Got.Token w → isClose (classKind (w .kind)) ≡ false → length mid ≡ length lent →
+            Raised mid up index n → Bracketed text forms t (behindFirst d index end n shape) up left index parent z → Rounded text forms d t lent left index parent z
+        first-bracket {w} {up} {left} z i e c len raised l =
+            record {
+              sized = l .sized;
+              outcome = λ K a f.
+                  let v = first-read (Read.Value end n shape) q K a in
+                  let o = token-bounds text k in
+                  let p = value-sized y q in
+                  let s = raised-value (v .tree) (v .written) len (subst (λ (j : ℕ). Raised mid up index j) (v .count-is) raised) (i .parent-fits)
+                  (omega (arith, sym (v .count-is), i .index-fits, i .some-byte, i .short, o .0, p .0, p .2)) in
+                  reserved-outcome K t left parent z (s .1) (l .outcome (s .0) K (have (v .tree) (opened text forms t K)) (first-holds a f e c v (raised-length raised ∙ len ∙ sym (reserved-length (s .1))) (s .2)));
             }
 
   -- ---- a value in a bracket
@@ -361,24 +382,21 @@ module _ (text : List ℕ) (forms : Forms) where
         mode-is = λ i. Mode.Have (fr i) (v .shape-is i);
         stack-is = h .stack-is;
         open-is = h .open-is;
-        no-head = λ e. record {
-          none = λ u k' q.
-              let y = bare-first (v .tree) top S e in
-              let z = v .bare (y .1 .0) (sym (v .shape-is) ∙ y .1 .1) in
-              h .fresh (y .0) refl .none (y .1 .0) (u .end)
-              (record { word = t; comes = k; word-is = z .0; sign = u; then = subst (λ (x : ℕ). Comes text x (Next.Token u)) (z .1) k'; sign-is = q; end-is = refl });
-        };
+        no-head = λ e. absurd (not-first (bare-first (v .tree) top S e .0));
         no-names = λ e. record { none = λ u k' q. clash e (ap given (v .stops u k' q)) };
-        fresh = λ e e'. absurd (false≢true (sym e'));
         unread = λ e e'. absurd (false≢true (sym e'));
-        no-group = λ e e' w f. h .unread e refl w f t k (no-mark (classKind (t .kind)) n);
+        no-group = λ e. absurd (not-first e);
         length-is = len ∙ h .length-is;
         count-is = omega (arith, size, v .count-is ∙ ap (λ (x : ℕ). length (nodes (v .tree) index Nodes.root (index + 1 + x))) size, length-append (framed top index) (nodes (v .tree) index Nodes.root (index + 1 + length (framed top index))));
         last-is = λ e. ap (λ (x : ℕ). index + 1 + x) size;
-        written = λ f. written-more (subst (λ (ns : List Node). Written lent from (index + 1) ns) (append-nil (framed top index)) (h .written f)) (h .length-is)
-            (subst (λ (x : ℕ). Written from left (index + 1 + x) (nodes (v .tree) index Nodes.root (index + 1 + x))) size (v .written f));
+        written = written-more (subst (λ (ns : List Node). Written lent from (index + 1) ns) (append-nil (framed top index)) (h .written)) (h .length-is)
+            (subst (λ (x : ℕ). Written from left (index + 1 + x) (nodes (v .tree) index Nodes.root (index + 1 + x))) size (v .written));
       }
     where
+      -- the first value behind `(` is read elsewhere
+      not-first : openingFrame top ≡ true → ⊥
+      not-first e = clash (no-mark (classKind (t .kind)) n) (h .unread e refl t k)
+
       size : s .nodes ≡ length (framed top index)
       size = h .count-is ∙ ap (λ (ns : List Node). length ns) (append-nil (framed top index))
 
@@ -474,16 +492,27 @@ inner-fit {text} f h k =
 pub fit-slim : {text : List ℕ} {t : Token.Token} {index parent : ℕ} → Fit text t index parent → Slim t index parent
 fit-slim f = record { some-byte = f .some-byte; short = omega (arith, f .inside-text, f .short); index-fits = f .index-fits; parent-fits = f .parent-fits }
 
-pub fit-self : {text : List ℕ} {t : Token.Token} {index parent : ℕ} → Fit text t index parent → Fit text t index index
-fit-self f = record { short = f .short; some-byte = f .some-byte; inside-text = f .inside-text; index-fits = f .index-fits; parent-fits = omega arith }
+pub enters-at : {mode : Mode} {at index : ℕ} (d : ℕ) (s : State.State) → s ≡ entering mode at d index → s .at ≡ at
+enters-at d s e = ap (λ (x : State.State). x .at) e
 
-pub start-inner : {text : List ℕ} {t : Token.Token} {index parent d at : ℕ} {mode : Mode} → Fit text t index parent → d ≤ t .first → (t .end ≤ at) × (at ≤ length text) →
-    Inner text t (entering mode at d index) index parent
-start-inner f h (a, b) = record { fit = f; after = omega (arith, a); deep-fits = omega (arith, h, f .some-byte, a); inside-text = b }
+pub start-inner : {text : List ℕ} {t : Token.Token} {index parent d at : ℕ} {mode : Mode} (s : State.State) → s ≡ entering mode at d index → Fit text t index parent → d ≤ t .first →
+    (t .end ≤ at) × (at ≤ length text) → Inner text t s index parent
+start-inner {text} {t} {index} {parent} s e f h (a, b) =
+    subst (λ (x : State.State). Inner text t x index parent) (sym e) (record { fit = f; after = omega (arith, a); deep-fits = omega (arith, h, f .some-byte, a); inside-text = b })
+
+pub first-inner : {text : List ℕ} {t u : Token.Token} {index parent d end n : ℕ} {shape : Shape} → Fit text t index parent → d ≤ t .first → Comes text (t .end) (Next.Token u) →
+    (u .first + n ≤ end) × (u .end ≤ end) × (end ≤ length text) → Inner text t (behindFirst d index end n shape) index parent
+first-inner {text} f h k (a, b, c) =
+    let y = token-bounds text k in
+    record { fit = f; after = omega (arith, y .0, a); deep-fits = omega (arith, h, f .some-byte, y .0, y .1, b); inside-text = c }
 
 pub begin-from : {text : List ℕ} {forms : Forms} {d at index parent : ℕ} {t : Token.Token} {mode : Mode} (b : Begin) → Fit text t index parent → BeginsSo text forms d t b → b ≡ Begin.Bracket mode at →
     (t .end ≤ at) × (at ≤ length text)
 begin-from {text} {t = t} b f x e = subst (λ (y : Begin). From text t y) e (x .from (f .inside-text))
+
+pub begin-got : {text : List ℕ} {forms : Forms} {d index parent : ℕ} {t : Token.Token} {g : Got} (b : Begin) → Fit text t index parent → BeginsSo text forms d t b → b ≡ Begin.Round g →
+    Gets text (t .end) g
+begin-got {text} {t = t} b f x e = subst (λ (y : Begin). From text t y) e (x .from (f .inside-text))
 
 pub turn-narrow : {text : List ℕ} {opener t : Token.Token} {s : State.State} {index parent : ℕ} → Inner text opener s index parent → Comes text (s .at) (Next.Token t) → Narrow s t index
 turn-narrow {text} i k =
@@ -509,13 +538,13 @@ pub byte-falls : (text : List ℕ) (r : ℕ) {a b q t : ℕ} → leftAt text a r
 byte-falls text r e h k l = omega (arith, e, h, k, l)
 
 -- the loop over a bracket's members: from the state in which it was entered to where it stands
-pub record Going (text : List ℕ) (forms : Forms) (opener : Token.Token) (from : ℕ) (lent : List ℕ) (index parent : ℕ) (entered : State.State) (left : List ℕ) (s : State.State) : Type 0 where
+pub record Going (text : List ℕ) (forms : Forms) (opener : Token.Token) (from : List ℕ) (index parent : ℕ) (entered : State.State) (left : List ℕ) (s : State.State) : Type 0 where
   pub inner : Inner text opener s index parent
-  pub onward : from ≤ s .at
-  pub length-is : length left ≡ length lent
-  pub holds : (K : Stack) (c : Config) → Holds text forms opener lent lent index K c entered → (d : Config) × Holds text forms opener lent left index K d s
+  pub onward : entered .at ≤ s .at
+  pub length-is : length left ≡ length from
+  pub holds : (lent : List ℕ) (K : Stack) (c : Config) → Holds text forms opener lent from index K c entered → (d : Config) × Holds text forms opener lent left index K d s
 
-module _ {text : List ℕ} {forms : Forms} {opener : Token.Token} {from : ℕ} {lent : List ℕ} {index parent : ℕ} {entered s : State.State} {left last : List ℕ} (g : Going text forms opener from lent index parent entered left s)
+module _ {text : List ℕ} {forms : Forms} {opener : Token.Token} {from : List ℕ} {index parent : ℕ} {entered s : State.State} {left last : List ℕ} (g : Going text forms opener from index parent entered left s)
     (r : Turn) (m : Member text forms opener s left last index parent r) where
   turned-as : (z : Turn) → r ≡ z → Turned text opener s z
   turned-as z e = subst (λ (y : Turn). Turned text opener s y) e (m .turned)
@@ -523,22 +552,22 @@ module _ {text : List ℕ} {forms : Forms} {opener : Token.Token} {from : ℕ} {
   pub going-less : {n : State.State} → r ≡ Turn.On n → length text - n .at < length text - s .at
   going-less {n} e = let z = turned-as (Turn.On n) e in omega (arith, z .2, z .3)
 
-  pub going-on : {n : State.State} → r ≡ Turn.On n → length last ≡ length left → Going text forms opener from lent index parent entered last n
+  pub going-on : {n : State.State} → r ≡ Turn.On n → length last ≡ length left → Going text forms opener from index parent entered last n
   going-on {n} e l =
       let z = turned-as (Turn.On n) e in
       record {
         inner = record { fit = g .inner .fit; after = z .0; deep-fits = z .1; inside-text = z .3 };
         onward = omega (arith, g .onward, z .2);
         length-is = l ∙ g .length-is;
-        holds = λ K c h. let x = g .holds K c h in subst (λ (y : Turn). Turns text forms opener lent last index parent K y) e (m .turns lent K (x .0) (x .1));
+        holds = λ lent K c h. let x = g .holds lent K c h in subst (λ (y : Turn). Turns text forms opener lent last index parent K y) e (m .turns lent K (x .0) (x .1));
       }
 
-  pub going-ends : {z : Read} → r ≡ Turn.Ended z → Bracketed text forms opener entered lent last index parent z
+  pub going-ends : {z : Read} → r ≡ Turn.Ended z → Bracketed text forms opener entered from last index parent z
   going-ends {z} e =
       record {
         sized = turned-as (Turn.Ended z) e;
-        outcome = λ K c h. let x = g .holds K c h in subst (λ (y : Turn). Turns text forms opener lent last index parent K y) e (m .turns lent K (x .0) (x .1));
+        outcome = λ lent K c h. let x = g .holds lent K c h in subst (λ (y : Turn). Turns text forms opener lent last index parent K y) e (m .turns lent K (x .0) (x .1));
       }
 
-pub going-starts : {text : List ℕ} {forms : Forms} {opener : Token.Token} {lent : List ℕ} {index parent : ℕ} {s : State.State} → Inner text opener s index parent → Going text forms opener (s .at) lent index parent s lent s
-going-starts i = record { inner = i; onward = omega arith; length-is = refl; holds = λ K c h. (c, h) }
+pub going-starts : {text : List ℕ} {forms : Forms} {opener : Token.Token} {from : List ℕ} {index parent : ℕ} {s : State.State} → Inner text opener s index parent → Going text forms opener from index parent s from s
+going-starts i = record { inner = i; onward = omega arith; length-is = refl; holds = λ lent K c h. (c, h) }

@@ -46,10 +46,10 @@ use Rattle.tree.specs.declared.answer.Read.the-variants as Read
 use Rattle.tree.specs.declared.bracket.State as State
 use Rattle.tree.specs.declared.bracket.Turn.{Turn}
 use Rattle.tree.specs.declared.bracket.Turn.the-variants as Turn
-use Rattle.tree.specs.Looks.{NotNext}
+use Rattle.tree.specs.Looks.{isClose}
 use Rattle.tree.specs.declared.leaf.Telling as Telling
 use Rattle.tree.specs.Tellings.{leafKind, leafDetail, LeafTold}
-use Rattle.tree.specs.Readers.{spanOf, opened, Ends, Taken, signs, Holds, IsValue, Outcome, Turns, Faultless, Stops}
+use Rattle.tree.specs.Readers.{spanOf, opened, Ends, Taken, signs, Holds, IsValue, Outcome, Turns}
 use Rattle.tree.proofs.Leaves.{atom-tells}
 use Rattle.tree.specs.Turning.{Narrow, Outer, behind, countEntry, closeEntry, Led, Tupled, Counted, Deepened, Shuts, Closed}
 
@@ -164,7 +164,7 @@ module _ (text : List ℕ) (forms : Forms) where
   leads-holds : {opener : Token.Token} {lent from left : List ℕ} {index d at n k : ℕ} {K : Stack} {c : Config} {s : State.State} {mode : Mode} {then : ℕ → List Node} (t : Token.Token) →
       Holds text forms opener lent from index K c s → (g : Leads (levelOf forms) c (seen t) mode then) →
       At base (levelOf forms) text d at (g .to) → length left ≡ length from → n ≡ length (then index) →
-      (Faultless text forms → Written lent left (index + 1) (then index)) →
+      Written lent left (index + 1) (then index) →
       Holds text forms opener lent left index K (g .to) (record { mode = mode; at = at; deep = d; nodes = n; last = k })
   leads-holds {lent = lent} {left = left} {index = index} t h g a e n w =
       record {
@@ -175,38 +175,12 @@ module _ (text : List ℕ) (forms : Forms) where
         open-is = g .open-is ∙ h .open-is;
         no-head = λ x. absurd (clash x (g .no-head));
         no-names = λ x. absurd (clash x (g .no-names));
-        fresh = λ x. absurd (clash x (g .no-first));
         unread = λ x. absurd (clash x (g .no-first));
         no-group = λ x. absurd (clash x (g .no-first));
         length-is = e ∙ h .length-is;
         count-is = n ∙ ap (λ (ns : List Node). length ns) (sym (g .members index));
         last-is = λ x. absurd (clash x (g .no-value));
-        written = λ f. subst (λ (ns : List Node). Written lent left (index + 1) ns) (sym (g .members index)) (w f);
-      }
-
-  -- no `::` goes on with the value
-  pub stops-here : (v : Value) {e : ℕ} → (given (namesOf v) ≡ true → NotNext text Kind.TwoColons e) → Stops text forms v e
-  stops-here v {e} n u k q = go (namesOf v) refl
-    where
-      go : (m : Option Names) → namesOf v ≡ m → namesOf v ≡ none
-      go none x = x
-      go (some y) x = absurd (n (ap given x) .none u k q)
-
-  -- ---- the end of a group: its value's nodes are written elsewhere, where nodes are written at all
-
-  grouped : {opener : Token.Token} {lent from : List ℕ} {index : ℕ} {K : Stack} {s : State.State} (t : Token.Token) (v : Value) (parent : ℕ) →
-      Holds text forms opener lent from index K (have v (opened text forms opener K)) s → Comes text (s .at) (Next.Token t) → classKind (t .kind) ≡ Tokens.mark Tokens.roundClose →
-      IsValue text forms K opener (t .end) (s .nodes) Shape.Other lent from index parent
-  grouped {opener} {lent} {from} {index} {K} {s} t v parent h k m =
-      record {
-        tree = Tree.plain (Tree.group (spanOf opener) v (spanOf t));
-        depth = pred (s .deep);
-        stands = sign-on base (levelOf forms) text (h .stands) t k Tokens.roundClose m (ap (λ (x : Class). haveClass (levelOf forms) x v (spanOf t) (opened text forms opener K)) m);
-        stops = λ x y z. refl;
-        shape-is = refl;
-        bare = λ x y. absurd (false≢true (ap isBare y));
-        count-is = h .count-is ∙ same-size v index parent Nodes.root Nodes.root _ index;
-        written = λ f. record { words-are = λ w. absurd (h .no-group refl refl (omega (arith, w, some-node v parent Nodes.root index)) f .none v (s .deep) (s .at) (h .stands) (stops-here v (λ x. h .no-names x)) t k m) };
+        written = subst (λ (ns : List Node). Written lent left (index + 1) ns) (sym (g .members index)) w;
       }
 
   module _ {opener : Token.Token} {lent from : List ℕ} {index : ℕ} {K : Stack} {c : Config} {s : State.State} (t : Token.Token)
@@ -220,7 +194,7 @@ module _ (text : List ℕ) (forms : Forms) where
           leads-holds t h g
               (subst (λ (d : ℕ). At base (levelOf forms) text d (t .end) (g .to)) (flat-depth (m .sign) (s .deep) (m .flat-is)) (sign-on base (levelOf forms) text (h .stands) t k (m .sign) (m .class-is) (g .steps)))
               e (h .count-is ∙ sym (told-length c (roleOf role) index))
-              (λ f. role-written index c role (h .written f) (h .length-is) (l .role-is) (h .last-is) u),
+              (role-written index c role (h .written) (h .length-is) (l .role-is) (h .last-is) u),
         )
 
     -- `}` of a counted collection
@@ -231,7 +205,7 @@ module _ (text : List ℕ) (forms : Forms) where
           g .to,
           leads-holds t h g (sign-on base (levelOf forms) text (h .stands) t k Tokens.curlyClose m (g .steps))
               e (h .count-is ∙ sym (told-length c (roleOf role) index))
-              (λ f. role-written index c role (h .written f) (h .length-is) (l .role-is) (h .last-is) u),
+              (role-written index c role (h .written) (h .length-is) (l .role-is) (h .last-is) u),
         )
 
     -- the comma behind `(name:value`
@@ -246,8 +220,8 @@ module _ (text : List ℕ) (forms : Forms) where
               (subst (λ (y : ℕ). At base (levelOf forms) text y (t .end) (g .to)) (flat-depth (m .sign) (s .deep) (m .flat-is)) (sign-on base (levelOf forms) text (h .stands) t k (m .sign) (m .class-is) (g .steps)))
               e
               (h .count-is ∙ omega (arith, length-append (roled Nodes.name ns) (roled Nodes.value (last c index)), length-append ns (last c index), same, roled-length Nodes.value (last c index)))
-              (λ f. written-role (roled Nodes.name ns) (last c index)
-              (written-first ns (last c index) (h .written f) (h .length-is) (d .name-is) (λ q. not-root Role.Name q refl) (x index))
+              (written-role (roled Nodes.name ns) (last c index)
+              (written-first ns (last c index) (h .written) (h .length-is) (d .name-is) (λ q. not-root Role.Name q refl) (x index))
               (d .length-is ∙ h .length-is)
               (subst (λ (y : ℕ). Assigned (d .named) left y Role.Value) (h .last-is u ∙ ap (λ (n : ℕ). index + 1 + n) (sym same)) (d .led .role-is))
               (λ q. absurd (not-root Role.Value q refl))
@@ -264,7 +238,7 @@ module _ (text : List ℕ) (forms : Forms) where
           g .to,
           leads-holds t h g
               (subst (λ (y : ℕ). At base (levelOf forms) text y (t .end) (g .to)) (omega arith) (open-on base (levelOf forms) text (h .stands) t k (ap opens m) (curly-known base (levelOf forms) text (h .stands) t m) d (g .steps)))
-              refl (h .count-is) (λ f. h .written f),
+              refl (h .count-is) (h .written),
         )
 
     -- no sign takes the token
@@ -289,7 +263,7 @@ module _ (text : List ℕ) (forms : Forms) where
               (literal-on base (levelOf forms) text (h .stands) t k (ap plain (n .class-is))
               (never-bad base (levelOf forms) text t k (ap mayBeBad (class-kind (t .kind) (n .class-is)) ∙ count-kind (n .atom) (n .is-count))) (g .steps))
               e (omega (arith, h .count-is, length-append (children c index) (node ∷ [])))
-              (λ f. written-more (h .written f) (h .length-is) (written-node node (subst (λ (x : ℕ). Put from left (index + 1 + x) node) (h .count-is) put))),
+              (written-more (h .written) (h .length-is) (written-node node (subst (λ (x : ℕ). Put from left (index + 1 + x) node) (h .count-is) put))),
         )
 
     -- the bracket's end
@@ -310,18 +284,15 @@ module _ (text : List ℕ) (forms : Forms) where
           shape-is = g .shape-is;
           bare = λ x y. absurd (false≢true (ap isBare y));
           count-is = omega (arith, h .count-is, told-length c (roleOf role) index, ap (λ (ns : List Node). length ns) (g .members parent Nodes.root index));
-          written = λ f. subst (λ (ns : List Node). Written lent left index ns) (sym (g .members parent Nodes.root index))
-              (written-front node (role-written index c role (h .written f) (h .length-is) (d .role-is) (h .last-is) u) (d .length-is ∙ h .length-is) put);
+          written = subst (λ (ns : List Node). Written lent left index ns) (sym (g .members parent Nodes.root index))
+              (written-front node (role-written index c role (h .written) (h .length-is) (d .role-is) (h .last-is) u) (d .length-is ∙ h .length-is) put);
         })
 
-    -- the end of a group
-    pub group-on : (r : Turn) (parent : ℕ) → Does (levelOf forms) c (seen t) Move.Group → r ≡ Turn.Ended (Read.Value (t .end) (s .nodes) Shape.Other) → Turns text forms opener lent from index parent K r
-    group-on r parent g e =
-        let o : g .first ≡ spanOf opener = sym (ap openOf (g .config-is)) ∙ h .open-is in
-        let q : g .stack ≡ K = sym (ap below (g .config-is)) ∙ h .stack-is in
-        let is : c ≡ have (g .value) (opened text forms opener K) = g .config-is ∙ (λ i. have (g .value) (Frames.inRound (Frames.opened (o i)) ∷ q i)) in
-        subst (Turns text forms opener lent from index parent K) (sym e)
-        (grouped t (g .value) parent (subst (λ (x : Config). Holds text forms opener lent from index K x s) is h) k (g .class-is))
+    -- no group ends here
+    pub group-never : Does (levelOf forms) c (seen t) Move.Group → ⊥
+    group-never g =
+        clash (ap isClose (g .class-is))
+        (subst (λ (x : Config). opening x ≡ true → held x ≡ true → isClose (classKind (t .kind)) ≡ false) (g .config-is) (λ p q. h .no-group p q t k) refl refl)
 
 -- ---- what the code computes
 
@@ -376,15 +347,14 @@ module _ {opener t : Token.Token} {s : State.State} {index parent : ℕ} (n : Na
   take-close e l =
       taking e (l .turn-is) (omega (arith, o .after, o .some-byte, n .token-after, n .token-byte), refl) (λ text forms lent K c h k d. close-on text forms t h k r parent d l)
 
+  pub take-group : taken ≡ Move.Group → r ≡ Turn.Ended (Read.Refused 6 (t .first)) → Promise opener s t taken from left index parent r
+  take-group e q = taking e q tt (λ text forms lent K c h k d. absurd (group-never text forms t h k d))
+
   pub take-wrong : taken ≡ Move.Wrong → r ≡ Turn.Ended (Read.Refused 6 (t .first)) → Promise opener s t taken from left index parent r
   take-wrong e q = taking e q tt (λ text forms lent K c h k d. wrong-here text forms t h k r left parent d q)
 
 -- moves that write nothing
 module _ {opener t : Token.Token} {s : State.State} {index parent : ℕ} (n : Narrow s t index) (o : Outer opener s index parent) {taken : Move} {from : List ℕ} {r : Turn} where
-  pub take-group : taken ≡ Move.Group → r ≡ Turn.Ended (Read.Value (t .end) (s .nodes) Shape.Other) → Promise opener s t taken from from index parent r
-  take-group e q =
-      taking n o e q (omega (arith, o .after, o .some-byte, n .token-after, n .token-byte), refl) (λ text forms lent K c h k d. group-on text forms t h k r parent d q)
-
   pub take-deeper : {style : Style} → taken ≡ Move.Deeper style → Deepened s t style r → Promise opener s t taken from from index parent r
   take-deeper {style} e d = go d
     where

@@ -46,7 +46,7 @@ use Rattle.tree.specs.declared.answer.Got.the-variants as Got
 use Rattle.tree.specs.declared.level.Leveled.{Leveled}
 use Rattle.tree.specs.declared.level.Leveled.the-variants as Leveled
 use Rattle.tree.specs.Looks.{Gets, handedOn, LevelFound}
-use Rattle.tree.specs.Readers.{spanOf, Stands, Faulty, Faultless, Stops, Fit, Asks, IsValue, Outcome, Reads}
+use Rattle.tree.specs.Readers.{spanOf, Stands, Faulty, Stops, Fit, Asks, IsValue, Outcome, Reads}
 use Rattle.tree.specs.Whole.{Behind, further, nothing, atEnd, Whole, JudgedAs, Judged, Told, beyondBy, refusal}
 use Rattle.tree.proofs.Bounds.{token-bounds}
 use Rattle.tree.proofs.Looking.{got-token}
@@ -84,7 +84,7 @@ whole-fit text k h =
 
 module _ (text : List ℕ) (forms : Forms) where
   -- an accepted text has no fault
-  accepted-faultless : {lent : List ℕ} {v : Value} → Accepted base text lent (levelOf forms) v → Faultless text forms
+  accepted-faultless : {lent : List ℕ} {v : Value} → Accepted base text lent (levelOf forms) v → (n q : ℕ) → Faulty text forms n q → ⊥
   accepted-faultless a n q f = all-or-fault text base (levelOf forms) (a .passed) f
 
   -- ---- the value of a text
@@ -117,7 +117,7 @@ module _ (text : List ℕ) (forms : Forms) where
             go w (nothing {q = q} k) = none-here base (levelOf forms) text (v .stands) q k
             go w (atEnd {q = q} k) =
                 let a : (s : List ℕ) → Accepted base text s (levelOf forms) (v .tree) = λ s. At.accepted base (levelOf forms) text s (v .stands) q k .0 in
-                record { tree = v .tree; accepted = a; count-is = v .count-is; written = v .written (accepted-faultless (a [])) }
+                record { tree = v .tree; accepted = a; count-is = v .count-is; written = v .written }
 
   -- ---- the answer
 

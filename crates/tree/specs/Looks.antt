@@ -57,7 +57,7 @@ module _ (text : List ℕ) where
 
   abbrev pub Heads : ℕ → Headed → Type 0
   Heads at (Headed.At h end) = HeadHere at h end
-  Heads at Headed.Nothing = NoHead at
+  Heads at (Headed.Other g) = Gets at g × NoHead at
 
 -- ---- levels
 
@@ -108,12 +108,6 @@ isClose Tokens.curly = false
 isClose Tokens.square = false
 isClose (Tokens.mark m) = closesMark m
 isClose Tokens.later = false
-
--- `)` comes next
-pub record ClosesAt (text : List ℕ) (at : ℕ) : Type 0 where
-  pub sign : Token.Token
-  pub comes : Comes text at (Next.Token sign)
-  pub sign-is : classKind (sign .kind) ≡ Tokens.mark Tokens.roundClose
 
 -- the refusal of a token, as that of a value
 abbrev pub handedOn : Got → Read

@@ -19,13 +19,12 @@ use Rattle.grammar.specs.Tree.{Value}
 use Rattle.grammar.specs.Nodes as Nodes
 use Rattle.grammar.specs.Nodes.{Node, nodes}
 use Rattle.grammar.proofs.Frames as Frames
-use Rattle.grammar.proofs.Frames.{Config, Stack, want, have}
+use Rattle.grammar.proofs.Frames.{Config, Stack, want, have, namesOf}
 use Rattle.grammar.proofs.Machine.{wantMark}
 use Rattle.reading.specs.Sizes.{base}
 use Rattle.reading.specs.Tokens.{seen}
 use Rattle.reading.specs.Faults.{FirstFault}
 use Rattle.reading.proofs.At as Place
-use Rattle.reading.proofs.Same as Same
 use Rattle.moves.specs.declared.Forms.{Forms}
 use Rattle.moves.specs.declared.Shape.{Shape}
 use Rattle.moves.specs.declared.Shape.the-variants as Shape
@@ -43,7 +42,7 @@ use Rattle.tree.specs.declared.begin.Begin.the-variants as Begin
 use Rattle.tree.specs.declared.bracket.State as State
 use Rattle.tree.specs.declared.bracket.Turn.{Turn}
 use Rattle.tree.specs.declared.bracket.Turn.the-variants as Turn
-use Rattle.tree.specs.Looks.{NotNext, NoHead, noMark}
+use Rattle.tree.specs.Looks.{Gets, NotNext, NoHead, noMark, isClose}
 
 -- the numbers of a turn that reads no value
 abbrev pub Ends : Token.Token → Token.Token → Turn → Type 0
@@ -107,11 +106,11 @@ module _ (text : List ℕ) where
   Refuses (Read.Value end n shape) = ⊥
   Refuses (Read.Refused n q) = Unit {0}
 
-  -- from where a bracket is read on
+  -- what comes behind `(`; from where another bracket is read on
   abbrev pub From : Token.Token → Begin → Type 0
   From t Begin.Literal = Unit {0}
   From t Begin.Names = Unit {0}
-  From t Begin.Round = Unit {0}
+  From t (Begin.Round g) = Gets text (t .end) g
   From t (Begin.Bracket mode at) = (t .end ≤ at) × (at ≤ length text)
   From t (Begin.Refused n q) = Unit {0}
 
@@ -131,11 +130,9 @@ module _ (text : List ℕ) where
     abbrev pub Faulty : ℕ → ℕ → Type 0
     Faulty n q = FirstFault base (levelOf forms) text n q
 
-    abbrev pub Faultless : Type 0
-    Faultless = (n q : ℕ) → Faulty n q → ⊥
-
+    -- no `::` goes on with the value that ends here
     abbrev pub Stops : Value → ℕ → Type 0
-    Stops v e = Same.Stops base (levelOf forms) text v e
+    Stops v e = (u : Token.Token) → Comes text e (Next.Token u) → u .kind ≡ Kind.TwoColons → namesOf v ≡ none
 
     -- ---- a value
 
@@ -145,7 +142,7 @@ module _ (text : List ℕ) where
       pub comes : Comes text at (Next.Token t)
       pub no-sign : (m : Mark) → classKind (t .kind) ≡ Tokens.mark m → wantMark m (spanOf t) K ≡ none
 
-    -- a value was read; its nodes are written, if the text has no fault at all
+    -- a value was read, and its nodes are written
     pub record IsValue (K : Stack) (t : Token.Token) (end n : ℕ) (shape : Shape) (lent left : List ℕ) (index parent : ℕ) : Type 0 where
       pub tree : Value
       pub depth : ℕ
@@ -154,7 +151,7 @@ module _ (text : List ℕ) where
       pub shape-is : shapeOf tree ≡ shape
       pub bare : (h : Head) → shape ≡ Shape.Bare h → (t .kind ≡ Kind.Text (Form.HeadWord h)) × (end ≡ t .end)
       pub count-is : n ≡ length (nodes tree parent Nodes.root index)
-      pub written : Faultless → Written lent left index (nodes tree parent Nodes.root index)
+      pub written : Written lent left index (nodes tree parent Nodes.root index)
 
     abbrev pub Outcome : Stack → Token.Token → List ℕ → List ℕ → ℕ → ℕ → Read → Type 0
     Outcome K t lent left index parent (Read.Value end n shape) = IsValue K t end n shape lent left index parent
@@ -185,7 +182,7 @@ module _ (text : List ℕ) where
     abbrev pub Begun : Stack → ℕ → Token.Token → Begin → Type 0
     Begun K d t Begin.Literal = literal (classKind (t .kind)) ≡ true
     Begun K d t Begin.Names = t .kind ≡ Kind.TwoColons
-    Begun K d t Begin.Round = Stands (suc d) (t .end) (want (opened t K)) × NoHead text (t .end)
+    Begun K d t (Begin.Round g) = Stands (suc d) (t .end) (want (opened t K)) × NoHead text (t .end)
     Begun K d t (Begin.Bracket mode at) = Entered K d t mode at
     Begun K d t (Begin.Refused n q) = Faulty n q
 
@@ -194,10 +191,6 @@ module _ (text : List ℕ) where
       pub begun : (K : Stack) (at : ℕ) → Asks K d at t → Begun K d t r
 
     -- ---- inside a bracket
-
-    -- no value and `)` stand behind `(`
-    pub record NoGroup (K : Stack) (opener : Token.Token) : Type 0 where
-      pub none : (v : Value) (d e : ℕ) → Stands d e (have v (opened opener K)) → Stops v e → (u : Token.Token) → Comes text e (Next.Token u) → classKind (u .kind) ≡ Tokens.mark Tokens.roundClose → ⊥
 
     pub record Holds (opener : Token.Token) (lent left : List ℕ) (index : ℕ) (K : Stack) (c : Config) (s : State.State) : Type 0 where
       pub stands : Stands (s .deep) (s .at) c
@@ -208,15 +201,14 @@ module _ (text : List ℕ) where
       -- what cannot come next
       pub no-head : headBare c ≡ true → NotNext text Kind.Colon (s .at)
       pub no-names : nested c ≡ true → NotNext text Kind.TwoColons (s .at)
-      -- directly behind `(`
-      pub fresh : opening c ≡ true → held c ≡ false → NoHead text (s .at)
-      pub unread : opening c ≡ true → held c ≡ false → 0 < length lent → Faultless → (u : Token.Token) → Comes text (s .at) (Next.Token u) → noMark (classKind (u .kind)) ≡ true → NoGroup K opener
-      pub no-group : opening c ≡ true → held c ≡ true → 0 < length lent → Faultless → NoGroup K opener
+      -- directly behind `(` no value begins, and behind the first value is no `)`: these are read before
+      pub unread : opening c ≡ true → held c ≡ false → (u : Token.Token) → Comes text (s .at) (Next.Token u) → noMark (classKind (u .kind)) ≡ false
+      pub no-group : opening c ≡ true → held c ≡ true → (u : Token.Token) → Comes text (s .at) (Next.Token u) → isClose (classKind (u .kind)) ≡ false
       -- the members' nodes
       pub length-is : length left ≡ length lent
       pub count-is : s .nodes ≡ length (children c index)
       pub last-is : held c ≡ true → s .last ≡ index + 1 + length (before c index)
-      pub written : Faultless → Written lent left (index + 1) (children c index)
+      pub written : Written lent left (index + 1) (children c index)
 
     -- one turn: the bracket goes on, or ends as the value that the opener begins
     abbrev pub Turns : Token.Token → List ℕ → List ℕ → ℕ → ℕ → Stack → Turn → Type 0
@@ -235,36 +227,11 @@ module _ (text : List ℕ) where
       pub turns : (lent : List ℕ) (K : Stack) (c : Config) → Holds opener lent from index K c s → Turns opener lent left index parent K r
 
     -- of a bracket, from the state in which it is entered
-    pub record Bracketed (opener : Token.Token) (s : State.State) (lent left : List ℕ) (index parent : ℕ) (r : Read) : Type 0 where
+    pub record Bracketed (opener : Token.Token) (s : State.State) (from left : List ℕ) (index parent : ℕ) (r : Read) : Type 0 where
       pub sized : Sized opener r
-      pub outcome : (K : Stack) (c : Config) → Holds opener lent lent index K c s → Outcome K opener lent left index parent r
+      pub outcome : (lent : List ℕ) (K : Stack) (c : Config) → Holds opener lent from index K c s → Outcome K opener lent left index parent r
 
-    -- ---- `(`
-
-    -- a value and `)` stand behind `(`
-    pub record IsGroup (K : Stack) (opener : Token.Token) : Type 0 where
-      pub first : Token.Token
-      pub first-comes : Comes text (opener .end) (Next.Token first)
-      pub first-is : noMark (classKind (first .kind)) ≡ true
-      pub tree : Value
-      pub depth : ℕ
-      pub end : ℕ
-      pub stands : Stands depth end (have tree (opened opener K))
-      pub stops : Stops tree end
-      pub sign : Token.Token
-      pub comes : Comes text end (Next.Token sign)
-      pub sign-is : classKind (sign .kind) ≡ Tokens.mark Tokens.roundClose
-
-    -- nothing is said where no nodes are written
-    pub record Grouped (d words : ℕ) (opener : Token.Token) (r : Bool) : Type 0 where
-      pub yes : (K : Stack) → Stands (suc d) (opener .end) (want (opened opener K)) → r ≡ true → IsGroup K opener
-      pub no : (K : Stack) → Stands (suc d) (opener .end) (want (opened opener K)) → r ≡ false → 0 < words → Faultless →
-          (u : Token.Token) → Comes text (opener .end) (Next.Token u) → noMark (classKind (u .kind)) ≡ true → NoGroup K opener
-
-    pub record Group (d : ℕ) (opener : Token.Token) (lent left : List ℕ) (index parent : ℕ) (r : Read) : Type 0 where
-      pub sized : Sized opener r
-      pub outcome : (K : Stack) → Stands (suc d) (opener .end) (want (opened opener K)) → IsGroup K opener → Outcome K opener lent left index parent r
-
+    -- behind `(`
     pub record Rounded (d : ℕ) (opener : Token.Token) (lent left : List ℕ) (index parent : ℕ) (r : Read) : Type 0 where
       pub sized : Sized opener r
       pub outcome : (K : Stack) → Stands (suc d) (opener .end) (want (opened opener K)) → NoHead text (opener .end) → Outcome K opener lent left index parent r

@@ -1,8 +1,10 @@
 // How a value begins: 4, 6, 7 and, for a bracket, 11 are tested here.
+use crate::answer::Got;
 use crate::head::Headed;
 use crate::head::head_at;
 use crate::level::Collection;
 use crate::level::collection_of;
+use lexicon::Head;
 use lexicon::Kind;
 use lexicon::Sign;
 use lexicon::Token;
@@ -21,13 +23,14 @@ ghost use Rattle.lexicon.specs.declared.Sign.the-variants as Sign;
 ghost use Rattle.lexicon.specs.declared.Kind.the-variants as Kind;
 ghost use Rattle.moves.specs.declared.Forms.{Forms};
 ghost use Rattle.tree.specs.declared.begin.Begin.the-variants as Begin;
+ghost use Rattle.tree.specs.Looks.{HeadHere};
 ghost use Rattle.tree.specs.Readers.{BeginsSo};
 
 pub enum Begin {
     Literal,
     Names,
-    // `(` without a head
-    Round,
+    // `(` without a head, and what comes behind it
+    Round(Got),
     // another bracket, or a head: what is expected, and from where
     Bracket { mode: Mode, at: usize },
     Refused { number: u32, place: usize },
@@ -49,13 +52,10 @@ fn deeper(t: Token, depth: usize, begun: Begin) -> Begin
     begun
 }
 
-fn round_open(text: &[u8], forms: Forms, t: Token, depth: usize) -> Begin
-    ensures { λ r. ⌜ (t .kind ≡ Kind.Symbol Sign.RoundOpen → BeginsSo (now (text .entry)) forms depth t r) ⌝ }
+// A head, if the level has it.
+fn head_open(forms: Forms, t: Token, depth: usize, head: Head, end: usize) -> Begin
+    ensures { λ r. ⌜ ((text : List ℕ) → t .kind ≡ Kind.Symbol Sign.RoundOpen → HeadHere text (t .end) head end → BeginsSo text forms depth t r) ⌝ }
 {
-    let headed = head_at(text, t.end);
-    let Headed::At { head, end } = headed else {
-        return deeper(t, depth, Begin::Round);
-    };
     let held = collection_of(forms, head);
     let Collection::Of(style) = held else {
         return Begin::Refused {
@@ -71,6 +71,16 @@ fn round_open(text: &[u8], forms: Forms, t: Token, depth: usize) -> Begin
             at: end,
         },
     )
+}
+
+fn round_open(text: &[u8], forms: Forms, t: Token, depth: usize) -> Begin
+    ensures { λ r. ⌜ (t .kind ≡ Kind.Symbol Sign.RoundOpen → BeginsSo (now (text .entry)) forms depth t r) ⌝ }
+{
+    let headed = head_at(text, t.end);
+    match headed {
+        Headed::At { head, end } => head_open(forms, t, depth, head, end),
+        Headed::Other(first) => deeper(t, depth, Begin::Round(first)),
+    }
 }
 
 fn square_open(forms: Forms, t: Token, depth: usize) -> Begin

@@ -18,9 +18,10 @@ use table::assign;
 use table::put;
 ghost use mathlib.Core.Path.{_≡_};
 ghost use Prim.Native.Nat.{pred, _≤_};
+ghost use Rattle.reading.specs.Sizes.{base};
 ghost use Rattle.tree.specs.declared.answer.Read.the-variants as Read;
 ghost use Rattle.tree.specs.declared.bracket.Turn.the-variants as Turn;
-ghost use Rattle.tree.specs.Readers.{Ends, Taken};
+ghost use Rattle.tree.specs.Readers.{entering as enteringOf, Ends, Taken};
 ghost use Rattle.tree.specs.Turning.{Narrow, Outer, Led, Tupled, Counted, Deepened, Shuts, Closed};
 
 // What is expected, from which place; the open brackets; the nodes of the members so far; the last member's first node.
@@ -36,6 +37,20 @@ pub struct State {
 pub enum Turn {
     On(State),
     Ended(Read),
+}
+
+// Where a bracket is entered: it has no member yet.
+pub(crate) fn entering(mode: Mode, at: usize, depth: usize, index: usize) -> State
+    requires { ⌜ depth ≤ base .text ⌝ }
+    ensures { λ r. ⌜ r ≡ enteringOf mode at depth index ⌝ }
+{
+    State {
+        mode,
+        at,
+        deep: depth + 1,
+        nodes: 0,
+        last: index,
+    }
 }
 
 // A sign leads on, and tells the role of the value before it.
@@ -184,7 +199,7 @@ fn wrong(t: Token) -> Turn
     })
 }
 
-// Carries out the move of a token that begins no value.
+// Carries out the move of a token that begins no value. A group does not come here: its end is looked for behind its value.
 pub(crate) fn take(
     opener: Token,
     s: State,
@@ -216,11 +231,7 @@ pub(crate) fn take(
             index,
             parent,
         ),
-        Move::Group => Turn::Ended(Read::Value {
-            end: t.end,
-            nodes: s.nodes,
-            shape: Shape::Other,
-        }),
+        Move::Group => wrong(t),
         Move::Wrong => wrong(t),
     }
 }

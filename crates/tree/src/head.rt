@@ -9,10 +9,10 @@ ghost use Rattle.rules.specs.Test.{Says};
 ghost use Rattle.lexicon.specs.declared.Kind.the-variants as Kind;
 ghost use Rattle.tree.specs.Looks.{Heads, IsHeadWord};
 
-// The head word behind `(` and where its colon ends.
+// The head word behind `(` and where its colon ends; or what comes there, if it is no head.
 pub enum Headed {
     At { head: Head, end: usize },
-    Nothing,
+    Other(Got),
 }
 
 fn head_word(kind: Kind) -> HeadWord
@@ -66,20 +66,20 @@ pub(crate) fn head_at(text: &[u8], at: usize) -> Headed
 {
     let first = get(text, at);
     let Got::Token(t) = first else {
-        return Headed::Nothing;
+        return Headed::Other(first);
     };
     let kind = t.kind;
     let word = head_word(kind);
     let HeadWord::Is(head) = word else {
-        return Headed::Nothing;
+        return Headed::Other(first);
     };
     let second = get(text, t.end);
     let Got::Token(u) = second else {
-        return Headed::Nothing;
+        return Headed::Other(first);
     };
     let sign = u.kind;
     if is_colon(sign) {
         return Headed::At { head, end: u.end };
     }
-    Headed::Nothing
+    Headed::Other(first)
 }

@@ -1,12 +1,9 @@
-// Which tokens begin a value, and whether `)` comes next.
-use crate::answer::Got;
-use crate::answer::get;
+// Which tokens begin a value, and which is `)`.
 use lexicon::Kind;
 use lexicon::Sign;
 ghost use mathlib.Core.Path.{_≡_};
 ghost use Rattle.grammar.specs.Tokens.{classKind, classSign};
-ghost use Rattle.rules.specs.Test.{Says};
-ghost use Rattle.tree.specs.Looks.{noMark, ClosesAt, isClose};
+ghost use Rattle.tree.specs.Looks.{noMark, isClose};
 
 fn sign_begins_value(sign: Sign) -> bool
     ensures { λ r. ⌜ r ≡ noMark (classSign sign) ⌝ }
@@ -44,7 +41,7 @@ pub(crate) fn begins_value(kind: Kind) -> bool
     }
 }
 
-fn is_close(kind: Kind) -> bool
+pub(crate) fn is_close(kind: Kind) -> bool
     ensures { λ r. ⌜ r ≡ isClose (classKind kind) ⌝ }
 {
     match kind {
@@ -78,16 +75,4 @@ fn sign_closes(sign: Sign) -> bool
         Sign::Dots => false,
         Sign::Star { low: _, high: _ } => false,
     }
-}
-
-// Whether `)` comes next.
-pub(crate) fn closes_round(text: &[u8], at: usize) -> bool
-    ensures { λ r. ⌜ Says r (ClosesAt (now (text .entry)) at) ⌝ }
-{
-    let got = get(text, at);
-    let Got::Token(t) = got else {
-        return false;
-    };
-    let kind = t.kind;
-    is_close(kind)
 }

@@ -8,11 +8,12 @@ use crate::begin::Begin;
 use crate::begin::begins;
 use crate::bracket::State;
 use crate::bracket::Turn;
+use crate::bracket::entering;
 use crate::bracket::take;
 use crate::leaf::leaf;
 use crate::leaf::names;
 use crate::sign::begins_value;
-use crate::sign::closes_round;
+use crate::sign::is_close;
 use lexicon::Token;
 use moves::Forms;
 use moves::Frame;
@@ -21,10 +22,17 @@ use moves::Move;
 use moves::RoundFrame;
 use moves::Shape;
 use step::step::step;
+use table::raise;
+ghost use mathlib.Core.Path.{_≡_};
+ghost use mathlib.Core.Bool.{true};
 ghost use Prim.Native.Nat.{_≤_};
 ghost use lib.ListN.{length};
+ghost use Rattle.lexicon.specs.declared.Next.the-variants as Next;
+ghost use Rattle.lexicon.specs.Token.{Comes};
+ghost use Rattle.grammar.specs.Tokens.{classKind};
 ghost use Rattle.reading.specs.Sizes.{base};
-ghost use Rattle.tree.specs.Readers.{Fit, Inner, Reads, Rounded, Grouped, Group, Bracketed, Member, Bore, entering};
+ghost use Rattle.tree.specs.Looks.{Gets, noMark};
+ghost use Rattle.tree.specs.Readers.{Fit, Inner, Reads, Rounded, Bracketed, Member, Bore};
 ghost use Rattle.tree.specs.Turning.{Narrow};
 
 // The value that the token t begins, at a place for a value; its nodes stand from the index on, under the parent.
@@ -44,138 +52,104 @@ pub(crate) fn value(
     match begun {
         Begin::Literal => leaf(t, table, index, parent),
         Begin::Names => names(text, t, table, index, parent),
-        Begin::Round => round(text, forms, t, depth, table, index, parent),
+        Begin::Round(first) => round(text, forms, t, first, depth, table, index, parent),
         Begin::Bracket { mode, at } => {
-            bracket(text, forms, t, mode, at, depth, table, index, parent)
+            let entered = entering(mode, at, depth, index);
+            bracket(text, forms, t, entered, table, index, parent)
         }
         Begin::Refused { number, place } => Read::Refused { number, place },
     }
 }
 
-// Behind `(` without a head. A group makes no node, so where nodes are written it is looked at first whether one stands here.
+// Behind `(` without a head.
 fn round(
     text: &[u8],
     forms: Forms,
+    opener: Token,
+    first: Got,
+    depth: usize,
+    table: &mut [u32],
+    index: usize,
+    parent: usize,
+) -> Read
+    requires { ⌜ Fit (now text) opener index parent × (depth ≤ opener .first) × Gets (now text) (opener .end) first ⌝ }
+    ensures { λ r. ⌜ Rounded (now (text .entry)) forms depth opener (now (table .entry)) (now (table .exit)) index parent r ⌝ }
+{
+    let Got::Token(t) = first else {
+        return handed(first);
+    };
+    let kind = t.kind;
+    if begins_value(kind) {
+        return first_value(text, forms, opener, t, depth, table, index, parent);
+    }
+    let entered = entering(
+        Mode::Want(Frame::Round(RoundFrame::Opened)),
+        opener.end,
+        depth,
+        index,
+    );
+    bracket(text, forms, opener, entered, table, index, parent)
+}
+
+// The first value behind `(`. A group makes no node, so the value is written as if it stood in one; where it does not, its nodes are moved
+// up by one for the bracket's own.
+fn first_value(
+    text: &[u8],
+    forms: Forms,
+    opener: Token,
     t: Token,
     depth: usize,
     table: &mut [u32],
     index: usize,
     parent: usize,
 ) -> Read
-    requires { ⌜ Fit (now text) t index parent × (depth ≤ t .first) ⌝ }
-    ensures { λ r. ⌜ Rounded (now (text .entry)) forms depth t (now (table .entry)) (now (table .exit)) index parent r ⌝ }
+    requires { ⌜ Fit (now text) opener index parent × (depth ≤ opener .first) × Comes (now text) (opener .end) (Next.Token t) × (noMark (classKind (t .kind)) ≡ true) ⌝ }
+    ensures { λ r. ⌜ Rounded (now (text .entry)) forms depth opener (now (table .entry)) (now (table .exit)) index parent r ⌝ }
 {
-    if grouped(text, forms, t, depth, index, table.len()) {
-        return group(text, forms, t, depth, table, index, parent);
-    }
-    bracket(
-        text,
-        forms,
-        t,
-        Mode::Want(Frame::Round(RoundFrame::Opened)),
-        t.end,
-        depth,
-        table,
-        index,
-        parent,
-    )
-}
-
-// Whether one value and `)` stand behind `(`, where a table has words to write.
-fn grouped(
-    text: &[u8],
-    forms: Forms,
-    opener: Token,
-    depth: usize,
-    index: usize,
-    words: usize,
-) -> bool
-    requires { ⌜ Fit (now text) opener index index × (depth ≤ opener .first) ⌝ }
-    ensures { λ r. ⌜ Grouped (now (text .entry)) forms depth words opener r ⌝ }
-{
-    if words == 0 {
-        return false;
-    }
-    let got = get(text, opener.end);
-    let Got::Token(t) = got else {
-        return false;
-    };
-    let kind = t.kind;
-    if !begins_value(kind) {
-        return false;
-    }
-    let mut none = [0; 0];
-    let read = value(text, forms, t, depth + 1, &mut none, index, index);
-    let Read::Value {
-        end,
-        nodes: _,
-        shape: _,
-    } = read
-    else {
-        return false;
-    };
-    closes_round(text, end)
-}
-
-// `(v)` is a group.
-fn group(
-    text: &[u8],
-    forms: Forms,
-    opener: Token,
-    depth: usize,
-    table: &mut [u32],
-    index: usize,
-    parent: usize,
-) -> Read
-    requires { ⌜ Fit (now text) opener index parent × (depth ≤ opener .first) ⌝ }
-    ensures { λ r. ⌜ Group (now (text .entry)) forms depth opener (now (table .entry)) (now (table .exit)) index parent r ⌝ }
-{
-    let got = get(text, opener.end);
-    let Got::Token(t) = got else {
-        return handed(got);
-    };
     let read = value(text, forms, t, depth + 1, table, index, parent);
-    let Read::Value {
-        end,
-        nodes,
-        shape: _,
-    } = read
-    else {
+    let Read::Value { end, nodes, shape } = read else {
         return read;
     };
     let then = get(text, end);
     let Got::Token(u) = then else {
         return handed(then);
     };
-    Read::Value {
-        end: u.end,
-        nodes,
-        shape: Shape::Other,
+    let sign = u.kind;
+    if is_close(sign) {
+        return Read::Value {
+            end: u.end,
+            nodes,
+            shape: Shape::Other,
+        };
     }
+    raise(table, index, nodes);
+    let behind = State {
+        mode: Mode::Have {
+            frame: Frame::Round(RoundFrame::Opened),
+            shape,
+        },
+        at: end,
+        deep: depth + 1,
+        nodes,
+        last: index + 1,
+    };
+    bracket(text, forms, opener, behind, table, index, parent)
 }
 
-// What stands in a bracket, up to and with its end.
+// What stands in a bracket from where it is entered, up to and with its end.
 fn bracket(
     text: &[u8],
     forms: Forms,
     opener: Token,
-    start: Mode,
-    from: usize,
-    depth: usize,
+    entered: State,
     table: &mut [u32],
     index: usize,
     parent: usize,
 ) -> Read
-    requires { ⌜ Inner (now text) opener (entering start from depth index) index parent ⌝ }
-    ensures { λ r. ⌜ Bracketed (now (text .entry)) forms opener (entering start from depth index) (now (table .entry)) (now (table .exit)) index parent r ⌝ }
+    requires { ⌜ Inner (now text) opener entered index parent ⌝ }
+    ensures { λ r. ⌜ Bracketed (now (text .entry)) forms opener entered (now (table .entry)) (now (table .exit)) index parent r ⌝ }
 {
-    let mut state = State {
-        mode: start,
-        at: from,
-        deep: depth + 1,
-        nodes: 0,
-        last: index,
-    };
+    let mut state = entered;
     loop {
         let turn = member(text, forms, opener, state, table, index, parent);
         match turn {

@@ -1,6 +1,4 @@
--- A node's words are stored from the last to the first. Assumes nothing.
-use native.Mathlib.Omega.{arith}
-use lib.ListN.{length-set}
+-- A node is stored where it fits. Assumes nothing.
 use Rattle.table.proofs.Stores.{not-stored, stored}
 use borrow.Author.Needs.{needs}
 use Rattle.table.proofs.put.Statement.{statement}
@@ -9,92 +7,25 @@ use Rattle.table.proofs.put.Tie as tie
 returns : tie.Need-returns
 returns c = not-stored _ _ _ (c .if1 .taken)
 
-mul-at : tie.Need-mul-at
-mul-at c = search needs
-
 role-number-requires : tie.Need-role-number-requires
 role-number-requires c κs = search needs
 
-add-table : tie.Need-add-table
-add-table c = search needs
+mul-store : tie.Need-mul-store
+mul-store c = search needs
 
-mul-table : tie.Need-mul-table
-mul-table c = search needs
-
-slice-write-table : tie.Need-slice-write-table
-slice-write-table c = search needs
-
-add-table-2 : tie.Need-add-table-2
-add-table-2 c = search needs
-
-mul-table-2 : tie.Need-mul-table-2
-mul-table-2 c = search needs
-
-slice-write-table-2 : tie.Need-slice-write-table-2
-slice-write-table-2 c = simp length-set (omega arith)
-
-add-table-3 : tie.Need-add-table-3
-add-table-3 c = search needs
-
-mul-table-3 : tie.Need-mul-table-3
-mul-table-3 c = search needs
-
-slice-write-table-3 : tie.Need-slice-write-table-3
-slice-write-table-3 c = simp length-set (omega arith)
-
-add-table-4 : tie.Need-add-table-4
-add-table-4 c = search needs
-
-mul-table-4 : tie.Need-mul-table-4
-mul-table-4 c = search needs
-
-slice-write-table-4 : tie.Need-slice-write-table-4
-slice-write-table-4 c = simp length-set (omega arith)
-
-add-table-5 : tie.Need-add-table-5
-add-table-5 c = search needs
-
-mul-table-5 : tie.Need-mul-table-5
-mul-table-5 c = search needs
-
-slice-write-table-5 : tie.Need-slice-write-table-5
-slice-write-table-5 c = simp length-set (omega arith)
-
-mul-table-6 : tie.Need-mul-table-6
-mul-table-6 c = search needs
-
-slice-write-table-6 : tie.Need-slice-write-table-6
-slice-write-table-6 c = simp length-set (omega arith)
+store-requires : tie.Need-store-requires
+store-requires c κs = search needs
 
 same-length : tie.Need-same-length
 same-length c = search needs
 
 returns-2 : tie.Need-returns-2
-returns-2 c = stored _ _ (c .before .before .before .args .node) _ (c .before .if1 .left) (c .role-number .ensures)
+returns-2 c =
+    let s = c .before .before in
+    let a = s .before .before .before .before .before .args in
+    stored (a .table .now) (a .index) (a .node) _ (s .before .before .before .if1 .left) (s .before .before .role-number .ensures) (s .store .ensures)
 
 pub put-spec : {M : Type 1} → statement M
 put-spec =
     tie.close
-    (tie.spec
-    returns
-    mul-at
-    role-number-requires
-    add-table
-    mul-table
-    slice-write-table
-    add-table-2
-    mul-table-2
-    slice-write-table-2
-    add-table-3
-    mul-table-3
-    slice-write-table-3
-    add-table-4
-    mul-table-4
-    slice-write-table-4
-    add-table-5
-    mul-table-5
-    slice-write-table-5
-    mul-table-6
-    slice-write-table-6
-    same-length
-    returns-2)
+    (tie.spec returns role-number-requires mul-store store-requires same-length returns-2)

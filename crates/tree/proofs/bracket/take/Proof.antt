@@ -59,11 +59,14 @@ close-requires c κs = search needs
 enum-told-3 : tie.Need-enum-told-3
 enum-told-3 c = search needs
 
+wrong-requires-2 : tie.Need-wrong-requires-2
+wrong-requires-2 c κs = search needs
+
 enum-told-4 : tie.Need-enum-told-4
 enum-told-4 c = search needs
 
-wrong-requires-2 : tie.Need-wrong-requires-2
-wrong-requires-2 c κs = search needs
+wrong-requires-3 : tie.Need-wrong-requires-3
+wrong-requires-3 c κs = search needs
 
 returns : tie.Need-returns
 returns c = take-value (c .before .before .before .before .pre .0) (c .before .before .before .before .pre .1) (c .before .enum-told .given .1) (c .wrong .ensures)
@@ -102,10 +105,10 @@ returns-7 : tie.Need-returns-7
 returns-7 c = take-close (c .before .before .before .before .before .before .before .before .pre .0) (c .before .before .before .before .before .before .before .before .pre .1) (c .before .before .before .before .before .taken5 .given .1) (c .before .before .close .ensures)
 
 returns-8 : tie.Need-returns-8
-returns-8 c = take-group (c .before .before .before .pre .0) (c .before .before .before .pre .1) (c .enum-told3 .given .1) refl
+returns-8 c = take-group (c .before .before .before .before .pre .0) (c .before .before .before .before .pre .1) (c .before .enum-told3 .given .1) (c .wrong2 .ensures)
 
 returns-9 : tie.Need-returns-9
-returns-9 c = take-wrong (c .before .before .before .before .pre .0) (c .before .before .before .before .pre .1) (c .before .enum-told4 .given .1) (c .wrong2 .ensures)
+returns-9 c = take-wrong (c .before .before .before .before .pre .0) (c .before .before .before .before .pre .1) (c .before .enum-told4 .given .1) (c .wrong3 .ensures)
 
 pub take-spec : {M : Type 1} → statement M
 take-spec =
@@ -126,8 +129,9 @@ take-spec =
     enum-known-taken-5
     close-requires
     enum-told-3
-    enum-told-4
     wrong-requires-2
+    enum-told-4
+    wrong-requires-3
     returns
     same-length
     returns-2

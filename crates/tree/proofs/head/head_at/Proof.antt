@@ -20,7 +20,7 @@ enum-told : tie.Need-enum-told
 enum-told c = search needs
 
 returns : tie.Need-returns
-returns c = headless _ _ (λ t k h e. got-none _ _ (c .enum-told .given .1) (c .before .before .get .ensures) t k)
+returns c = (c .before .before .get .ensures, headless _ _ (λ t k h e. got-none _ _ (c .enum-told .given .1) (c .before .before .get .ensures) t k))
 
 head-word-requires : tie.Need-head-word-requires
 head-word-requires c κs = search needs
@@ -34,7 +34,7 @@ enum-told-2 c = search needs
 returns-2 : tie.Need-returns-2
 returns-2 c =
     let k = got-token _ _ (c .before .before .before .before .first .given .1) (c .before .before .before .before .before .before .get .ensures) in
-    no-word _ _ k (word-none _ (c .enum-told2 .given .1) (c .before .before .head-word .ensures))
+    (k, no-word _ _ k (word-none _ (c .enum-told2 .given .1) (c .before .before .head-word .ensures)))
 
 get-requires-2 : tie.Need-get-requires-2
 get-requires-2 c κs = search needs
@@ -49,7 +49,7 @@ returns-3 : tie.Need-returns-3
 returns-3 c =
     let k = got-token _ _ (c .before .before .before .before .before .before .before .before .first .given .1)
     (c .before .before .before .before .before .before .before .before .before .before .get .ensures) in
-    no-sign _ _ k (λ u n e. got-none _ _ (c .enum-told3 .given .1) (c .before .before .get2 .ensures) u n)
+    (k, no-sign _ _ k (λ u n e. got-none _ _ (c .enum-told3 .given .1) (c .before .before .get2 .ensures) u n))
 
 is-colon-requires : tie.Need-is-colon-requires
 is-colon-requires c κs = search needs
@@ -68,7 +68,7 @@ returns-5 c =
     let k = got-token _ _ (c .before .before .before .before .before .before .before .before .before .before .before .first .given .1)
     (c .before .before .before .before .before .before .before .before .before .before .before .before .before .get .ensures) in
     let m = got-token _ _ (c .before .before .before .second .given .1) (c .before .before .before .before .before .get2 .ensures) in
-    no-colon _ _ k m (λ e. clash (c .before .is-colon .ensures .holds-true e) (c .if1 .left))
+    (k, no-colon _ _ k m (λ e. clash (c .before .is-colon .ensures .holds-true e) (c .if1 .left)))
 
 pub head-at-spec : {M : Type 1} → statement M
 head-at-spec =

@@ -1,0 +1,91 @@
+-- The six words are stored from the last to the first. Assumes nothing.
+use mathlib.Core.Path.{sym}
+use native.Mathlib.Omega.{arith}
+use lib.ListN.{length-set}
+use Rattle.table.proofs.Stores.{six}
+use borrow.Author.Needs.{needs}
+use Rattle.table.proofs.store.Statement.{statement}
+use Rattle.table.proofs.store.Tie as tie
+
+add-table : tie.Need-add-table
+add-table c = search needs
+
+mul-table : tie.Need-mul-table
+mul-table c = search needs
+
+slice-write-table : tie.Need-slice-write-table
+slice-write-table c = search needs
+
+add-table-2 : tie.Need-add-table-2
+add-table-2 c = search needs
+
+mul-table-2 : tie.Need-mul-table-2
+mul-table-2 c = search needs
+
+slice-write-table-2 : tie.Need-slice-write-table-2
+slice-write-table-2 c = simp length-set (omega arith)
+
+add-table-3 : tie.Need-add-table-3
+add-table-3 c = search needs
+
+mul-table-3 : tie.Need-mul-table-3
+mul-table-3 c = search needs
+
+slice-write-table-3 : tie.Need-slice-write-table-3
+slice-write-table-3 c = simp length-set (omega arith)
+
+add-table-4 : tie.Need-add-table-4
+add-table-4 c = search needs
+
+mul-table-4 : tie.Need-mul-table-4
+mul-table-4 c = search needs
+
+slice-write-table-4 : tie.Need-slice-write-table-4
+slice-write-table-4 c = simp length-set (omega arith)
+
+add-table-5 : tie.Need-add-table-5
+add-table-5 c = search needs
+
+mul-table-5 : tie.Need-mul-table-5
+mul-table-5 c = search needs
+
+slice-write-table-5 : tie.Need-slice-write-table-5
+slice-write-table-5 c = simp length-set (omega arith)
+
+mul-table-6 : tie.Need-mul-table-6
+mul-table-6 c = search needs
+
+slice-write-table-6 : tie.Need-slice-write-table-6
+slice-write-table-6 c = simp length-set (omega arith)
+
+same-length : tie.Need-same-length
+same-length c = search needs
+
+returns : tie.Need-returns
+returns c =
+    let a = c .args in
+    sym (six (a .table .now) (a .at) (a .kind) (a .first) (a .end) (a .parent) (a .role) (a .detail))
+
+pub store-spec : {M : Type 1} → statement M
+store-spec =
+    tie.close
+    (tie.spec
+    add-table
+    mul-table
+    slice-write-table
+    add-table-2
+    mul-table-2
+    slice-write-table-2
+    add-table-3
+    mul-table-3
+    slice-write-table-3
+    add-table-4
+    mul-table-4
+    slice-write-table-4
+    add-table-5
+    mul-table-5
+    slice-write-table-5
+    mul-table-6
+    slice-write-table-6
+    same-length
+    returns)

@@ -1,0 +1,33 @@
+-- `tree::begin::head_open` meets its contract. Assumes nothing.
+use Rattle.tree.proofs.Beginning.{head-refused, head-begins}
+use Rattle.tree.proofs.Looking.{collects, lacks}
+use borrow.Author.Needs.{needs}
+use Rattle.tree.proofs.begin.head_open.Statement.{statement}
+use Rattle.tree.proofs.begin.head_open.Tie as tie
+use Rattle.tree.proofs.begin.head_open.Reads as reads
+use Rattle.tree.proofs.begin.head_open.Lts as lts
+use Rattle.tree.proofs.begin.deeper.Reads as deeper-reads
+use Rattle.tree.proofs.level.collection_of.Reads as collection-of-reads
+
+collection-of-requires : tie.Need-collection-of-requires
+collection-of-requires c κs = search needs
+
+enum-known-held : tie.Need-enum-known-held
+enum-known-held c = search needs
+
+enum-told : tie.Need-enum-told
+enum-told c = search needs
+
+returns : tie.Need-returns
+returns c = λ text e w. head-refused text _ _ _ w (lacks _ _ (c .enum-told .given .1) (c .before .before .collection-of .ensures)) e
+
+deeper-requires : tie.Need-deeper-requires
+deeper-requires c κs = search needs
+
+returns-2 : tie.Need-returns-2
+returns-2 c = λ text e w. head-begins text _ _ _ (c .deeper .ensures) w (collects _ _ (c .before .before .held .given .1) (c .before .before .before .before .collection-of .ensures)) e
+
+pub head-open-spec : {M : Type 1} → statement M
+head-open-spec =
+    tie.close
+    (tie.spec collection-of-requires enum-known-held enum-told returns deeper-requires returns-2)
