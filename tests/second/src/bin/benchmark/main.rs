@@ -65,8 +65,8 @@ fn counted(reader: Reader, text: &[u8], table: &mut Table) -> u32 {
     black_box(reader(black_box(text), table))
 }
 
-/// Every shape that is accepted, by both readers; then by the proved one the
-/// long texts, most of them refused, plain and in groups, at two sizes.
+/// Every shape that is accepted, by both readers; then the long texts, most
+/// of them refused, plain and in groups, at two sizes.
 fn readings() {
     let mut table = [0; NODES_MAX * NODE_WORDS];
     for (name, shape) in SHAPES {
@@ -87,8 +87,10 @@ fn readings() {
         ] {
             for size in [small, large] {
                 let text = wrap(&shape.text(size - 2 * DEPTH_MAX));
-                counted(proved, &text, &mut table);
-                println!("{name}-{index} {} proved", text.len());
+                for (who, reader) in READERS {
+                    counted(reader, &text, &mut table);
+                    println!("{name}-{index} {} {who}", text.len());
+                }
             }
         }
     }
