@@ -2,7 +2,8 @@
 use lexicon::Base;
 use lexicon::Literal;
 use text::byte::stands;
-use text::class::in_set;
+use text::class::classes;
+use text::class::holds;
 use text::digit::digit_set;
 use text::digit::limited;
 use text::digit::radix;
@@ -36,13 +37,14 @@ fn outside(code: u32) -> bool
 fn count(text: &[u8], at: usize, base: Base) -> Run
     ensures { λ r. ⌜ Counts (now (text .entry)) base at (r .end) (r .code) ⌝ }
 {
+    let classes = classes();
     let set = digit_set(base);
     let n = radix(set);
     let mut code = 0;
     let mut i = at;
     while i < text.len() {
         let b = text[i];
-        if !in_set(b, set) {
+        if !holds(classes[b as usize], set) {
             return Run { end: i, code };
         }
         code = limited(code, n, b);
