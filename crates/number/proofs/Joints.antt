@@ -1,72 +1,57 @@
--- The next unit, by what stands between. Assumes nothing.
-use mathlib.Core.Path.{_≡_, refl, sym}
+-- What joins two units ends in one place only. Assumes nothing.
+use mathlib.Core.Path.{_≡_, refl, sym, _∙_}
 use mathlib.Core.Bool.{Bool, true, false}
 use mathlib.Core.List.{List}
-use Prim.Native.Nat.{ℕ, _+_, _≤_, _<_}
-use native.Mathlib.Nat.{add-zero}
-use lib.ListN.{length, getD}
+use Prim.Native.Nat.{ℕ, _+_, _≤_}
+use native.Mathlib.Nat.{le-antisymm}
+use native.Mathlib.Omega.{arith}
 use Rattle.rules.specs.Test.{Says}
-use Rattle.rules.specs.Class.{anyOf}
-use Rattle.rules.specs.Rule.{opt, At, Takes, nothing, byte, left, right}
-use Rattle.rules.proofs.Classes.{is-just, just-is}
-use Rattle.rules.proofs.Matches.{starting, ending, move-at}
-use Rattle.rules.proofs.Tests.{refuted}
-use Rattle.rules.proofs.Ways.{never-takes, end-takes}
-use Rattle.lexicon.specs.declared.Set.{Set}
-use Rattle.lexicon.specs.Bytes.{members}
+use Rattle.rules.specs.Class.{Class, just, anyOf}
+use Rattle.rules.specs.Rule.{one, opt, At, Takes, nothing, byte, left, right, Longest}
+use Rattle.rules.proofs.Matches.{forward, starting}
+use Rattle.rules.proofs.Tests.{there, not-there}
+use Rattle.rules.proofs.Ways.{never-takes}
 use Rattle.lexicon.specs.Space.{sp, Skips}
-use Rattle.lexicon.specs.Literals.{joint, unit}
-use Rattle.lexicon.proofs.Spaces.{skips-same, landed}
-use Rattle.lexicon.proofs.Groups.{Clear, Ended, unit-end, unit-byte, underscore-space}
-use Rattle.number.specs.Groups.{Joins}
+use Rattle.lexicon.specs.Literals.{joint}
+use Rattle.lexicon.proofs.Spaces.{landed}
+use Rattle.lexicon.proofs.Groups.{Clear, underscore-space}
 
-module _ (text : List ℕ) (set : Set) (n at : ℕ) where
-  abbrev Unit : ℕ → Type 0
-  Unit i = Takes text (unit n (members set)) i (i + n)
+module _ (text : List ℕ) (at : ℕ) where
+  abbrev Line : Bool → Type 0
+  Line o = Says o (Takes text (one (just 0x5F)) at (at + 1))
 
-  no-unit : (o : Bool) (i : ℕ) → Says o (Unit i) → o ≡ false → (j : ℕ) → Takes text (unit n (members set)) i j → ⊥
-  no-unit o i s e j u = refuted s e (ending (unit-end n (members set) u) u)
-
-  widen : {i j : ℕ} → Takes text (opt sp) i j → Takes text (opt joint) i j
-  widen (left t) = left (right t)
-  widen (right t) = right t
-
-  first-byte : 1 ≤ n → {i j : ℕ} → Takes text (unit n (members set)) i j → At text (members set) i
-  first-byte h {i} u = move-at text (members set) (add-zero i) (unit-byte n (members set) i u 0 h)
-
-  pub joins-here : (o : Bool) → Says o (Unit at) → o ≡ true → Joins text set n at at
-  joins-here o s e = record { joined = right (nothing refl); next = s .true-holds e }
-
-  pub joins-line : (o : Bool) → at < length text → getD text at 0 ≡ 0x5F → Says o (Unit (at + 1)) → o ≡ true → Joins text set n at (at + 1)
-  joins-line o h b s e =
-      record { joined = left (left (byte (h, is-just 0x5F (getD text at 0) b) refl)); next = s .true-holds e }
-
-  pub joins-space : (o : Bool) (m : ℕ) → Skips text at m → Says o (Unit m) → o ≡ true → Joins text set n at m
-  joins-space o m k s e = record { joined = widen (k .takes); next = s .true-holds e }
-
-  pub ends-text : (o : Bool) → Says o (Unit at) → o ≡ false → length text ≤ at → Ended text n (members set) at
-  ends-text o s e h = record { stops = λ f. go (f .joined) (f .next) }
+  -- behind `_`
+  pub joint-line : (o : Bool) → Line o → o ≡ true → Longest text (opt joint) at (at + 1)
+  joint-line o s e = record { takes = left (left (s .true-holds e)); most = most }
     where
-      go : {k j : ℕ} → Takes text (opt joint) at k → Takes text (unit n (members set)) k j → ⊥
-      go {j = j} (right (nothing e′)) u = no-unit o at s e j (starting (sym e′) u)
-      go (left t) u = end-takes text joint refl h t
+      most : {k : ℕ} → Takes text (opt joint) at k → k ≤ at + 1
+      most (left (left (byte a f))) = omega arith
+      most (left (right t)) = absurd (never-takes text (anyOf "_") sp underscore-space (there s e) t)
+      most (right (nothing f)) = omega arith
 
-  pub ends-line : (o p : Bool) → Says o (Unit at) → o ≡ false → at < length text → getD text at 0 ≡ 0x5F → Says p (Unit (at + 1)) → p ≡ false → Ended text n (members set) at
-  ends-line o p s e h b t f = record { stops = λ x. go (x .joined) (x .next) }
+  -- behind dividing space, if any
+  pub joint-space : (o : Bool) (m : ℕ) → Line o → o ≡ false → Skips text at m → Longest text (opt joint) at m
+  joint-space o m s e k = record { takes = widen (k .takes); most = most }
     where
-      line : At text (anyOf "_") at
-      line = (h, is-just 0x5F (getD text at 0) b)
+      widen : {j : ℕ} → Takes text (opt sp) at j → Takes text (opt joint) at j
+      widen (left t) = left (right t)
+      widen (right t) = right t
 
-      go : {k j : ℕ} → Takes text (opt joint) at k → Takes text (unit n (members set)) k j → ⊥
-      go {j = j} (right (nothing e′)) u = no-unit o at s e j (starting (sym e′) u)
-      go {j = j} (left (left (byte x e′))) u = no-unit p (at + 1) t f j (starting e′ u)
-      go (left (right y)) u = never-takes text (anyOf "_") sp underscore-space line y
+      most : {j : ℕ} → Takes text (opt joint) at j → j ≤ m
+      most (left (left (byte a f))) = absurd (not-there s e a)
+      most (left (right t)) = k .most (left t)
+      most (right t) = k .most (right t)
 
-  pub ends-space : (o p : Bool) (m : ℕ) → Clear (members set) → 1 ≤ n → Says o (Unit at) → o ≡ false → (getD text at 0 ≡ 0x5F → ⊥) → Skips text at m → Says p (Unit m) → p ≡ false → Ended text n (members set) at
-  ends-space o p m cl w s e b k t f = record { stops = λ x. go (x .joined) (x .next) }
-    where
-      go : {l j : ℕ} → Takes text (opt joint) at l → Takes text (unit n (members set)) l j → ⊥
-      go {j = j} (right (nothing e′)) u = no-unit o at s e j (starting (sym e′) u)
-      go (left (left (byte x e′))) u = b (just-is 0x5F (getD text at 0) (x .1))
-      go {j = j} (left (right y)) u =
-          no-unit p m t f j (starting (skips-same (landed (members set) (cl .no-blank) (left y) (first-byte w u)) k) u)
+-- a joint that is followed by a digit is the longest
+pub joint-end : {text : List ℕ} (c : Class) {i k m : ℕ} → Clear c → Takes text (opt joint) i k → At text c k → Longest text (opt joint) i m → k ≡ m
+joint-end {text} c {i} {k} {m} cl t a l = go t (l .takes) (l .most t)
+  where
+    go : Takes text (opt joint) i k → Takes text (opt joint) i m → k ≤ m → k ≡ m
+    go (right (nothing e)) (right (nothing f)) h = sym e ∙ f
+    go (right (nothing e)) (left u) h = absurd (never-takes text c joint (cl .no-joint) a (starting e u))
+    go (left (left (byte x e))) (right (nothing f)) h = absurd (omega arith)
+    go (left (left (byte x e))) (left (left (byte y f))) h = e ∙ sym f
+    go (left (left (byte x e))) (left (right u)) h = absurd (never-takes text (anyOf "_") sp underscore-space x u)
+    go (left (right u)) (right (nothing f)) h = le-antisymm h (omega (arith, forward u))
+    go (left (right u)) (left (left (byte x e))) h = absurd (never-takes text (anyOf "_") sp underscore-space x u)
+    go (left (right u)) (left (right v)) h = le-antisymm h (landed c (cl .no-blank) (left u) a .most (left v))

@@ -1,49 +1,94 @@
--- A row of units, one unit more at a time. Assumes nothing.
-use mathlib.Core.Path.{_≡_, sym, ap, subst, _∙_}
-use mathlib.Core.Bool.{Bool, true, false, not}
-use mathlib.Core.List.{List}
-use Prim.Native.Nat.{ℕ, _+_, _≤_}
+-- A row of units, one stretch of units more at a time. Assumes nothing.
+use mathlib.Core.Path.{_≡_, refl, sym, ap, subst, _∙_}
+use mathlib.Core.List.{List, _++_}
+use Prim.Native.Nat.{ℕ, _+_, _-_, _≤_}
+use native.Mathlib.Nat.{add-zero}
+use native.Mathlib.Omega.{arith}
 use lib.ListN.{length}
-use borrow.Author.Tests.{not-true}
-use Rattle.rules.specs.Test.{Says}
-use Rattle.rules.specs.Rule.{Takes, Fails}
-use Rattle.rules.proofs.Matches.{forward, ending, inside}
-use Rattle.rules.proofs.Tests.{shown, refuted}
+use Rattle.rules.specs.Rule.{many, opt, At, Takes, nothing, right, stop, more, Longest, Fails}
+use Rattle.rules.proofs.Matches.{forward, inside, starting, move-at}
 use Rattle.lexicon.specs.declared.Set.{Set}
-use Rattle.lexicon.specs.declared.Found.{Found}
-use Rattle.lexicon.specs.declared.Found.the-variants.{At, Nothing}
 use Rattle.lexicon.specs.Bytes.{members}
-use Rattle.lexicon.specs.Literals.{unit}
-use Rattle.lexicon.specs.Values.{read, lastUnit}
-use Rattle.lexicon.proofs.Groups.{unit-end, snoc-digits}
-use Rattle.number.specs.Groups.{Summed, Row, Joins, Joined}
+use Rattle.lexicon.specs.Literals.{unit, joint}
+use Rattle.lexicon.specs.Values.{Digits, read, lastUnit}
+use Rattle.lexicon.proofs.Groups.{Clear, Ended, unit-end, unit-byte, snoc-digits}
+use Rattle.number.specs.Groups.{Summed, Row}
 use Rattle.number.specs.Tally.{tallies}
-use Rattle.number.proofs.Sums.{tallies-append}
+use Rattle.number.proofs.Sums.{tallies-append, tallies-split}
+use Rattle.number.proofs.Joints.{joint-end}
 
-module _ (text : List ℕ) (set : Set) (n i : ℕ) where
-  pub no-row : (o : Bool) → Says o (Takes text (unit n (members set)) i (i + n)) → not o ≡ true → Fails text (unit n (members set)) i
-  no-row o s e = record { none = λ u. refuted s (not-true o e) (ending (unit-end n (members set) u) u) }
+module _ (text : List ℕ) (set : Set) (n : ℕ) where
+  abbrev Unit : ℕ → ℕ → Type 0
+  Unit i j = Takes text (unit n (members set)) i j
 
-  pub first-unit : (o : Bool) (s : ℕ) → Says o (Takes text (unit n (members set)) i (i + n)) → not o ≡ false → s ≡ tallies set 0 (read text i n) → Summed text set n i (i + n) s
-  first-unit o s t e f = record { bytes = read text i n; digits-are = lastUnit (shown t e); sum-is = f }
+  abbrev Units : ℕ → ℕ → Type 0
+  Units i j = Longest text (many (unit n (members set))) i j
 
-  -- what the search for the next unit answered
-  pub joins : (j m : ℕ) (r : Found) → Joined text set n j r → r ≡ At m → Joins text set n j m
-  joins j m r k e = subst (λ (x : Found). Joined text set n j x) e k
+  abbrev Chain : ℕ → ℕ → Type 0
+  Chain i j = Takes text (many (unit n (members set))) i j
 
-  pub next-unit : (j m s t : ℕ) → Summed text set n i j s → Joins text set n j m → t ≡ tallies set s (read text m n) → Summed text set n i (m + n) t
-  next-unit j m s t r k f =
+  -- ---- the sum
+
+  -- one unit more
+  next-unit : {i j m e s : ℕ} → Summed text set n i j s → Takes text (opt joint) j m → Unit m e → Summed text set n i e (tallies set s (read text m n))
+  next-unit {m = m} r t u =
       record {
         bytes = _;
-        digits-are = snoc-digits (r .digits-are) (k .joined) (k .next);
-        sum-is = f ∙ ap (λ (x : ℕ). tallies set x (read text m n)) (r .sum-is) ∙ sym (tallies-append set 0 (r .bytes) (read text m n));
+        digits-are = snoc-digits (r .digits-are) t u;
+        sum-is = ap (λ (x : ℕ). tallies set x (read text m n)) (r .sum-is) ∙ sym (tallies-append set 0 (r .bytes) (read text m n));
       }
 
-  pub unit-within : (j m : ℕ) → Joins text set n j m → j ≤ length text → (j ≤ m) × (m + n ≤ length text)
-  unit-within j m k h = (forward (k .joined), inside (k .next) (inside (k .joined) h))
+  -- the sum over units is that over the first and over the others
+  unit-first : {m l e : ℕ} (s : ℕ) {t : ℕ} → Unit m l → Chain l e → t ≡ tallies set s (read text m (e - m)) → t ≡ tallies set (tallies set s (read text m n)) (read text l (e - l))
+  unit-first {m} {l} {e} s u us f =
+      let x = unit-end n (members set) u in
+      let y : e - m ≡ n + (e - l) = omega (arith, forward us) in
+      f
+      ∙ ap (λ (k : ℕ). tallies set s (read text m k)) y
+      ∙ tallies-split set text s m n (e - l)
+      ∙ ap (λ (k : ℕ). tallies set (tallies set s (read text m n)) (read text k (e - l))) (sym x)
 
-  pub whole-row : (j s : ℕ) (r : Found) → Summed text set n i j s → Joined text set n j r → r ≡ Nothing → Row text set n i j s
-  whole-row j s r d k e = record { row = d; ended = subst (λ (x : Found). Joined text set n j x) e k }
+  -- units side by side more
+  next-units : {i m e s t : ℕ} → Summed text set n i m s → Chain m e → t ≡ tallies set s (read text m (e - m)) → Summed text set n i e t
+  unfolding tallies
+  next-units {i} {m} {e = j} {s = s} r (stop e) f =
+      let z : j - m ≡ 0 = omega arith in
+      record {
+        bytes = r .bytes;
+        digits-are = subst (λ (k : ℕ). Digits text n (members set) i k (r .bytes)) e (r .digits-are);
+        sum-is = f ∙ ap (λ (k : ℕ). tallies set s (read text m k)) z ∙ r .sum-is;
+      }
+  next-units {s = s} r (more u us) f = next-units (next-unit r (right (nothing refl)) u) us (unit-first s u us f)
 
-  pub first-within : (o : Bool) → Says o (Takes text (unit n (members set)) i (i + n)) → not o ≡ false → i ≤ length text → i + n ≤ length text
-  first-within o s e h = inside (shown s e) h
+  -- ---- the row's parts
+
+  module _ (i j s : ℕ) where
+    pub first-units : Units i j → (j ≡ i → ⊥) → s ≡ tallies set 0 (read text i (j - i)) → Summed text set n i j s
+    first-units l d f = go (l .takes)
+      where
+        go : Chain i j → Summed text set n i j s
+        go (stop e) = absurd (d (sym e))
+        go (more u us) = next-units (record { bytes = read text i n; digits-are = lastUnit u; sum-is = refl }) us (unit-first 0 u us f)
+
+    pub later-units : (m e t : ℕ) → Summed text set n i j s → Longest text (opt joint) j m → Units m e → (e ≡ m → ⊥) → t ≡ tallies set s (read text m (e - m)) → Summed text set n i e t
+    later-units m e t r p l d f = go (l .takes)
+      where
+        go : Chain m e → Summed text set n i e t
+        go (stop x) = absurd (d (sym x))
+        go (more u us) = next-units (next-unit r (p .takes) u) us (unit-first s u us f)
+
+  pub no-units : (i j : ℕ) → 1 ≤ n → Units i j → j ≡ i → Fails text (unit n (members set)) i
+  no-units i j h l e = record { none = λ u. omega (arith, e, h, unit-end n (members set) u, l .most (more u (stop refl))) }
+
+  -- no unit stands behind the last joint
+  pub whole-row : (i j m e s : ℕ) → 1 ≤ n → Clear (members set) → Summed text set n i j s → Longest text (opt joint) j m → Units m e → e ≡ m → Row text set n i j s
+  whole-row i j m e s h cl r p l d = record { row = r; ended = record { stops = λ f. go (f .joined) (f .next) } }
+    where
+      first-byte : {k x : ℕ} → Unit k x → At text (members set) k
+      first-byte {k} u = move-at text (members set) (add-zero k) (unit-byte n (members set) k u 0 h)
+
+      go : {k x : ℕ} → Takes text (opt joint) j k → Unit k x → ⊥
+      go t u = no-units m e h l d .none (starting (joint-end (members set) cl t (first-byte u) p) u)
+
+  pub units-within : (i j : ℕ) → Units i j → i ≤ length text → (i ≤ j) × (j ≤ length text)
+  units-within i j l h = (forward (l .takes), inside (l .takes) h)

@@ -1,36 +1,78 @@
--- A unit, byte by byte. Assumes nothing.
-use mathlib.Core.Path.{_≡_, sym, subst, _∙_}
+-- Bytes of a class side by side, and the units among them. Assumes nothing.
+use mathlib.Core.Path.{_≡_, refl, sym, _∙_}
 use mathlib.Core.Bool.{Bool, true, false, not}
 use mathlib.Core.List.{List}
-use Prim.Native.Nat.{ℕ, _+_, _≤_, _<_}
-use native.Mathlib.Nat.{not-le-of-lt, le-antisymm}
-use native.Mathlib.Numerals.{add-one}
+use Prim.Native.Nat.{ℕ, zero, suc, _+_, _-_, _*_, _/_, _≤_, _<_}
+use native.Mathlib.Nat.{zero-mul, suc-mul, div-mul-le-self, lt-div-mul-add}
 use native.Mathlib.Omega.{arith}
 use lib.ListN.{length, getD}
-use borrow.Author.Tests.{not-true, not-false}
-use Rattle.rules.specs.Test.{Says}
+use borrow.Author.Tests.{not-false}
 use Rattle.rules.specs.Class.{Class, has}
-use Rattle.rules.specs.Rule.{Takes}
-use Rattle.rules.proofs.Bools.{clash}
-use Rattle.rules.proofs.Matches.{ending}
-use Rattle.rules.proofs.Tests.{says-no, says-yes}
+use Rattle.rules.specs.Rule.{one, many, At, Takes, nothing, byte, both, stop, more, Longest, Fails}
+use Rattle.rules.proofs.Bools.{not-both}
+use Rattle.rules.proofs.Chains.{Single, join, snoc, longest}
+use Rattle.rules.proofs.Matches.{forward, starting, ending, one-at, byte-at}
 use Rattle.lexicon.specs.Literals.{unit}
-use Rattle.lexicon.proofs.Groups.{unit-byte, unit-snoc}
+use Rattle.lexicon.proofs.Groups.{unit-end}
+use Rattle.lexicon.proofs.Spaces.{byte-single}
 
-module _ (text : List ℕ) (c : Class) (at width k : ℕ) (h : k < width) where
-  -- the text ends within it
-  pub unit-short : length text ≤ at + k → Says false (Takes text (unit width c) at (at + width))
-  unit-short l = says-no (λ u. not-le-of-lt (unit-byte width c at u k h .0) l)
+-- ---- a run of bytes
 
-  -- a byte is none of the set
-  pub unit-other : (o : Bool) → o ≡ has c (getD text (at + k) 0) → not o ≡ true → Says false (Takes text (unit width c) at (at + width))
-  unit-other o e n = says-no (λ u. clash (e ∙ unit-byte width c at u k h .1) (not-true o n))
+module _ (text : List ℕ) (c : Class) (at i : ℕ) where
+  run-stops : Takes text (many (one c)) at i → (At text c i → ⊥) → Longest text (many (one c)) at i
+  run-stops t n = longest (byte-single c) t (record { none = λ b. n (byte-at b) })
 
--- one byte more
-pub unit-next : (text : List ℕ) (c : Class) (at k : ℕ) (o : Bool) → Takes text (unit k c) at (at + k) → at + k < length text → o ≡ has c (getD text (at + k) 0) → not o ≡ false → Takes text (unit (k + 1) c) at (at + (k + 1))
-unit-next text c at k o u l e n =
-    subst (λ (m : ℕ). Takes text (unit m c) at (at + (k + 1))) (sym (add-one k))
-    (ending (omega arith) (unit-snoc k c u (l, sym e ∙ not-false o n)))
+  -- a byte is none of the class
+  pub run-other : (o : Bool) → Takes text (many (one c)) at i → o ≡ has c (getD text i 0) → not o ≡ true → Longest text (many (one c)) at i
+  run-other o t e n = run-stops t (λ a. not-both o (e ∙ a .1) n)
 
-pub unit-whole : (text : List ℕ) (c : Class) (at width k : ℕ) → Takes text (unit k c) at (at + k) → k ≤ width → width ≤ k → Says true (Takes text (unit width c) at (at + width))
-unit-whole text c at width k u h l = says-yes (subst (λ (m : ℕ). Takes text (unit m c) at (at + m)) (le-antisymm h l) u)
+  -- the text ends
+  pub run-all : Takes text (many (one c)) at i → length text ≤ i → Longest text (many (one c)) at i
+  run-all t h = run-stops t (λ a. omega (arith, a .0))
+
+  -- one byte more
+  pub run-next : (o : Bool) → Takes text (many (one c)) at i → i < length text → o ≡ has c (getD text i 0) → not o ≡ false → Takes text (many (one c)) at (i + 1)
+  run-next o t h e n = snoc t (one-at (h, sym e ∙ not-false o n))
+
+-- ---- the units of a run
+
+module _ {text : List ℕ} (c : Class) where
+  -- the first bytes of a run are a unit
+  first-unit : (n : ℕ) {i j : ℕ} (m : ℕ) → m ≡ i + n → m ≤ j → Takes text (many (one c)) i j → Takes text (unit n c) i m × Takes text (many (one c)) m j
+  first-unit zero {i} m e h t = let x : i ≡ m = omega arith in (nothing x, starting x t)
+  first-unit (suc n) m e h (stop x) = absurd (omega arith)
+  first-unit (suc n) m e h (more (byte a x) t) = let r = first-unit n m (omega arith) h t in (both (byte a x) (r .0), r .1)
+
+  -- so many units
+  some-units : (q n : ℕ) {i j : ℕ} (m : ℕ) → m ≡ i + q * n → m ≤ j → Takes text (many (one c)) i j → Takes text (many (unit n c)) i m
+  some-units zero n {i} m e h t = let x : i ≡ m = omega (arith, zero-mul n) in stop x
+  some-units (suc q) n {i} m e h t =
+      let x = suc-mul q n in
+      let r = first-unit n (i + n) refl (omega arith) t in more (r .0) (some-units q n m (omega arith) h (r .1))
+
+  -- a unit's bytes are a run
+  unit-run : (n : ℕ) {i j : ℕ} → Takes text (unit n c) i j → Takes text (many (one c)) i j
+  unit-run zero (nothing e) = stop e
+  unit-run (suc n) (both b u) = more b (unit-run n u)
+
+  units-run : (n : ℕ) {i j : ℕ} → Takes text (many (unit n c)) i j → Takes text (many (one c)) i j
+  units-run n (stop e) = stop e
+  units-run n (more u us) = join (unit-run n u) (units-run n us)
+
+  unit-single : (n : ℕ) → Single text (unit n c)
+  unit-single n = record { same = λ u v. unit-end n c u ∙ sym (unit-end n c v) }
+
+-- as many as there is room for
+pub all-units : (text : List ℕ) (c : Class) (n at end : ℕ) → 1 ≤ n → Longest text (many (one c)) at end → Longest text (many (unit n c)) at (at + (end - at) / n * n)
+all-units text c n at end h r =
+    longest (unit-single c n) us (record { none = λ u. short u })
+  where
+    room : at + (end - at) / n * n ≤ end
+    room = omega (arith, forward (r .takes), div-mul-le-self (end - at) n)
+
+    us : Takes text (many (unit n c)) at (at + (end - at) / n * n)
+    us = some-units c ((end - at) / n) n (at + (end - at) / n * n) refl room (r .takes)
+
+    short : {k : ℕ} → Takes text (unit n c) (at + (end - at) / n * n) k → ⊥
+    short u =
+        omega (arith, unit-end n c u, r .most (join (units-run c n us) (unit-run c n u)), forward (r .takes), lt-div-mul-add {a = end - at} {b = n} h)

@@ -1,13 +1,11 @@
 -- What the search for digit groups answers. Assumes nothing.
 use mathlib.Core.Path.{_≡_}
 use mathlib.Core.List.{List}
-use Prim.Native.Nat.{ℕ, _+_}
-use Rattle.rules.specs.Rule.{Takes, Fails, opt}
+use Prim.Native.Nat.{ℕ}
+use Rattle.rules.specs.Rule.{Fails}
 use Rattle.lexicon.specs.declared.Set.{Set}
-use Rattle.lexicon.specs.declared.Found as Found
-use Rattle.lexicon.specs.declared.Found.{Found}
 use Rattle.lexicon.specs.Bytes.{members}
-use Rattle.lexicon.specs.Literals.{unit, joint}
+use Rattle.lexicon.specs.Literals.{unit}
 use Rattle.lexicon.specs.Values.{Digits}
 use Rattle.lexicon.proofs.Groups.{Ended}
 use Rattle.number.specs.declared.groups.Groups as Groups
@@ -28,12 +26,3 @@ pub record Row (text : List ℕ) (set : Set) (n i j s : ℕ) : Type 0 where
 abbrev pub Grouped : List ℕ → Set → ℕ → ℕ → Groups → Type 0
 Grouped text set n i (Groups.the-variants.At j s) = Row text set n i j s
 Grouped text set n i Groups.the-variants.Nothing = Fails text (unit n (members set)) i
-
--- where the next unit begins
-pub record Joins (text : List ℕ) (set : Set) (n i m : ℕ) : Type 0 where
-  pub joined : Takes text (opt joint) i m
-  pub next : Takes text (unit n (members set)) m (m + n)
-
-abbrev pub Joined : List ℕ → Set → ℕ → ℕ → Found → Type 0
-Joined text set n i (Found.the-variants.At m) = Joins text set n i m
-Joined text set n i Found.the-variants.Nothing = Ended text n (members set) i

@@ -1,12 +1,15 @@
 // What a literal's digits add up to, as far as the tokens need it: of a number its value, up to the limit; of base-64 characters,
-// how `=` stands among them. `tally_unit` is this crate's own, and its caller has found the unit.
+// how `=` stands among them. `tally_run` is this crate's own, and its caller has found the run.
 use lexicon::Set;
 use text::digit::limited;
 use text::digit::radix;
 ghost use mathlib.Core.Path.{_≡_};
 ghost use Prim.Native.Nat.{_+_, _≤_};
 ghost use lib.ListN.{length};
+ghost use Rattle.rules.specs.Test.{Says};
+ghost use Rattle.lexicon.specs.Bytes.{size};
 ghost use Rattle.lexicon.specs.Values.{read};
+ghost use Rattle.lexicon.specs.Limited.{limit};
 ghost use Rattle.number.specs.Tally.{paddedOf, tallyOf, tallies};
 
 // Where `limited` stops counting.
@@ -25,7 +28,7 @@ fn padded(sum: u32, b: u8) -> u32
     if sum == 0 { 0 } else { 2 }
 }
 
-// The sum with one byte more. One at the limit stays there, whatever the digit.
+// The sum with one byte more.
 fn tally(set: Set, sum: u32, b: u8) -> u32
     ensures { λ r. ⌜ r ≡ tallyOf set sum b ⌝ }
 {
@@ -33,20 +36,27 @@ fn tally(set: Set, sum: u32, b: u8) -> u32
     if n == 0 {
         return padded(sum, b);
     }
-    if sum == LIMIT {
-        return sum;
-    }
     limited(sum, n, b)
 }
 
-// The sum with the bytes of a unit more.
-pub(crate) fn tally_unit(text: &[u8], from: usize, width: usize, set: Set, sum: u32) -> u32
-    requires { ⌜ from + width ≤ length (now text) ⌝ }
-    ensures { λ r. ⌜ r ≡ tallies set sum (read (now (text .entry)) from width) ⌝ }
+// Whether the sum is a number at the limit, where it stays whatever digits follow.
+fn full(set: Set, sum: u32) -> bool
+    ensures { λ r. ⌜ Says r ((sum ≡ limit) × (1 ≤ size set)) ⌝ }
+{
+    sum == LIMIT && radix(set) > 0
+}
+
+// The sum with the bytes of a run more.
+pub(crate) fn tally_run(text: &[u8], from: usize, count: usize, set: Set, sum: u32) -> u32
+    requires { ⌜ from + count ≤ length (now text) ⌝ }
+    ensures { λ r. ⌜ r ≡ tallies set sum (read (now (text .entry)) from count) ⌝ }
 {
     let mut total = sum;
     let mut k = 0;
-    while k < width {
+    while k < count {
+        if full(set, total) {
+            return total;
+        }
         total = tally(set, total, text[from + k]);
         k += 1;
     }

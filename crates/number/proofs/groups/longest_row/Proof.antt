@@ -2,80 +2,61 @@
 use Prim.Native.Nat.{_≤_, _-_, _+_}
 use native.Mathlib.Omega.{arith}
 use lib.ListN.{length}
-use Rattle.number.specs.Groups.{Summed, Joins}
-use Rattle.number.proofs.Rows.{no-row, first-within, first-unit, joins, next-unit, unit-within, whole-row}
+use Rattle.rules.proofs.Matches.{forward, inside}
+use Rattle.number.specs.Groups.{Summed}
+use Rattle.number.proofs.Rows.{no-units, first-units, later-units, units-within, whole-row}
 use borrow.Author.Needs.{needs}
 use Rattle.number.proofs.groups.longest_row.Statement.{statement}
 use Rattle.number.proofs.groups.longest_row.Tie as tie
 
 abbrev Inv-loop : tie.InvT-loop
-Inv-loop text at set width classes end₀ sum₀ end sum = (at ≤ end) × (end ≤ length text) × Summed text set width at end sum
+Inv-loop text at set width classes end₀ sum₀ end sum = (end ≤ length text) × Summed text set width at end sum
 
 abbrev μ-loop : tie.MeasureT-loop
 μ-loop text at set width classes end₀ sum₀ end sum = length text - end
 
--- where the next unit stands
-found-next : (c : tie.After-known-told Inv-loop μ-loop) → Joins (c .before .before .before .before .before .before .before .before .before .before .before .before .args .text .now) (c .before .before .before .before .before .before .before .before .before .before .before .before .args .set) (c .before .before .before .before .before .before .before .before .before .before .before .before .args .width) (c .before .before .before .before .before .loop .end) (c .before .next .given .0 .0)
-found-next c =
-    let a = c .before .before .before .before .before .before .before .before .before .before .before .before .args in
-    joins (a .text .now) (a .set) (a .width) (a .at) (c .before .before .before .before .before .loop .end) (c .before .next .given .0 .0) (c .before .before .before .joined .result) (c .before .before .before .joined .ensures) (c .before .next .given .1)
-
-within-next : (c : tie.After-known-told Inv-loop μ-loop) → (c .before .before .before .before .before .loop .end ≤ c .before .next .given .0 .0) × (c .before .next .given .0 .0 + c .before .before .before .before .before .before .before .before .before .before .before .before .args .width ≤ length (c .before .before .before .before .before .before .before .before .before .before .before .before .args .text .now))
-within-next c =
-    let a = c .before .before .before .before .before .before .before .before .before .before .before .before .args in
-    unit-within (a .text .now) (a .set) (a .width) (a .at) (c .before .before .before .before .before .loop .end) (c .before .next .given .0 .0) (found-next c) (c .before .before .before .before .before .loop .inv .1)
-
 classes-requires : tie.Need-classes-requires Inv-loop μ-loop
 classes-requires c κs = search needs
 
-unit-requires : tie.Need-unit-requires Inv-loop μ-loop
-unit-requires c κs = search needs
+units-requires : tie.Need-units-requires Inv-loop μ-loop
+units-requires c κs = search needs
 
 returns : tie.Need-returns Inv-loop μ-loop
-returns c = search (no-row, needs)
+returns c = search (no-units, needs)
 
-add-end : tie.Need-add-end Inv-loop μ-loop
-add-end c = search needs
+sub-tally-run : tie.Need-sub-tally-run Inv-loop μ-loop
+sub-tally-run c = forward (c .before .units .ensures .takes)
 
-tally-unit-requires : tie.Need-tally-unit-requires Inv-loop μ-loop
-tally-unit-requires c κs =
-    let a = c .before .before .before .before .before .args in
-    first-within (a .text .now) (a .set) (a .width) (a .at) (c .before .unit .result) (c .before .unit .ensures) (c .if1 .left) (search needs)
+tally-run-requires : tie.Need-tally-run-requires Inv-loop μ-loop
+tally-run-requires c κs = omega (arith, forward (c .before .units .ensures .takes), inside (c .before .units .ensures .takes) (search needs))
 
 loop-holds : tie.Need-loop-holds Inv-loop μ-loop
 loop-holds c =
-    let a = c .before .before .before .before .before .before .args in
-    let h = first-within (a .text .now) (a .set) (a .width) (a .at) (c .before .before .unit .result) (c .before .before .unit .ensures) (c .before .if1 .left) (search needs) in
-    (omega arith, h, first-unit (a .text .now) (a .set) (a .width) (a .at) (c .before .before .unit .result) (c .tally-unit .result) (c .before .before .unit .ensures) (c .before .if1 .left) (c .tally-unit .ensures))
+    (inside (c .before .before .units .ensures .takes) (search needs), search (first-units, needs))
 
-joined-requires : tie.Need-joined-requires Inv-loop μ-loop
-joined-requires c κs = search needs
+joint-requires : tie.Need-joint-requires Inv-loop μ-loop
+joint-requires c κs = search needs
 
-enum-known-next : tie.Need-enum-known-next Inv-loop μ-loop
-enum-known-next c = search needs
-
-enum-told : tie.Need-enum-told Inv-loop μ-loop
-enum-told c = search needs
+units-requires-2 : tie.Need-units-requires-2 Inv-loop μ-loop
+units-requires-2 c κs = (inside (c .before .joint .ensures .takes) (search needs), search needs, search needs)
 
 returns-2 : tie.Need-returns-2 Inv-loop μ-loop
-returns-2 c =
-    let a = c .before .before .before .before .before .before .before .before .before .before .before .args in
-    whole-row (a .text .now) (a .set) (a .width) (a .at) _ _ (c .before .before .joined .result) (c .before .before .before .before .loop .inv .2) (c .before .before .joined .ensures) (c .enum-told .given .1)
+returns-2 c = search (whole-row, needs)
 
-tally-unit-requires-2 : tie.Need-tally-unit-requires-2 Inv-loop μ-loop
-tally-unit-requires-2 c κs = within-next c .1
+sub-tally-run-2 : tie.Need-sub-tally-run-2 Inv-loop μ-loop
+sub-tally-run-2 c = forward (c .before .units2 .ensures .takes)
 
-add-end-2 : tie.Need-add-end-2 Inv-loop μ-loop
-add-end-2 c = omega (arith, within-next (c .before), c .before .before .before .before .before .before .before .before .before .before .before .before .before .good .0 .0)
+tally-run-requires-2 : tie.Need-tally-run-requires-2 Inv-loop μ-loop
+tally-run-requires-2 c κs =
+    omega (arith, forward (c .before .units2 .ensures .takes), inside (c .before .units2 .ensures .takes) (inside (c .before .before .before .joint .ensures .takes) (search needs)))
 
 loop-less : tie.Need-loop-less Inv-loop μ-loop
-loop-less c = omega (arith, within-next (c .before))
+loop-less c =
+    omega (arith, forward (c .before .before .before .before .joint .ensures .takes), forward (c .before .before .units2 .ensures .takes), inside (c .before .before .units2 .ensures .takes) (inside (c .before .before .before .before .joint .ensures .takes) (search needs)))
 
 loop-again : tie.Need-loop-again Inv-loop μ-loop
 loop-again c =
-    let a = c .before .before .before .before .before .before .before .before .before .before .before .before .before .args in
-    let w = within-next (c .before) in
-    (omega arith, w .1, next-unit (a .text .now) (a .set) (a .width) (a .at) (c .before .before .before .before .before .before .loop .end) (c .before .before .next .given .0 .0) (c .before .before .before .before .before .before .loop .sum) (c .tally-unit2 .result) (c .before .before .before .before .before .before .loop .inv .2) (found-next (c .before)) (c .tally-unit2 .ensures))
+    (inside (c .before .before .units2 .ensures .takes) (inside (c .before .before .before .before .joint .ensures .takes) (search needs)), search (later-units, needs))
 
 pub longest-row-spec : {M : Type 1} → statement M
 longest-row-spec =
@@ -84,16 +65,15 @@ longest-row-spec =
     Inv-loop
     μ-loop
     classes-requires
-    unit-requires
+    units-requires
     returns
-    add-end
-    tally-unit-requires
+    sub-tally-run
+    tally-run-requires
     loop-holds
-    joined-requires
-    enum-known-next
-    enum-told
+    joint-requires
+    units-requires-2
     returns-2
-    tally-unit-requires-2
-    add-end-2
+    sub-tally-run-2
+    tally-run-requires-2
     loop-less
     loop-again)

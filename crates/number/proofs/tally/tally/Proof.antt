@@ -1,6 +1,6 @@
 -- `number::tally::tally` meets its contract. Assumes nothing.
 use borrow.Author.Needs.{needs}
-use Rattle.number.proofs.Sums.{tally-pad, tally-full, tally-digit}
+use Rattle.number.proofs.Sums.{tally-pad, tally-digit}
 use Rattle.number.proofs.tally.tally.Statement.{statement}
 use Rattle.number.proofs.tally.tally.Tie as tie
 
@@ -13,14 +13,11 @@ padded-requires c κs = search needs
 returns : tie.Need-returns
 returns c = search (tally-pad, needs)
 
-returns-2 : tie.Need-returns-2
-returns-2 c = search (tally-full, needs)
-
 limited-requires : tie.Need-limited-requires
 limited-requires c κs = search needs
 
-returns-3 : tie.Need-returns-3
-returns-3 c = search (tally-digit, needs)
+returns-2 : tie.Need-returns-2
+returns-2 c = search (tally-digit, needs)
 
 pub tally-spec : {M : Type 1} → statement M
-tally-spec = tie.close (tie.spec radix-requires padded-requires returns returns-2 limited-requires returns-3)
+tally-spec = tie.close (tie.spec radix-requires padded-requires returns limited-requires returns-2)

@@ -8,13 +8,14 @@ pub const SIZES: [usize; 3] = [1_024, 8_192, 32_768];
 /// A text of so many bytes.
 type Shape = fn(usize) -> Vec<u8>;
 
-pub const SHAPES: [(&str, Shape); 7] = [
+pub const SHAPES: [(&str, Shape); 8] = [
     ("settings", settings),
     ("comment", comment),
     ("nesting", nesting),
     ("groups", groups),
     ("segments", segments),
     ("integer", integer),
+    ("digits", digits),
     ("grouped-integer", grouped_integer),
 ];
 
@@ -94,7 +95,12 @@ fn integer(size: usize) -> Vec<u8> {
     padded("123_".repeat(size / 4 - 1) + "1234", size)
 }
 
-/// The literal that takes longest, where most is read again.
+/// The same without a joint.
+fn digits(size: usize) -> Vec<u8> {
+    "9".repeat(size).into_bytes()
+}
+
+/// A literal that stands in as many groups as may be.
 fn grouped_integer(size: usize) -> Vec<u8> {
     let literal = integer(size - 2 * DEPTH_MAX);
     grouped(&literal)
