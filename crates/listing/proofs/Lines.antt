@@ -5,11 +5,11 @@ use Prim.Native.Nat.{ℕ, zero, suc, _+_, _*_, _^_, _≤_, _<_}
 use native.Mathlib.Numerals.{add-one}
 use native.Mathlib.Omega.{arith}
 use lib.ListN.{length, getD, length-append}
+use Rattle.rules.proofs.Over.{over-start}
 use Rattle.grammar.specs.Nodes.{nodeWords}
 use Rattle.reading.specs.declared.Answer.{Answer}
 use Rattle.reading.specs.Sizes.{base, room}
 use Rattle.reading.specs.Answers.{Answers, noLevel, tooLong, notUtf8, faulty, noRoom, accepted}
-use Rattle.table.proofs.Words.{over-start}
 use Rattle.listing.specs.Listing.{decimal, headLine, nodeLine, nodeLines, listed, listing}
 use Rattle.listing.specs.Written.{Wrote, Listed}
 use Rattle.listing.proofs.Digits.{decimal-short}

@@ -1,20 +1,14 @@
 -- Bytes written into the lent buffer, piece behind piece. Assumes nothing.
 use mathlib.Core.Path.{_≡_, refl, sym, ap, _∙_, subst}
 use mathlib.Core.List.{List, [], _∷_, _++_}
-use Prim.Native.Nat.{ℕ, zero, suc, _+_, _/_, _%_, _≤_, _<_, min}
+use Prim.Native.Nat.{ℕ, _+_, _/_, _%_, _≤_, _<_, min}
 use native.Mathlib.Omega.{arith, min-cases}
 use lib.ListN.{length, set, length-append, length-set}
-use Rattle.table.specs.Over.{over}
-use Rattle.table.proofs.Words.{over-length, over-nothing, over-first, over-append}
+use Rattle.rules.specs.Over.{over}
+use Rattle.rules.proofs.Over.{over-length, over-nothing, over-past, over-one, over-append}
 use Rattle.listing.specs.Listing.{digit, decimal}
 use Rattle.listing.specs.Written.{Wrote}
 use Rattle.listing.proofs.Digits.{decimal-one, decimal-more}
-
--- nothing fits behind the end
-over-past : (t : List ℕ) (k : ℕ) (ws : List ℕ) → length t ≤ k → over t k ws ≡ t
-over-past [] k ws h = refl
-over-past (x ∷ t) zero ws h = absurd (omega arith)
-over-past (x ∷ t) (suc k) ws h = ap (λ (l : List ℕ). x ∷ l) (over-past t k ws (omega arith))
 
 pub wrote-none : {out : List ℕ} {k : ℕ} → k ≤ length out → Wrote out k [] out k
 wrote-none {out} {k} h = record { bytes-are = sym (over-nothing out k); place = omega arith; within = h }
@@ -24,7 +18,7 @@ wrote-full {out} {k} b h = record { bytes-are = sym (over-past out k (b ∷ []) 
 
 pub wrote-one : {out : List ℕ} {k : ℕ} (b : ℕ) → k < length out → Wrote out k (b ∷ []) (set out k b) (k + 1)
 wrote-one {out} {k} b h = record {
-  bytes-are = sym (over-first out k (k + 1) b [] refl ∙ ap (λ (l : List ℕ). set l k b) (over-nothing out (k + 1)));
+  bytes-are = sym (over-one out k b);
   place = omega arith;
   within = simp length-set (omega arith);
 }

@@ -3,7 +3,7 @@ use mathlib.Core.Path.{_≡_}
 use mathlib.Core.List.{List, _++_}
 use Prim.Native.Nat.{ℕ, _+_, _≤_, min}
 use lib.ListN.{length, drop}
-use Rattle.table.specs.Over.{over}
+use Rattle.rules.specs.Over.{over}
 use Rattle.reading.specs.declared.Answer.{Answer}
 use Rattle.reading.specs.Sizes.{base}
 use Rattle.reading.specs.Answers.{Answers}

@@ -7,3 +7,4 @@ pub mod Tests
 pub mod Ways
 pub mod Plain
 pub mod Closed
+pub mod Over

@@ -4,9 +4,10 @@ use mathlib.Core.List.{List, [], _∷_, _++_}
 use Prim.Native.Nat.{ℕ, zero, suc, _+_, _-_, _*_, _≤_, _<_}
 use native.Mathlib.Omega.{arith}
 use lib.ListN.{length, getD}
+use Rattle.rules.specs.Over.{over}
+use Rattle.rules.proofs.Over.{over-length, over-nothing, over-append, over-swap, over-before}
 use Rattle.grammar.specs.Nodes.{nodeWords}
-use Rattle.table.specs.Over.{over, parentWord, roleWord, capped, wordOf, under, lifted, raised, Raised}
-use Rattle.table.proofs.Words.{over-length, over-nothing, over-append, over-swap, over-before}
+use Rattle.table.specs.Over.{parentWord, roleWord, capped, wordOf, under, lifted, raised, Raised}
 
 -- the stores of a copy
 pub copied : {t' : List ℕ} (t : List ℕ) (i p : ℕ) →

@@ -5,12 +5,14 @@ use Prim.Native.Nat.{ℕ, _+_, _*_, _≤_, _<_}
 use native.Mathlib.Decide.{decLe}
 use native.Mathlib.Omega.{arith}
 use lib.ListN.{length, length-map, getD}
+use Rattle.rules.specs.Over.{over}
+use Rattle.rules.proofs.Over.{over-length, over-append, over-again, over-at}
 use Rattle.grammar.specs.Tree.{Value}
 use Rattle.grammar.specs.Nodes as Nodes
 use Rattle.grammar.specs.Nodes.{Node, words, nodeWords, tableWords, nodes}
 use Rattle.grammar.proofs.NodeLaws.{some-node}
-use Rattle.table.specs.Over.{over, largestWord, capped, parentWord, wordOf, under, lifted, raised, Raised, Reserved, Written}
-use Rattle.table.proofs.Words.{over-length, over-append, over-again, over-at, tableWords-length}
+use Rattle.table.specs.Over.{largestWord, capped, parentWord, wordOf, under, lifted, raised, Raised, Reserved, Written}
+use Rattle.table.proofs.Words.{tableWords-length}
 use Rattle.table.proofs.Shifted.{placed, shifted, parented, reparent, shift}
 
 -- ---- lengths

@@ -4,13 +4,14 @@ use mathlib.Core.List.{List, [], _∷_}
 use Prim.Native.Nat.{ℕ, _+_, _*_, _/_, _≤_, _<_}
 use native.Mathlib.Omega.{arith}
 use lib.ListN.{length, set}
+use Rattle.rules.specs.Over.{over}
+use Rattle.rules.proofs.Over.{over-first, over-one}
 use Rattle.grammar.specs.Nodes.{roleNumber, nodeWords}
 use Rattle.moves.specs.declared.Role.{Role}
 use Rattle.moves.specs.declared.Role.the-variants as Role
 use Rattle.moves.proofs.Means.{roleOf}
 use Rattle.table.specs.declared.Entry.{Entry}
-use Rattle.table.specs.Over.{over, roleWord, entryWords, Stored, Assigned}
-use Rattle.table.proofs.Words.{over-nothing, over-first}
+use Rattle.table.specs.Over.{roleWord, entryWords, Stored, Assigned}
 
 -- six words, the last first
 abbrev stores : List ℕ → (k a b c d e f : ℕ) → List ℕ
@@ -23,7 +24,7 @@ six t k a b c d e f =
     ∙ ap (λ (l : List ℕ). set l (k + 1) b) (over-first t (k + 2) (k + 3) c _ (omega arith)
     ∙ ap (λ (l : List ℕ). set l (k + 2) c) (over-first t (k + 3) (k + 4) d _ (omega arith)
     ∙ ap (λ (l : List ℕ). set l (k + 3) d) (over-first t (k + 4) (k + 5) e _ (omega arith)
-    ∙ ap (λ (l : List ℕ). set l (k + 4) e) (over-first t (k + 5) (k + 6) f _ (omega arith) ∙ ap (λ (l : List ℕ). set l (k + 5) f) (over-nothing t (k + 6)))))))
+    ∙ ap (λ (l : List ℕ). set l (k + 4) e) (over-one t (k + 5) f)))))
 
 module _ (t : List ℕ) (i : ℕ) where
   -- no node at index i

@@ -5,14 +5,15 @@ use mathlib.Core.List.{List, [], _∷_, _++_}
 use Prim.Native.Nat.{ℕ, zero, suc, _+_, _*_, _≤_}
 use native.Mathlib.Omega.{arith}
 use lib.ListN.{length, set, drop, length-append}
+use Rattle.rules.specs.Over.{over}
+use Rattle.rules.proofs.Over.{over-nothing, over-append, over-swap, over-set, over-start}
 use Rattle.grammar.specs.Nodes.{Node, words, nodeWords, tableWords, roleNumber}
 use Rattle.moves.specs.declared.Role.{Role}
 use Rattle.moves.specs.declared.Role.the-variants as Role
 use Rattle.moves.proofs.Means.{roleOf, roled}
 use Rattle.table.specs.declared.Entry.{Entry}
-use Rattle.table.specs.Over.{over, roleWord, entryWords, Tells, Stored, Put, Assigned, Written}
-pub use Rattle.table.proofs.Words.{over-length}
-use Rattle.table.proofs.Words.{over-nothing, over-append, over-swap, over-set, over-start, tableWords-length, tableWords-append, roled-length, roled-words}
+use Rattle.table.specs.Over.{roleWord, entryWords, Tells, Stored, Put, Assigned, Written}
+use Rattle.table.proofs.Words.{tableWords-length, tableWords-append, roled-length, roled-words}
 use Rattle.table.proofs.Stores.{root-number, number-root}
 
 -- the words that the code has are the node's

@@ -1,20 +1,14 @@
--- Words written over those of the lent table, and nodes written so. Assumes nothing.
+-- Nodes written over the words of the lent table. Assumes nothing.
 use mathlib.Core.Path.{_≡_}
 use mathlib.Core.List.{List, [], _∷_, _++_}
 use Prim.Native.Nat.{ℕ, zero, suc, _+_, _*_, _≤_, _<_, min}
 use lib.ListN.{length, set, getD}
+use Rattle.rules.specs.Over.{over}
 use Rattle.grammar.specs.Nodes.{Node, kindNumber, roleNumber, words, nodeWords, tableWords}
 use Rattle.moves.specs.declared.Role.{Role}
 use Rattle.moves.specs.declared.Role.the-variants as Role
 use Rattle.moves.proofs.Means.{roleOf}
 use Rattle.table.specs.declared.Entry.{Entry}
-
--- the words ws written over t from word k on; those that do not fit are dropped
-abbrev pub over : List ℕ → ℕ → List ℕ → List ℕ
-over [] k ws = []
-over (x ∷ t) zero [] = x ∷ t
-over (x ∷ t) zero (w ∷ ws) = w ∷ over t zero ws
-over (x ∷ t) (suc k) ws = x ∷ over t k ws
 
 -- which of a node's words tells its parent's index, and which its role, counted from 0
 abbrev pub parentWord : ℕ

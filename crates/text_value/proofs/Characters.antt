@@ -5,7 +5,6 @@ use mathlib.Core.List.{List, [], _∷_, _++_, append-assoc}
 use Prim.Native.Nat.{ℕ, zero, suc, _+_, _-_, _≤_, _<_}
 use native.Mathlib.Omega.{arith}
 use lib.ListN.{length, getD}
-use Rattle.rules.specs.Class.{Class, _upto_}
 use Rattle.rules.specs.Rule.{one, many, At, Takes, byte, both, stop, more}
 use Rattle.rules.proofs.Classes.{apart, apartSpan, includes, inSome}
 use Rattle.rules.proofs.Chains.{join}
@@ -24,7 +23,7 @@ use Rattle.text_value.specs.Parts.{escaped, QuotedBytes, last}
 use Rattle.text_value.specs.Parts as Parts
 use Rattle.text_value.proofs.Encodes.{encode-one, written-one}
 use Rattle.text_value.proofs.Sequences.{allOf, all-of, unescaped-written, restricted-written}
-use Rattle.text_value.proofs.Spelled.{appends, quoted-begins}
+use Rattle.text_value.proofs.Spelled.{ascii, appends, quoted-begins}
 
 -- every character is a scalar value
 abbrev pub Scalars : List ℕ → Type 0
@@ -55,9 +54,6 @@ restricted-bytes = refl
 unescaped-bytes : allOf other unescaped ≡ true
 unfolding includes inSome
 unescaped-bytes = refl
-
-abbrev ascii : Class
-ascii = 0x00 upto 0x7F ∷ []
 
 word-bytes : allOf ascii word ≡ true
 unfolding includes inSome

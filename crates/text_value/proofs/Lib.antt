@@ -9,4 +9,5 @@ pub mod Formed
 pub mod Codes
 pub mod Walks
 pub mod Texts
+pub mod Fits
 pub mod Determined

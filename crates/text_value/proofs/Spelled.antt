@@ -1,30 +1,33 @@
--- The bytes that a quoted text stands for are determined, and no more than its own. Assumes nothing.
+-- The bytes that a quoted text or a code point stands for are determined, and no more than its own. Assumes nothing.
 use mathlib.Core.Path.{_≡_, refl, sym, ap, subst, _∙_}
 use mathlib.Core.Bool.{Bool, true, false, cond}
 use mathlib.Core.List.{List, [], _∷_, _++_}
-use Prim.Native.Nat.{ℕ, zero, suc, _+_, _-_, _≤_, _<_}
+use Prim.Native.Nat.{ℕ, zero, suc, _+_, _-_, _*_, _≤_, _<_}
 use native.Mathlib.Omega.{arith}
-use lib.Dec.{ltb, eqb}
+use lib.Dec.{leb, ltb, eqb}
 use lib.ListN.{length, getD, length-append}
-use Rattle.rules.specs.Class.{Class}
-use Rattle.rules.specs.Rule.{one, plus, At, Takes, byte, both, Fails}
-use Rattle.rules.proofs.Classes.{apart, apartSpan, apart-no, just-is}
+use Rattle.rules.specs.Class.{Class, _upto_, In}
+use Rattle.rules.specs.Rule.{one, plus, At, Takes, byte, both, stop, more, Fails}
+use Rattle.rules.proofs.Classes.{apart, apartSpan, apart-no, just-is, inSome, includes, includes-in}
 use Rattle.rules.proofs.Chains.{longest}
 use Rattle.rules.proofs.Matches.{forward, move-at, longest-same}
 use Rattle.rules.proofs.Ways.{never, begins-none}
 use Rattle.lexicon.specs.declared.Base.{Base}
-use Rattle.lexicon.specs.Bytes.{radix}
+use Rattle.lexicon.specs.declared.Base.the-variants.{Two, Eight, Ten, Sixteen}
+use Rattle.lexicon.specs.Bytes.{digits, radix}
 use Rattle.lexicon.specs.Literals.{codeOfBase, codePoint}
 use Rattle.lexicon.specs.Space.{Skips}
-use Rattle.lexicon.specs.Values.{read, value, Letter, CodeOf}
+use Rattle.lexicon.specs.Values.{read, digit, value, Letter, CodeOf}
 use Rattle.lexicon.proofs.Bases.{any-base}
 use Rattle.lexicon.proofs.Spaces.{byte-single, skips-same}
+use Rattle.text.proofs.Ranges.{in-high}
 use Rattle.string.proofs.Marks.{marked, mark-long}
 use Rattle.string.proofs.Codes.{angle-same}
 use Rattle.text_value.specs.Encode.{two, three, four, encode}
 use Rattle.text_value.specs.Parts.{quote, backslash, notQuote, other, Angled, Item, itself, letter, number, Unescapes, closed, Copies}
 use Rattle.text_value.specs.Parts.{SegmentBytes, plain, escaped, QuotedBytes, last}
 use Rattle.text_value.specs.Parts as Parts
+use Rattle.text_value.proofs.Encodes.{encode-one}
 
 -- ---- bytes that differ
 
@@ -68,6 +71,24 @@ letter-angle Letter.tab e = omega (arith, e)
 letter-angle Letter.lineFeed e = omega (arith, e)
 letter-angle Letter.carriageReturn e = omega (arith, e)
 
+abbrev pub ascii : Class
+ascii = 0x00 upto 0x7F ∷ []
+
+digit-ascii : (b : Base) → includes (digits b) ascii ≡ true
+unfolding includes inSome
+digit-ascii Two = refl
+digit-ascii Eight = refl
+digit-ascii Ten = refl
+digit-ascii Sixteen = refl
+
+-- a digit stands for less than 128, which is enough to see that its number takes one byte
+digit-low : (b : Base) (d : ℕ) → In (digits b) d → digit d < 0x80
+digit-low b d h = let x = in-high 0x00 0x7F d (includes-in (digits b) ascii d (digit-ascii b) h) in go (leb d 0x39) x
+  where
+    go : (o : Bool) → d ≤ 0x7F → cond o (d - 0x30) (d - 0x37) < 0x80
+    go true x = omega arith
+    go false x = omega arith
+
 -- one row of bytes behind another
 abbrev pub appends : {a b c d : List ℕ} → a ≡ b → c ≡ d → a ++ c ≡ b ++ d
 appends p q = λ i. p i ++ q i
@@ -81,9 +102,6 @@ module _ (piece : List ℕ) where
   pub first-digit : {c : Class} {i j : ℕ} → Takes piece (plus (one c)) i j → At piece c i
   first-digit (both (byte a e) u) = a
 
-  digits-long : {c : Class} {i j : ℕ} → Takes piece (plus (one c)) i j → i + 1 ≤ j
-  digits-long (both (byte a e) u) = let x = forward u in omega arith
-
   pub code-takes : {i j v : ℕ} → CodeOf piece i j v → Takes piece codePoint i j
   code-takes c = any-base codeOfBase (c .base) (both (c .before) (c .all-digits))
 
@@ -95,9 +113,6 @@ module _ (piece : List ℕ) where
       ∙ ap (λ (x : Base). value (radix x) (read piece (c .start) (j - c .start))) (sym (e .0))
       ∙ ap (λ (y : ℕ). value (radix (d .base)) (read piece y (j - y))) (sym (e .1))
       ∙ sym (d .value-is)
-
-  pub code-long : {i j v : ℕ} → CodeOf piece i j v → i + 3 ≤ j
-  code-long c = omega (arith, mark-long piece (c .base) (c .before), digits-long (c .all-digits))
 
   abbrev pub Same : ℕ → ℕ → List ℕ → List ℕ → Type 0
   Same j k bs cs = (j ≡ k) × (bs ≡ cs)
@@ -186,9 +201,21 @@ module _ (piece : List ℕ) where
       go false false true = omega arith
       go false false false = omega arith
 
+  -- `0c` and one digit stand for one byte, and with a second digit they are four, which is enough for any
+  pub code-short : {i j v : ℕ} → CodeOf piece i j v → i + length (encode v) ≤ j
+  code-short {i} {j} {v} c = go (mark-long piece (c .base) (c .before)) (c .all-digits) (c .value-is)
+    where
+      go : {s : ℕ} → i + 2 ≤ s → Takes piece (plus (one (digits (c .base)))) s j → v ≡ value (radix (c .base)) (read piece s (j - s)) →
+          i + length (encode v) ≤ j
+      go {s} h (both (byte a e) (stop f)) g =
+          let n : j - s ≡ 1 = omega (arith, e, f) in
+          let w : v ≡ 0 * radix (c .base) + digit (getD piece s 0) = g ∙ ap (λ (k : ℕ). value (radix (c .base)) (read piece s k)) n in
+          omega (arith, h, e, f, ap length (encode-one v (omega (arith, w, digit-low (c .base) (getD piece s 0) (a .1)))))
+      go h (both (byte a e) (more (byte b f) u)) g = omega (arith, h, e, f, forward u, encode-short v)
+
   pub angled-short : {i j : ℕ} {bs : List ℕ} → Angled piece i j bs → (i + length bs ≤ j) × (j ≤ length piece)
   angled-short a =
-      (omega (arith, code-long (a .code), a .behind, ap length (a .bytes-are), encode-short (a .number)), omega (arith, a .behind, a .close .0))
+      (omega (arith, code-short (a .code), a .behind, ap length (a .bytes-are)), omega (arith, a .behind, a .close .0))
 
   pub item-short : {i j : ℕ} {bs : List ℕ} → Item piece i j bs → (i + length bs ≤ j) × (j ≤ length piece) × (i < j)
   item-short (itself a e p) = (omega (arith, e, ap length p), omega (arith, e, a .0), omega (arith, e))
@@ -200,7 +227,7 @@ module _ (piece : List ℕ) where
   rest-short (Parts.next {bs = bs} {cs = cs} t u) =
       let x = item-short t in let y = rest-short u in (omega (arith, x .0, y .0, length-append bs cs), y .1)
 
-  read-length : (i n : ℕ) → length (read piece i n) ≡ n
+  pub read-length : (i n : ℕ) → length (read piece i n) ≡ n
   read-length i zero = refl
   read-length i (suc n) = ap suc (read-length (i + 1) n)
 
@@ -211,3 +238,8 @@ module _ (piece : List ℕ) where
   pub segment-short : {i j : ℕ} {bs : List ℕ} → SegmentBytes piece i j bs → (i + length bs ≤ j) × (j ≤ length piece) × (i < j)
   segment-short (plain q n c) = let x = copies-short c in (omega (arith, x .0), x .1, omega (arith, x .0))
   segment-short (escaped q b u) = let x = rest-short u in (omega (arith, x .0), x .1, omega (arith, x .0))
+
+  pub quoted-short : {i : ℕ} {bs : List ℕ} → QuotedBytes piece i bs → i + length bs ≤ length piece
+  quoted-short (last s e) = let x = segment-short s in omega (arith, x .0, x .1)
+  quoted-short (Parts.next {bs = bs} {cs = cs} s u q) =
+      omega (arith, segment-short s .0, forward (u .takes), quoted-short q, length-append bs cs)

@@ -1,29 +1,23 @@
--- Bytes stored in a buffer one after the other. Assumes nothing.
+-- Bytes put into a buffer one after the other. Assumes nothing.
 use mathlib.Core.Path.{_≡_, refl, sym, ap, subst, _∙_}
-use mathlib.Core.List.{List, [], _∷_, _++_, append-assoc}
+use mathlib.Core.List.{List, [], _∷_, _++_}
 use Prim.Native.Nat.{ℕ, zero, suc, _+_, _-_, _≤_}
 use native.Mathlib.Omega.{arith}
-use lib.ListN.{length, getD, set, drop, length-append, length-set}
+use lib.ListN.{length, getD, set, drop, length-append}
+use Rattle.rules.specs.Over.{over}
+use Rattle.rules.proofs.Over.{over-length, over-nothing, over-past, over-one, over-append, over-start}
 use Rattle.lexicon.specs.Values.{read}
-use Rattle.text_value.specs.Parts.{stored, Puts}
+use Rattle.text_value.specs.Parts.{Puts}
 
--- a byte that does not fit is dropped
-set-past : (t : List ℕ) (k b : ℕ) → length t ≤ k → set t k b ≡ t
-set-past [] k b h = refl
-set-past (x ∷ t) zero b h = absurd (omega arith)
-set-past (x ∷ t) (suc k) b h = ap (λ (l : List ℕ). x ∷ l) (set-past t k b (omega arith))
-
-stored-append : (t : List ℕ) (k : ℕ) (xs bs : List ℕ) → stored t k (xs ++ bs) ≡ stored (stored t k xs) (k + length xs) bs
-stored-append t k [] bs = ap (λ (n : ℕ). stored t n bs) (omega arith)
-stored-append t k (a ∷ xs) bs =
-    stored-append (set t k a) (k + 1) xs bs
-    ∙ ap (λ (n : ℕ). stored (stored (set t k a) (k + 1) xs) n bs) (omega arith)
-
+-- one byte that does not fit, and one that may
 pub puts-past : (t : List ℕ) (k b : ℕ) → length t ≤ k → Puts t k (b ∷ []) t (k + 1)
-puts-past t k b h = record { bytes-are = sym (set-past t k b h); ends = omega arith }
+puts-past t k b h = record { bytes-are = sym (over-past t k (b ∷ []) h); ends = omega arith }
+
+pub puts-one : (t : List ℕ) (k b : ℕ) → Puts t k (b ∷ []) (set t k b) (k + 1)
+puts-one t k b = record { bytes-are = sym (over-one t k b); ends = omega arith }
 
 pub puts-none : (t : List ℕ) (k : ℕ) → Puts t k [] t k
-puts-none t k = record { bytes-are = refl; ends = omega arith }
+puts-none t k = record { bytes-are = sym (over-nothing t k); ends = omega arith }
 
 -- one row of bytes behind another
 pub puts-more : {t u v : List ℕ} {k n m : ℕ} {xs bs : List ℕ} → Puts t k xs u n → Puts u n bs v m → Puts t k (xs ++ bs) v m
@@ -31,18 +25,13 @@ puts-more {t} {u} {v} {k} {n} {m} {xs} {bs} p q =
     record {
       bytes-are =
           q .bytes-are
-          ∙ ap (λ (l : List ℕ). stored l n bs) (p .bytes-are)
-          ∙ ap (λ (x : ℕ). stored (stored t k xs) x bs) (p .ends)
-          ∙ sym (stored-append t k xs bs);
+          ∙ ap (λ (l : List ℕ). over l n bs) (p .bytes-are)
+          ∙ sym (over-append t k n xs bs (p .ends));
       ends = omega (arith, p .ends, q .ends, length-append xs bs);
     }
 
-stored-length : (t : List ℕ) (k : ℕ) (bs : List ℕ) → length (stored t k bs) ≡ length t
-stored-length t k [] = refl
-stored-length t k (b ∷ bs) = stored-length (set t k b) (k + 1) bs ∙ length-set t k b
-
 pub puts-length : {t t' bs : List ℕ} {k n : ℕ} → Puts t k bs t' n → length t' ≡ length t
-puts-length {t} {bs = bs} {k = k} p = ap length (p .bytes-are) ∙ stored-length t k bs
+puts-length {t} {bs = bs} {k = k} p = ap length (p .bytes-are) ∙ over-length t k bs
 
 -- the bytes of a piece, one more
 read-snoc : (text : List ℕ) (i k : ℕ) → read text i (suc k) ≡ read text i k ++ getD text (i + k) 0 ∷ []
@@ -74,19 +63,5 @@ pub puts-next : (piece : List ℕ) (i j : ℕ) → i ≤ j → {t u v : List ℕ
 puts-next piece i j h p q = puts-same (read-more piece i j h) (puts-more p q)
 
 -- from the start on, where they fit: they stand first, the rest stays
-set-behind : (xs t : List ℕ) (k x b : ℕ) → k ≡ length xs → set (xs ++ x ∷ t) k b ≡ (xs ++ b ∷ []) ++ t
-set-behind [] t zero x b e = refl
-set-behind [] t (suc k) x b e = absurd (omega arith)
-set-behind (y ∷ xs) t zero x b e = absurd (omega arith)
-set-behind (y ∷ xs) t (suc k) x b e = ap (λ (l : List ℕ). y ∷ l) (set-behind xs t k x b (omega arith))
-
-stored-behind : (xs t bs : List ℕ) (k : ℕ) → k ≡ length xs → length bs ≤ length t → stored (xs ++ t) k bs ≡ xs ++ (bs ++ drop (length bs) t)
-stored-behind xs t [] k e h = refl
-stored-behind xs [] (b ∷ bs) k e h = absurd (omega arith)
-stored-behind xs (x ∷ t) (b ∷ bs) k e h =
-    ap (λ (l : List ℕ). stored l (k + 1) bs) (set-behind xs t k x b e)
-    ∙ stored-behind (xs ++ b ∷ []) t bs (k + 1) (omega (arith, e, length-append xs (b ∷ []))) (omega arith)
-    ∙ append-assoc xs (b ∷ []) (bs ++ drop (length bs) t)
-
 pub puts-start : {t t' : List ℕ} {bs : List ℕ} {n : ℕ} → Puts t 0 bs t' n → length bs ≤ length t → t' ≡ bs ++ drop (length bs) t
-puts-start {t} {bs = bs} p h = p .bytes-are ∙ stored-behind [] t bs 0 refl h
+puts-start {t} {bs = bs} p h = p .bytes-are ∙ over-start t bs (length bs) refl h

@@ -188,7 +188,7 @@ module _ (piece : List ℕ) where
   -- ---- determined and well formed
 
   module _ (good : BadText piece → ⊥) where
-    text-scalars : {cs : List ℕ} → TextOf piece 0 (length piece) cs → Scalars cs
+    pub text-scalars : {cs : List ℕ} → TextOf piece 0 (length piece) cs → Scalars cs
     text-scalars (quotes q) = quoted-good q (λ b. good (inl b))
     text-scalars (bare t) = word-same piece t .1
     text-scalars (coded c) = (code-good c (λ b. good (inr b)), tt)

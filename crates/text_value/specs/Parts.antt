@@ -2,8 +2,9 @@
 use mathlib.Core.Path.{_≡_}
 use mathlib.Core.List.{List, [], _∷_, _++_}
 use Prim.Native.Nat.{ℕ, _+_, _-_, _≤_, _<_, min}
-use lib.ListN.{length, getD, set}
+use lib.ListN.{length, getD}
 use Rattle.rules.specs.Class.{Class, _upto_, just}
+use Rattle.rules.specs.Over.{over}
 use Rattle.rules.specs.Rule.{one, many, At, Takes}
 use Rattle.lexicon.specs.Space.{Skips}
 use Rattle.lexicon.specs.Values.{read, Letter, CodeOf}
@@ -13,14 +14,9 @@ use Rattle.text_value.specs.Encode.{encode}
 
 -- ---- bytes into a buffer
 
--- the bytes stored one after the other from place k on; `set` drops one that does not fit
-abbrev pub stored : List ℕ → ℕ → List ℕ → List ℕ
-stored t k [] = t
-stored t k (b ∷ bs) = stored (set t k b) (k + 1) bs
-
--- t' is t with the bytes from place k on, and n is the place behind them
+-- t' is t with the bytes from place k on, as far as they fit, and n is the place behind them all
 pub record Puts (t : List ℕ) (k : ℕ) (bs t' : List ℕ) (n : ℕ) : Type 0 where
-  pub bytes-are : t' ≡ stored t k bs
+  pub bytes-are : t' ≡ over t k bs
   pub ends : n ≡ k + length bs
 
 -- ---- the bytes that a quoted text stands for, byte by byte: its characters need not be told apart
