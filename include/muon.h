@@ -189,8 +189,8 @@ uint32_t muon_integer(const uint8_t *piece, size_t piece_len, int64_t *value, si
    count      one size_t, written in every case
 
    Accepted, exactly the first *count bytes of the buffer are written, and they are well-formed UTF-8. Refused, none.
-   piece_len bytes are room enough for every piece: no form of a Text literal is shorter than its characters. (So the rules have it; it
-   is no statement of the proofs.) */
+   piece_len bytes are room enough for every piece: the characters of a Text are no more bytes than its literal (proved; enough-room
+   in crates/text_value/proofs/Fits.antt). */
 uint32_t muon_text(const uint8_t *piece, size_t piece_len, uint8_t *buffer, size_t buffer_len, size_t *place, size_t *count);
 
 #ifdef __cplusplus
