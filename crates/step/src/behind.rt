@@ -6,7 +6,7 @@ use crate::joint::low_sign;
 use crate::joint::star_square;
 use crate::role::alone_role;
 use crate::role::right_role;
-use crate::to::curly;
+use crate::to::next_member;
 use crate::to::round;
 use crate::to::shut;
 use lexicon::Kind;
@@ -14,7 +14,6 @@ use lexicon::Sign;
 use moves::CurlyFrame;
 use moves::Forms;
 use moves::Frame;
-use moves::Front;
 use moves::Move;
 use moves::Role;
 use moves::RoundFrame;
@@ -24,7 +23,7 @@ use moves::Style;
 ghost use mathlib.Core.Path.{_≡_};
 ghost use Rattle.moves.proofs.Model as Model;
 
-// `)` ends a group, a Nesting or a Tuple.
+// `)` ends a group, a Pair or a Tuple.
 fn close_round(frame: RoundFrame) -> Move
     ensures { λ r. ⌜ r ≡ Model.closeRound frame ⌝ }
 {
@@ -40,17 +39,7 @@ fn close_round(frame: RoundFrame) -> Move
             detail: 0,
             role: right_role(leftward),
         },
-        RoundFrame::Led => Move::Close {
-            kind: 10,
-            detail: 0,
-            role: Role::Value,
-        },
-        RoundFrame::Row => Move::Close {
-            kind: 10,
-            detail: 0,
-            role: Role::Value,
-        },
-        RoundFrame::Named => Move::Close {
+        RoundFrame::Led | RoundFrame::Row | RoundFrame::Named => Move::Close {
             kind: 10,
             detail: 0,
             role: Role::Value,
@@ -107,12 +96,9 @@ fn comma_round(frame: RoundFrame) -> Move
     ensures { λ r. ⌜ r ≡ Model.commaRound frame ⌝ }
 {
     match frame {
-        RoundFrame::Opened => round(RoundFrame::Row, Role::Value),
         RoundFrame::Colon { name } => comma_pair(name),
         RoundFrame::Arrow { .. } => Move::Wrong,
-        RoundFrame::Led => round(RoundFrame::Row, Role::Value),
-        RoundFrame::Row => round(RoundFrame::Row, Role::Value),
-        RoundFrame::Named => round(RoundFrame::Row, Role::Value),
+        _ => round(RoundFrame::Row, Role::Value),
     }
 }
 
@@ -121,20 +107,8 @@ fn comma_curly(frame: CurlyFrame) -> Move
     ensures { λ r. ⌜ r ≡ Model.commaCurly frame ⌝ }
 {
     match frame {
-        CurlyFrame::Members { style, .. } => curly(
-            CurlyFrame::Members {
-                style,
-                front: Front::Row,
-            },
-            alone_role(style),
-        ),
-        CurlyFrame::Joined { leftward } => curly(
-            CurlyFrame::Members {
-                style: Style::Lot,
-                front: Front::Row,
-            },
-            right_role(leftward),
-        ),
+        CurlyFrame::Members { style, .. } => next_member(style, alone_role(style)),
+        CurlyFrame::Joined { leftward } => next_member(Style::Lot, right_role(leftward)),
     }
 }
 
@@ -143,17 +117,11 @@ fn behind_sign_round(forms: Forms, frame: RoundFrame, sign: Sign) -> Move
     ensures { λ r. ⌜ r ≡ Model.behindSign forms (Frame.Round frame) sign ⌝ }
 {
     match sign {
-        Sign::RoundOpen => Move::Wrong,
         Sign::RoundClose => close_round(frame),
-        Sign::CurlyOpen => Move::Wrong,
-        Sign::CurlyClose => Move::Wrong,
-        Sign::SquareOpen => Move::Wrong,
-        Sign::SquareClose => Move::Wrong,
         Sign::Comma => comma_round(frame),
         Sign::ArrowRight => arrow_round(forms, frame, false),
         Sign::ArrowLeft => arrow_round(forms, frame, true),
-        Sign::Dots => Move::Wrong,
-        Sign::Star { .. } => Move::Wrong,
+        _ => Move::Wrong,
     }
 }
 
@@ -162,17 +130,11 @@ fn behind_sign_curly(forms: Forms, frame: CurlyFrame, sign: Sign) -> Move
     ensures { λ r. ⌜ r ≡ Model.behindSign forms (Frame.Curly frame) sign ⌝ }
 {
     match sign {
-        Sign::RoundOpen => Move::Wrong,
-        Sign::RoundClose => Move::Wrong,
-        Sign::CurlyOpen => Move::Wrong,
         Sign::CurlyClose => close_curly(frame),
-        Sign::SquareOpen => Move::Wrong,
-        Sign::SquareClose => Move::Wrong,
         Sign::Comma => comma_curly(frame),
         Sign::ArrowRight => arrow_curly(forms, frame, false),
         Sign::ArrowLeft => arrow_curly(forms, frame, true),
-        Sign::Dots => Move::Wrong,
-        Sign::Star { .. } => Move::Wrong,
+        _ => Move::Wrong,
     }
 }
 
@@ -181,46 +143,24 @@ fn behind_sign_square(forms: Forms, frame: SquareFrame, sign: Sign) -> Move
     ensures { λ r. ⌜ r ≡ Model.behindSign forms (Frame.Square frame) sign ⌝ }
 {
     match sign {
-        Sign::RoundOpen => Move::Wrong,
-        Sign::RoundClose => Move::Wrong,
-        Sign::CurlyOpen => Move::Wrong,
-        Sign::CurlyClose => Move::Wrong,
-        Sign::SquareOpen => Move::Wrong,
         Sign::SquareClose => close_square(frame),
-        Sign::Comma => Move::Wrong,
-        Sign::ArrowRight => Move::Wrong,
-        Sign::ArrowLeft => Move::Wrong,
         Sign::Dots => low_sign(frame, 11),
         Sign::Star { low, high } => star_square(frame, low, high),
+        _ => Move::Wrong,
     }
 }
 
-// A sign, by the bracket that it stands in.
-fn behind_sign(forms: Forms, frame: Frame, sign: Sign) -> Move
-    ensures { λ r. ⌜ r ≡ Model.behindSign forms frame sign ⌝ }
-{
-    match frame {
-        Frame::Round(frame) => behind_sign_round(forms, frame, sign),
-        Frame::Curly(frame) => behind_sign_curly(forms, frame, sign),
-        Frame::Square(frame) => behind_sign_square(forms, frame, sign),
-    }
-}
-
-// A sign or a colon alone stands behind a value.
+// A sign, by the bracket that it stands in, or a colon: nothing else stands behind a value.
 pub(crate) fn behind(forms: Forms, frame: Frame, shape: Shape, kind: Kind) -> Move
     ensures { λ r. ⌜ r ≡ Model.behind forms frame shape kind ⌝ }
 {
     match kind {
-        Kind::Ignorance => Move::Wrong,
-        Kind::Boolean(_) => Move::Wrong,
-        Kind::Integer { .. } => Move::Wrong,
-        Kind::Fraction => Move::Wrong,
-        Kind::Bits => Move::Wrong,
-        Kind::Blob => Move::Wrong,
-        Kind::Text(_) => Move::Wrong,
-        Kind::Later => Move::Wrong,
-        Kind::Symbol(sign) => behind_sign(forms, frame, sign),
+        Kind::Symbol(sign) => match frame {
+            Frame::Round(frame) => behind_sign_round(forms, frame, sign),
+            Frame::Curly(frame) => behind_sign_curly(forms, frame, sign),
+            Frame::Square(frame) => behind_sign_square(forms, frame, sign),
+        },
         Kind::Colon => colon(frame, shape),
-        Kind::TwoColons => Move::Wrong,
+        _ => Move::Wrong,
     }
 }

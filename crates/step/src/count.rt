@@ -1,10 +1,8 @@
 // A member's count, and what stands behind it.
-use crate::to::curly;
+use crate::to::next_member;
 use crate::to::shut;
 use lexicon::Kind;
 use lexicon::Sign;
-use moves::CurlyFrame;
-use moves::Front;
 use moves::Move;
 use moves::Role;
 use moves::Style;
@@ -19,10 +17,9 @@ fn number_count(style: Style, signed: bool) -> Move
         return Move::Wrong;
     }
     match style {
-        Style::Lot => Move::Wrong,
         Style::Array => Move::Count(Style::Array),
-        Style::Set => Move::Wrong,
         Style::Bag => Move::Count(Style::Bag),
+        _ => Move::Wrong,
     }
 }
 
@@ -30,12 +27,10 @@ fn number_count(style: Style, signed: bool) -> Move
 fn truth_count(style: Style) -> Move
     ensures { λ r. ⌜ r ≡ Model.truthCount style ⌝ }
 {
-    match style {
-        Style::Lot => Move::Wrong,
-        Style::Array => Move::Wrong,
-        Style::Set => Move::Count(Style::Set),
-        Style::Bag => Move::Wrong,
-    }
+    let Style::Set = style else {
+        return Move::Wrong;
+    };
+    Move::Count(Style::Set)
 }
 
 // A count behind a member and `:`.
@@ -43,42 +38,9 @@ pub(crate) fn count(style: Style, kind: Kind) -> Move
     ensures { λ r. ⌜ r ≡ Model.count style kind ⌝ }
 {
     match kind {
-        Kind::Ignorance => Move::Wrong,
         Kind::Boolean(_) => truth_count(style),
         Kind::Integer { signed } => number_count(style, signed),
-        Kind::Fraction => Move::Wrong,
-        Kind::Bits => Move::Wrong,
-        Kind::Blob => Move::Wrong,
-        Kind::Text(_) => Move::Wrong,
-        Kind::Later => Move::Wrong,
-        Kind::Symbol(_) => Move::Wrong,
-        Kind::Colon => Move::Wrong,
-        Kind::TwoColons => Move::Wrong,
-    }
-}
-
-// `}` or a comma, and no other sign.
-fn counted_sign(style: Style, sign: Sign) -> Move
-    ensures { λ r. ⌜ r ≡ Model.countedSign style sign ⌝ }
-{
-    match sign {
-        Sign::RoundOpen => Move::Wrong,
-        Sign::RoundClose => Move::Wrong,
-        Sign::CurlyOpen => Move::Wrong,
-        Sign::CurlyClose => shut(style, Role::Root),
-        Sign::SquareOpen => Move::Wrong,
-        Sign::SquareClose => Move::Wrong,
-        Sign::Comma => curly(
-            CurlyFrame::Members {
-                style,
-                front: Front::Row,
-            },
-            Role::Root,
-        ),
-        Sign::ArrowRight => Move::Wrong,
-        Sign::ArrowLeft => Move::Wrong,
-        Sign::Dots => Move::Wrong,
-        Sign::Star { .. } => Move::Wrong,
+        _ => Move::Wrong,
     }
 }
 
@@ -86,17 +48,12 @@ fn counted_sign(style: Style, sign: Sign) -> Move
 pub(crate) fn counted(style: Style, kind: Kind) -> Move
     ensures { λ r. ⌜ r ≡ Model.only (Model.countedSign style) kind ⌝ }
 {
-    match kind {
-        Kind::Ignorance => Move::Wrong,
-        Kind::Boolean(_) => Move::Wrong,
-        Kind::Integer { .. } => Move::Wrong,
-        Kind::Fraction => Move::Wrong,
-        Kind::Bits => Move::Wrong,
-        Kind::Blob => Move::Wrong,
-        Kind::Text(_) => Move::Wrong,
-        Kind::Later => Move::Wrong,
-        Kind::Symbol(sign) => counted_sign(style, sign),
-        Kind::Colon => Move::Wrong,
-        Kind::TwoColons => Move::Wrong,
+    let Kind::Symbol(sign) = kind else {
+        return Move::Wrong;
+    };
+    match sign {
+        Sign::CurlyClose => shut(style, Role::Root),
+        Sign::Comma => next_member(style, Role::Root),
+        _ => Move::Wrong,
     }
 }

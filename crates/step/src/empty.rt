@@ -13,20 +13,12 @@ pub(crate) fn empty_round(frame: RoundFrame) -> Move
     ensures { λ r. ⌜ r ≡ Model.emptyRound frame ⌝ }
 {
     match frame {
-        RoundFrame::Opened => Move::Close {
+        RoundFrame::Opened | RoundFrame::Row => Move::Close {
             kind: 10,
             detail: 0,
             role: Role::Root,
         },
-        RoundFrame::Colon { .. } => Move::Wrong,
-        RoundFrame::Arrow { .. } => Move::Wrong,
-        RoundFrame::Led => Move::Wrong,
-        RoundFrame::Row => Move::Close {
-            kind: 10,
-            detail: 0,
-            role: Role::Root,
-        },
-        RoundFrame::Named => Move::Wrong,
+        _ => Move::Wrong,
     }
 }
 
@@ -34,23 +26,22 @@ pub(crate) fn empty_round(frame: RoundFrame) -> Move
 pub(crate) fn empty_curly(frame: CurlyFrame) -> Move
     ensures { λ r. ⌜ r ≡ Model.emptyCurly frame ⌝ }
 {
-    match frame {
-        CurlyFrame::Members { style, .. } => shut(style, Role::Root),
-        CurlyFrame::Joined { .. } => Move::Wrong,
-    }
+    let CurlyFrame::Members { style, .. } = frame else {
+        return Move::Wrong;
+    };
+    shut(style, Role::Root)
 }
 
 // `[]`.
 pub(crate) fn empty_square(frame: SquareFrame) -> Move
     ensures { λ r. ⌜ r ≡ Model.emptySquare frame ⌝ }
 {
-    match frame {
-        SquareFrame::Opened => Move::Close {
-            kind: 15,
-            detail: 0,
-            role: Role::Root,
-        },
-        SquareFrame::Low(_) => Move::Wrong,
-        SquareFrame::UpTo(_) => Move::Wrong,
+    let SquareFrame::Opened = frame else {
+        return Move::Wrong;
+    };
+    Move::Close {
+        kind: 15,
+        detail: 0,
+        role: Role::Root,
     }
 }

@@ -16,7 +16,6 @@ use moves::Move;
 use moves::Role;
 use moves::RoundFrame;
 use moves::SquareFrame;
-use moves::Style;
 ghost use mathlib.Core.Path.{_≡_};
 ghost use Rattle.moves.proofs.Model as Model;
 
@@ -24,20 +23,19 @@ ghost use Rattle.moves.proofs.Model as Model;
 fn lead_round(frame: RoundFrame) -> Move
     ensures { λ r. ⌜ r ≡ Model.leadRound frame ⌝ }
 {
-    match frame {
-        RoundFrame::Opened => round(RoundFrame::Led, Role::Root),
-        RoundFrame::Colon { .. } => Move::Wrong,
-        RoundFrame::Arrow { .. } => Move::Wrong,
-        RoundFrame::Led => Move::Wrong,
-        RoundFrame::Row => Move::Wrong,
-        RoundFrame::Named => Move::Wrong,
-    }
+    let RoundFrame::Opened = frame else {
+        return Move::Wrong;
+    };
+    round(RoundFrame::Led, Role::Root)
 }
 
-// A collection's leading comma, or the second of two.
-fn lead_front(style: Style, front: Front) -> Move
-    ensures { λ r. ⌜ r ≡ Model.leadFront style front ⌝ }
+// A comma before a member: the leading one, or the second of two. None stands where the second value of a pair is wanted.
+fn lead_curly(frame: CurlyFrame) -> Move
+    ensures { λ r. ⌜ r ≡ Model.leadCurly frame ⌝ }
 {
+    let CurlyFrame::Members { style, front } = frame else {
+        return Move::Wrong;
+    };
     match front {
         Front::Start => curly(
             CurlyFrame::Members {
@@ -54,20 +52,16 @@ fn lead_front(style: Style, front: Front) -> Move
     }
 }
 
-// A comma before a member: none stands where the second value of a pair is wanted.
-fn lead_curly(frame: CurlyFrame) -> Move
-    ensures { λ r. ⌜ r ≡ Model.leadCurly frame ⌝ }
+// A star where a bound is wanted, `[*`, `[*<` or `[*<=`: directly behind `[` alone, and `<` or `<=` before it would want a low bound.
+fn lead_star(frame: SquareFrame, low: Bound, high: Bound) -> Move
+    ensures { λ r. ⌜ r ≡ Model.leadStar frame low high ⌝ }
 {
-    match frame {
-        CurlyFrame::Members { style, front } => lead_front(style, front),
-        CurlyFrame::Joined { .. } => Move::Wrong,
-    }
-}
-
-// `[*`, `[*<` or `[*<=`: no low bound.
-fn star_right(high: Bound) -> Move
-    ensures { λ r. ⌜ r ≡ Model.starRight high ⌝ }
-{
+    let SquareFrame::Opened = frame else {
+        return Move::Wrong;
+    };
+    let Bound::Open = low else {
+        return Move::Wrong;
+    };
     match high {
         Bound::Open => Move::To {
             mode: Mode::Bounded(10),
@@ -78,44 +72,15 @@ fn star_right(high: Bound) -> Move
     }
 }
 
-// A star directly behind `[`: `<` or `<=` before it would want a low bound.
-fn star_first(low: Bound, high: Bound) -> Move
-    ensures { λ r. ⌜ r ≡ Model.starFirst low high ⌝ }
-{
-    match low {
-        Bound::Open => star_right(high),
-        Bound::Less => Move::Wrong,
-        Bound::LessEqual => Move::Wrong,
-    }
-}
-
-// A star where a bound is wanted: directly behind `[` alone.
-fn lead_star(frame: SquareFrame, low: Bound, high: Bound) -> Move
-    ensures { λ r. ⌜ r ≡ Model.leadStar frame low high ⌝ }
-{
-    match frame {
-        SquareFrame::Opened => star_first(low, high),
-        SquareFrame::Low(_) => Move::Wrong,
-        SquareFrame::UpTo(_) => Move::Wrong,
-    }
-}
-
 // A sign between `(` and `)`.
 fn lead_sign_round(frame: RoundFrame, sign: Sign) -> Move
     ensures { λ r. ⌜ r ≡ Model.leadSign (Frame.Round frame) sign ⌝ }
 {
     match sign {
-        Sign::RoundOpen => Move::Value(Frame::Round(frame)),
+        Sign::RoundOpen | Sign::CurlyOpen | Sign::SquareOpen => Move::Value(Frame::Round(frame)),
         Sign::RoundClose => empty_round(frame),
-        Sign::CurlyOpen => Move::Value(Frame::Round(frame)),
-        Sign::CurlyClose => Move::Wrong,
-        Sign::SquareOpen => Move::Value(Frame::Round(frame)),
-        Sign::SquareClose => Move::Wrong,
         Sign::Comma => lead_round(frame),
-        Sign::ArrowRight => Move::Wrong,
-        Sign::ArrowLeft => Move::Wrong,
-        Sign::Dots => Move::Wrong,
-        Sign::Star { .. } => Move::Wrong,
+        _ => Move::Wrong,
     }
 }
 
@@ -124,17 +89,10 @@ fn lead_sign_curly(frame: CurlyFrame, sign: Sign) -> Move
     ensures { λ r. ⌜ r ≡ Model.leadSign (Frame.Curly frame) sign ⌝ }
 {
     match sign {
-        Sign::RoundOpen => Move::Value(Frame::Curly(frame)),
-        Sign::RoundClose => Move::Wrong,
-        Sign::CurlyOpen => Move::Value(Frame::Curly(frame)),
+        Sign::RoundOpen | Sign::CurlyOpen | Sign::SquareOpen => Move::Value(Frame::Curly(frame)),
         Sign::CurlyClose => empty_curly(frame),
-        Sign::SquareOpen => Move::Value(Frame::Curly(frame)),
-        Sign::SquareClose => Move::Wrong,
         Sign::Comma => lead_curly(frame),
-        Sign::ArrowRight => Move::Wrong,
-        Sign::ArrowLeft => Move::Wrong,
-        Sign::Dots => Move::Wrong,
-        Sign::Star { .. } => Move::Wrong,
+        _ => Move::Wrong,
     }
 }
 
@@ -143,46 +101,24 @@ fn lead_sign_square(frame: SquareFrame, sign: Sign) -> Move
     ensures { λ r. ⌜ r ≡ Model.leadSign (Frame.Square frame) sign ⌝ }
 {
     match sign {
-        Sign::RoundOpen => Move::Value(Frame::Square(frame)),
-        Sign::RoundClose => Move::Wrong,
-        Sign::CurlyOpen => Move::Value(Frame::Square(frame)),
-        Sign::CurlyClose => Move::Wrong,
-        Sign::SquareOpen => Move::Value(Frame::Square(frame)),
+        Sign::RoundOpen | Sign::CurlyOpen | Sign::SquareOpen => Move::Value(Frame::Square(frame)),
         Sign::SquareClose => empty_square(frame),
-        Sign::Comma => Move::Wrong,
-        Sign::ArrowRight => Move::Wrong,
-        Sign::ArrowLeft => Move::Wrong,
-        Sign::Dots => Move::Wrong,
         Sign::Star { low, high } => lead_star(frame, low, high),
+        _ => Move::Wrong,
     }
 }
 
-// A sign, by the bracket that it stands in.
-fn lead_sign(frame: Frame, sign: Sign) -> Move
-    ensures { λ r. ⌜ r ≡ Model.leadSign frame sign ⌝ }
-{
-    match frame {
-        Frame::Round(frame) => lead_sign_round(frame, sign),
-        Frame::Curly(frame) => lead_sign_curly(frame, sign),
-        Frame::Square(frame) => lead_sign_square(frame, sign),
-    }
-}
-
-// Every token begins a value but a colon and some signs.
+// Every token begins a value but a colon and some signs, by the bracket that they stand in.
 pub(crate) fn lead(frame: Frame, kind: Kind) -> Move
     ensures { λ r. ⌜ r ≡ Model.lead frame kind ⌝ }
 {
     match kind {
-        Kind::Ignorance => Move::Value(frame),
-        Kind::Boolean(_) => Move::Value(frame),
-        Kind::Integer { .. } => Move::Value(frame),
-        Kind::Fraction => Move::Value(frame),
-        Kind::Bits => Move::Value(frame),
-        Kind::Blob => Move::Value(frame),
-        Kind::Text(_) => Move::Value(frame),
-        Kind::Later => Move::Value(frame),
-        Kind::Symbol(sign) => lead_sign(frame, sign),
+        Kind::Symbol(sign) => match frame {
+            Frame::Round(frame) => lead_sign_round(frame, sign),
+            Frame::Curly(frame) => lead_sign_curly(frame, sign),
+            Frame::Square(frame) => lead_sign_square(frame, sign),
+        },
         Kind::Colon => Move::Wrong,
-        Kind::TwoColons => Move::Value(frame),
+        _ => Move::Value(frame),
     }
 }

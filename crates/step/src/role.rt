@@ -32,8 +32,6 @@ pub(crate) fn alone_role(style: Style) -> Role
 {
     match style {
         Style::Lot => Role::This,
-        Style::Array => Role::Value,
-        Style::Set => Role::Value,
-        Style::Bag => Role::Value,
+        Style::Array | Style::Set | Style::Bag => Role::Value,
     }
 }

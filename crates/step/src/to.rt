@@ -1,6 +1,7 @@
 // Moves to a frame, and `}`.
 use moves::CurlyFrame;
 use moves::Frame;
+use moves::Front;
 use moves::Mode;
 use moves::Move;
 use moves::Role;
@@ -30,6 +31,19 @@ pub(crate) fn curly(frame: CurlyFrame, role: Role) -> Move
     }
 }
 
+// The next member is wanted, behind a comma.
+pub(crate) fn next_member(style: Style, role: Role) -> Move
+    ensures { λ r. ⌜ r ≡ Model.curly (CurlyFrame.Members style Front.Row) role ⌝ }
+{
+    curly(
+        CurlyFrame::Members {
+            style,
+            front: Front::Row,
+        },
+        role,
+    )
+}
+
 // A value is wanted between `[` and `]`.
 pub(crate) fn square(frame: SquareFrame, role: Role) -> Move
     ensures { λ r. ⌜ r ≡ Model.square frame role ⌝ }
@@ -50,17 +64,6 @@ pub(crate) fn shut(style: Style, role: Role) -> Move
             detail: 0,
             role,
         },
-        Style::Array => Move::Shut {
-            style: Style::Array,
-            role,
-        },
-        Style::Set => Move::Shut {
-            style: Style::Set,
-            role,
-        },
-        Style::Bag => Move::Shut {
-            style: Style::Bag,
-            role,
-        },
+        Style::Array | Style::Set | Style::Bag => Move::Shut { style, role },
     }
 }

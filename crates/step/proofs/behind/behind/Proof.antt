@@ -1,111 +1,68 @@
 -- `step::behind::behind` meets its contract, arm by arm.
 -- Assumes nothing.
-use mathlib.Core.Path.{ap, sym, _∙_}
+use mathlib.Core.List.{[], _∷_}
+use mathlib.Core.Path.{_≡_, ap, sym, _∙_}
+use Rattle.lexicon.specs.declared.Kind.{Kind}
+use Rattle.moves.specs.declared.Move.the-variants as Move
 use Rattle.moves.proofs.Model as Model
+use Rattle.step.proofs.Rest.{kind-is}
 use Rattle.step.proofs.behind.behind.Statement.{statement}
 use Rattle.step.proofs.behind.behind.Tie as tie
 
-enum-told : tie.Need-enum-told
-enum-told c = c .match .keys1
-
-enum-told-2 : tie.Need-enum-told-2
-enum-told-2 c = c .match .keys2
-
-enum-told-3 : tie.Need-enum-told-3
-enum-told-3 c = c .match .keys3
-
-enum-told-4 : tie.Need-enum-told-4
-enum-told-4 c = c .match .keys4
-
-enum-told-5 : tie.Need-enum-told-5
-enum-told-5 c = c .match .keys5
-
-enum-told-6 : tie.Need-enum-told-6
-enum-told-6 c = c .match .keys6
-
-enum-told-7 : tie.Need-enum-told-7
-enum-told-7 c = c .match .keys7
-
-enum-told-8 : tie.Need-enum-told-8
-enum-told-8 c = c .match .keys8
-
 enum-known-kind : tie.Need-enum-known-kind
-enum-known-kind c = c .match .keys9
+enum-known-kind c = c .match .keys1
 
-behind-sign-requires : tie.Need-behind-sign-requires
-behind-sign-requires c κs = tt
+enum-known-frame : tie.Need-enum-known-frame
+enum-known-frame c = c .match2 .keys1
 
-enum-told-9 : tie.Need-enum-told-9
-enum-told-9 c = c .match .keys10
+behind-sign-round-requires : tie.Need-behind-sign-round-requires
+behind-sign-round-requires c κs = tt
+
+enum-known-frame-2 : tie.Need-enum-known-frame-2
+enum-known-frame-2 c = c .match2 .keys2
+
+behind-sign-curly-requires : tie.Need-behind-sign-curly-requires
+behind-sign-curly-requires c κs = tt
+
+enum-known-frame-3 : tie.Need-enum-known-frame-3
+enum-known-frame-3 c = c .match2 .keys3
+
+behind-sign-square-requires : tie.Need-behind-sign-square-requires
+behind-sign-square-requires c κs = tt
+
+enum-told : tie.Need-enum-told
+enum-told c = c .match .keys2
 
 colon-requires : tie.Need-colon-requires
 colon-requires c κs = tt
 
-enum-told-10 : tie.Need-enum-told-10
-enum-told-10 c = c .match .keys11
-
 returns : tie.Need-returns
-returns c = let a = c .before .before .args in ap (Model.behind (a .forms) (a .frame) (a .shape)) (sym (c .enum-told .given .1))
+returns c =
+    let sign = c .before .before .before .before .before in
+    let a = sign .before .before .args in
+    c .behind-sign-round .ensures ∙ (λ i. Model.behind (a .forms) (sym (c .before .before .frame .given .1) i) (a .shape) (sym (sign .kind .given .1) i))
 
 returns-2 : tie.Need-returns-2
-returns-2 c = let a = c .before .before .args in ap (Model.behind (a .forms) (a .frame) (a .shape)) (sym (c .enum-told2 .given .1))
+returns-2 c =
+    let sign = c .before .before .before .before .before in
+    let a = sign .before .before .args in
+    c .behind-sign-curly .ensures ∙ (λ i. Model.behind (a .forms) (sym (c .before .before .frame2 .given .1) i) (a .shape) (sym (sign .kind .given .1) i))
 
 returns-3 : tie.Need-returns-3
-returns-3 c = let a = c .before .before .args in ap (Model.behind (a .forms) (a .frame) (a .shape)) (sym (c .enum-told3 .given .1))
+returns-3 c =
+    let sign = c .before .before .before .before .before in
+    let a = sign .before .before .args in
+    c .behind-sign-square .ensures ∙ (λ i. Model.behind (a .forms) (sym (c .before .before .frame3 .given .1) i) (a .shape) (sym (sign .kind .given .1) i))
 
 returns-4 : tie.Need-returns-4
-returns-4 c = let a = c .before .before .args in ap (Model.behind (a .forms) (a .frame) (a .shape)) (sym (c .enum-told4 .given .1))
+returns-4 c =
+    let a = c .before .before .before .args in
+    c .colon .ensures ∙ ap (Model.behind (a .forms) (a .frame) (a .shape)) (sym (c .before .enum-told .given .1))
 
 returns-5 : tie.Need-returns-5
-returns-5 c = let a = c .before .before .args in ap (Model.behind (a .forms) (a .frame) (a .shape)) (sym (c .enum-told5 .given .1))
-
-returns-6 : tie.Need-returns-6
-returns-6 c = let a = c .before .before .args in ap (Model.behind (a .forms) (a .frame) (a .shape)) (sym (c .enum-told6 .given .1))
-
-returns-7 : tie.Need-returns-7
-returns-7 c = let a = c .before .before .args in ap (Model.behind (a .forms) (a .frame) (a .shape)) (sym (c .enum-told7 .given .1))
-
-returns-8 : tie.Need-returns-8
-returns-8 c = let a = c .before .before .args in ap (Model.behind (a .forms) (a .frame) (a .shape)) (sym (c .enum-told8 .given .1))
-
-returns-9 : tie.Need-returns-9
-returns-9 c =
-    let a = c .before .before .before .before .args in
-    c .behind-sign .ensures ∙ ap (Model.behind (a .forms) (a .frame) (a .shape)) (sym (c .before .before .kind .given .1))
-
-returns-10 : tie.Need-returns-10
-returns-10 c =
-    let a = c .before .before .before .args in
-    c .colon .ensures ∙ ap (Model.behind (a .forms) (a .frame) (a .shape)) (sym (c .before .enum-told9 .given .1))
-
-returns-11 : tie.Need-returns-11
-returns-11 c = let a = c .before .before .args in ap (Model.behind (a .forms) (a .frame) (a .shape)) (sym (c .enum-told10 .given .1))
+returns-5 c =
+    let a = c .before .args in
+    kind-is (0 ∷ 1 ∷ 2 ∷ 3 ∷ 4 ∷ 5 ∷ 6 ∷ 7 ∷ 10 ∷ []) (λ (x : Kind). Move.Wrong ≡ Model.behind (a .forms) (a .frame) (a .shape) x) (search) (a .kind) (c .match .keys3)
 
 pub behind-spec : {M : Type 1} → statement M
-behind-spec =
-    tie.close
-    (tie.spec
-    enum-told
-    enum-told-2
-    enum-told-3
-    enum-told-4
-    enum-told-5
-    enum-told-6
-    enum-told-7
-    enum-told-8
-    enum-known-kind
-    behind-sign-requires
-    enum-told-9
-    colon-requires
-    enum-told-10
-    returns
-    returns-2
-    returns-3
-    returns-4
-    returns-5
-    returns-6
-    returns-7
-    returns-8
-    returns-9
-    returns-10
-    returns-11)
+behind-spec = tie.close (tie.spec enum-known-kind enum-known-frame behind-sign-round-requires enum-known-frame-2 behind-sign-curly-requires enum-known-frame-3 behind-sign-square-requires enum-told colon-requires returns returns-2 returns-3 returns-4 returns-5)

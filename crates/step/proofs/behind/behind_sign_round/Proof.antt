@@ -1,124 +1,63 @@
 -- `step::behind::behind_sign_round` meets its contract, arm by arm.
 -- Assumes nothing.
-use mathlib.Core.Path.{ap, sym, _∙_}
+use mathlib.Core.List.{[], _∷_}
+use mathlib.Core.Path.{_≡_, ap, sym, _∙_}
+use Rattle.lexicon.specs.declared.Sign.{Sign}
 use Rattle.moves.specs.declared.Frame.the-variants as Frame
+use Rattle.moves.specs.declared.Move.the-variants as Move
 use Rattle.moves.proofs.Model as Model
+use Rattle.step.proofs.Rest.{sign-is}
 use Rattle.step.proofs.behind.behind_sign_round.Statement.{statement}
 use Rattle.step.proofs.behind.behind_sign_round.Tie as tie
 
 enum-told : tie.Need-enum-told
 enum-told c = c .match .keys1
 
-enum-told-2 : tie.Need-enum-told-2
-enum-told-2 c = c .match .keys2
-
 close-round-requires : tie.Need-close-round-requires
 close-round-requires c κs = tt
 
-enum-told-3 : tie.Need-enum-told-3
-enum-told-3 c = c .match .keys3
-
-enum-told-4 : tie.Need-enum-told-4
-enum-told-4 c = c .match .keys4
-
-enum-told-5 : tie.Need-enum-told-5
-enum-told-5 c = c .match .keys5
-
-enum-told-6 : tie.Need-enum-told-6
-enum-told-6 c = c .match .keys6
-
-enum-told-7 : tie.Need-enum-told-7
-enum-told-7 c = c .match .keys7
+enum-told-2 : tie.Need-enum-told-2
+enum-told-2 c = c .match .keys2
 
 comma-round-requires : tie.Need-comma-round-requires
 comma-round-requires c κs = tt
 
-enum-told-8 : tie.Need-enum-told-8
-enum-told-8 c = c .match .keys8
+enum-told-3 : tie.Need-enum-told-3
+enum-told-3 c = c .match .keys3
 
 arrow-round-requires : tie.Need-arrow-round-requires
 arrow-round-requires c κs = tt
 
-enum-told-9 : tie.Need-enum-told-9
-enum-told-9 c = c .match .keys9
+enum-told-4 : tie.Need-enum-told-4
+enum-told-4 c = c .match .keys4
 
 arrow-round-requires-2 : tie.Need-arrow-round-requires-2
 arrow-round-requires-2 c κs = tt
 
-enum-told-10 : tie.Need-enum-told-10
-enum-told-10 c = c .match .keys10
-
-enum-told-11 : tie.Need-enum-told-11
-enum-told-11 c = c .match .keys11
-
 returns : tie.Need-returns
-returns c = let a = c .before .before .args in ap (Model.behindSign (a .forms) (Frame.Round (a .frame))) (sym (c .enum-told .given .1))
+returns c =
+    let a = c .before .before .before .args in
+    c .close-round .ensures ∙ ap (Model.behindSign (a .forms) (Frame.Round (a .frame))) (sym (c .before .enum-told .given .1))
 
 returns-2 : tie.Need-returns-2
 returns-2 c =
     let a = c .before .before .before .args in
-    c .close-round .ensures ∙ ap (Model.behindSign (a .forms) (Frame.Round (a .frame))) (sym (c .before .enum-told2 .given .1))
+    c .comma-round .ensures ∙ ap (Model.behindSign (a .forms) (Frame.Round (a .frame))) (sym (c .before .enum-told2 .given .1))
 
 returns-3 : tie.Need-returns-3
-returns-3 c = let a = c .before .before .args in ap (Model.behindSign (a .forms) (Frame.Round (a .frame))) (sym (c .enum-told3 .given .1))
+returns-3 c =
+    let a = c .before .before .before .args in
+    c .arrow-round .ensures ∙ ap (Model.behindSign (a .forms) (Frame.Round (a .frame))) (sym (c .before .enum-told3 .given .1))
 
 returns-4 : tie.Need-returns-4
-returns-4 c = let a = c .before .before .args in ap (Model.behindSign (a .forms) (Frame.Round (a .frame))) (sym (c .enum-told4 .given .1))
+returns-4 c =
+    let a = c .before .before .before .args in
+    c .arrow-round2 .ensures ∙ ap (Model.behindSign (a .forms) (Frame.Round (a .frame))) (sym (c .before .enum-told4 .given .1))
 
 returns-5 : tie.Need-returns-5
-returns-5 c = let a = c .before .before .args in ap (Model.behindSign (a .forms) (Frame.Round (a .frame))) (sym (c .enum-told5 .given .1))
-
-returns-6 : tie.Need-returns-6
-returns-6 c = let a = c .before .before .args in ap (Model.behindSign (a .forms) (Frame.Round (a .frame))) (sym (c .enum-told6 .given .1))
-
-returns-7 : tie.Need-returns-7
-returns-7 c =
-    let a = c .before .before .before .args in
-    c .comma-round .ensures ∙ ap (Model.behindSign (a .forms) (Frame.Round (a .frame))) (sym (c .before .enum-told7 .given .1))
-
-returns-8 : tie.Need-returns-8
-returns-8 c =
-    let a = c .before .before .before .args in
-    c .arrow-round .ensures ∙ ap (Model.behindSign (a .forms) (Frame.Round (a .frame))) (sym (c .before .enum-told8 .given .1))
-
-returns-9 : tie.Need-returns-9
-returns-9 c =
-    let a = c .before .before .before .args in
-    c .arrow-round2 .ensures ∙ ap (Model.behindSign (a .forms) (Frame.Round (a .frame))) (sym (c .before .enum-told9 .given .1))
-
-returns-10 : tie.Need-returns-10
-returns-10 c = let a = c .before .before .args in ap (Model.behindSign (a .forms) (Frame.Round (a .frame))) (sym (c .enum-told10 .given .1))
-
-returns-11 : tie.Need-returns-11
-returns-11 c = let a = c .before .before .args in ap (Model.behindSign (a .forms) (Frame.Round (a .frame))) (sym (c .enum-told11 .given .1))
+returns-5 c =
+    let a = c .before .args in
+    sign-is (0 ∷ 2 ∷ 3 ∷ 4 ∷ 5 ∷ 9 ∷ 10 ∷ []) (λ (x : Sign). Move.Wrong ≡ Model.behindSign (a .forms) (Frame.Round (a .frame)) x) (search) (a .sign) (c .match .keys5)
 
 pub behind-sign-round-spec : {M : Type 1} → statement M
-behind-sign-round-spec =
-    tie.close
-    (tie.spec
-    enum-told
-    enum-told-2
-    close-round-requires
-    enum-told-3
-    enum-told-4
-    enum-told-5
-    enum-told-6
-    enum-told-7
-    comma-round-requires
-    enum-told-8
-    arrow-round-requires
-    enum-told-9
-    arrow-round-requires-2
-    enum-told-10
-    enum-told-11
-    returns
-    returns-2
-    returns-3
-    returns-4
-    returns-5
-    returns-6
-    returns-7
-    returns-8
-    returns-9
-    returns-10
-    returns-11)
+behind-sign-round-spec = tie.close (tie.spec enum-told close-round-requires enum-told-2 comma-round-requires enum-told-3 arrow-round-requires enum-told-4 arrow-round-requires-2 returns returns-2 returns-3 returns-4 returns-5)

@@ -1,8 +1,12 @@
 -- `step::behind::close_round` meets its contract, arm by arm.
 -- Assumes nothing.
-use mathlib.Core.Path.{ap, sym, _∙_}
+use mathlib.Core.List.{[], _∷_}
+use mathlib.Core.Path.{_≡_, ap, sym, _∙_}
 use Rattle.moves.specs.declared.Move.the-variants as Move
+use Rattle.moves.specs.declared.Role.the-variants as Role
+use Rattle.moves.specs.declared.RoundFrame.{RoundFrame}
 use Rattle.moves.proofs.Model as Model
+use Rattle.step.proofs.Rest.{round-is}
 use Rattle.step.proofs.behind.close_round.Statement.{statement}
 use Rattle.step.proofs.behind.close_round.Tie as tie
 
@@ -18,15 +22,6 @@ enum-known-frame c = c .match .keys3
 right-role-requires : tie.Need-right-role-requires
 right-role-requires c κs = tt
 
-enum-told-3 : tie.Need-enum-told-3
-enum-told-3 c = c .match .keys4
-
-enum-told-4 : tie.Need-enum-told-4
-enum-told-4 c = c .match .keys5
-
-enum-told-5 : tie.Need-enum-told-5
-enum-told-5 c = c .match .keys6
-
 returns : tie.Need-returns
 returns c = ap Model.closeRound (sym (c .enum-told .given .1))
 
@@ -37,28 +32,9 @@ returns-3 : tie.Need-returns-3
 returns-3 c = (λ i. Move.Close 9 0 (c .right-role .ensures i)) ∙ ap Model.closeRound (sym (c .before .before .frame .given .1))
 
 returns-4 : tie.Need-returns-4
-returns-4 c = ap Model.closeRound (sym (c .enum-told3 .given .1))
-
-returns-5 : tie.Need-returns-5
-returns-5 c = ap Model.closeRound (sym (c .enum-told4 .given .1))
-
-returns-6 : tie.Need-returns-6
-returns-6 c = ap Model.closeRound (sym (c .enum-told5 .given .1))
+returns-4 c =
+    let a = c .before .args in
+    round-is (3 ∷ 4 ∷ 5 ∷ []) (λ (x : RoundFrame). Move.Close 10 0 Role.Value ≡ Model.closeRound x) (search) (a .frame) (c .match .keys4)
 
 pub close-round-spec : {M : Type 1} → statement M
-close-round-spec =
-    tie.close
-    (tie.spec
-    enum-told
-    enum-told-2
-    enum-known-frame
-    right-role-requires
-    enum-told-3
-    enum-told-4
-    enum-told-5
-    returns
-    returns-2
-    returns-3
-    returns-4
-    returns-5
-    returns-6)
+close-round-spec = tie.close (tie.spec enum-told enum-told-2 enum-known-frame right-role-requires returns returns-2 returns-3 returns-4)

@@ -14,8 +14,8 @@ enum-known-frame c = c .match .keys1
 alone-role-requires : tie.Need-alone-role-requires
 alone-role-requires c κs = tt
 
-curly-requires : tie.Need-curly-requires
-curly-requires c κs = tt
+next-member-requires : tie.Need-next-member-requires
+next-member-requires c κs = tt
 
 enum-known-frame-2 : tie.Need-enum-known-frame-2
 enum-known-frame-2 c = c .match .keys2
@@ -23,18 +23,18 @@ enum-known-frame-2 c = c .match .keys2
 right-role-requires : tie.Need-right-role-requires
 right-role-requires c κs = tt
 
-curly-requires-2 : tie.Need-curly-requires-2
-curly-requires-2 c κs = tt
+next-member-requires-2 : tie.Need-next-member-requires-2
+next-member-requires-2 c κs = tt
 
 returns : tie.Need-returns
 returns c =
-    c .curly .ensures
+    c .next-member .ensures
     ∙ (λ i. Model.curly (CurlyFrame.Members (c .before .before .before .frame .given .0 .0) Front.Row) (c .before .alone-role .ensures i))
     ∙ ap Model.commaCurly (sym (c .before .before .before .frame .given .1))
 
 returns-2 : tie.Need-returns-2
 returns-2 c =
-    c .curly2 .ensures
+    c .next-member2 .ensures
     ∙ (λ i. Model.curly (CurlyFrame.Members Style.Lot Front.Row) (c .before .right-role .ensures i))
     ∙ ap Model.commaCurly (sym (c .before .before .before .frame2 .given .1))
 
@@ -44,9 +44,9 @@ comma-curly-spec =
     (tie.spec
     enum-known-frame
     alone-role-requires
-    curly-requires
+    next-member-requires
     enum-known-frame-2
     right-role-requires
-    curly-requires-2
+    next-member-requires-2
     returns
     returns-2)

@@ -1,109 +1,36 @@
 -- `step::count::count` meets its contract, arm by arm.
 -- Assumes nothing.
-use mathlib.Core.Path.{ap, sym, _∙_}
+use mathlib.Core.List.{[], _∷_}
+use mathlib.Core.Path.{_≡_, ap, sym, _∙_}
+use Rattle.lexicon.specs.declared.Kind.{Kind}
+use Rattle.moves.specs.declared.Move.the-variants as Move
 use Rattle.moves.proofs.Model as Model
+use Rattle.step.proofs.Rest.{kind-is}
 use Rattle.step.proofs.count.count.Statement.{statement}
 use Rattle.step.proofs.count.count.Tie as tie
 
 enum-told : tie.Need-enum-told
 enum-told c = c .match .keys1
 
-enum-told-2 : tie.Need-enum-told-2
-enum-told-2 c = c .match .keys2
-
 truth-count-requires : tie.Need-truth-count-requires
 truth-count-requires c κs = tt
 
 enum-known-kind : tie.Need-enum-known-kind
-enum-known-kind c = c .match .keys3
+enum-known-kind c = c .match .keys2
 
 number-count-requires : tie.Need-number-count-requires
 number-count-requires c κs = tt
 
-enum-told-3 : tie.Need-enum-told-3
-enum-told-3 c = c .match .keys4
-
-enum-told-4 : tie.Need-enum-told-4
-enum-told-4 c = c .match .keys5
-
-enum-told-5 : tie.Need-enum-told-5
-enum-told-5 c = c .match .keys6
-
-enum-told-6 : tie.Need-enum-told-6
-enum-told-6 c = c .match .keys7
-
-enum-told-7 : tie.Need-enum-told-7
-enum-told-7 c = c .match .keys8
-
-enum-told-8 : tie.Need-enum-told-8
-enum-told-8 c = c .match .keys9
-
-enum-told-9 : tie.Need-enum-told-9
-enum-told-9 c = c .match .keys10
-
-enum-told-10 : tie.Need-enum-told-10
-enum-told-10 c = c .match .keys11
-
 returns : tie.Need-returns
-returns c = let a = c .before .before .args in ap (Model.count (a .style)) (sym (c .enum-told .given .1))
+returns c = let a = c .before .before .before .args in c .truth-count .ensures ∙ ap (Model.count (a .style)) (sym (c .before .enum-told .given .1))
 
 returns-2 : tie.Need-returns-2
-returns-2 c = let a = c .before .before .before .args in c .truth-count .ensures ∙ ap (Model.count (a .style)) (sym (c .before .enum-told2 .given .1))
+returns-2 c = let a = c .before .before .before .before .args in c .number-count .ensures ∙ ap (Model.count (a .style)) (sym (c .before .before .kind .given .1))
 
 returns-3 : tie.Need-returns-3
 returns-3 c =
-    let a = c .before .before .before .before .args in
-    c .number-count .ensures ∙ ap (Model.count (a .style)) (sym (c .before .before .kind .given .1))
-
-returns-4 : tie.Need-returns-4
-returns-4 c = let a = c .before .before .args in ap (Model.count (a .style)) (sym (c .enum-told3 .given .1))
-
-returns-5 : tie.Need-returns-5
-returns-5 c = let a = c .before .before .args in ap (Model.count (a .style)) (sym (c .enum-told4 .given .1))
-
-returns-6 : tie.Need-returns-6
-returns-6 c = let a = c .before .before .args in ap (Model.count (a .style)) (sym (c .enum-told5 .given .1))
-
-returns-7 : tie.Need-returns-7
-returns-7 c = let a = c .before .before .args in ap (Model.count (a .style)) (sym (c .enum-told6 .given .1))
-
-returns-8 : tie.Need-returns-8
-returns-8 c = let a = c .before .before .args in ap (Model.count (a .style)) (sym (c .enum-told7 .given .1))
-
-returns-9 : tie.Need-returns-9
-returns-9 c = let a = c .before .before .args in ap (Model.count (a .style)) (sym (c .enum-told8 .given .1))
-
-returns-10 : tie.Need-returns-10
-returns-10 c = let a = c .before .before .args in ap (Model.count (a .style)) (sym (c .enum-told9 .given .1))
-
-returns-11 : tie.Need-returns-11
-returns-11 c = let a = c .before .before .args in ap (Model.count (a .style)) (sym (c .enum-told10 .given .1))
+    let a = c .before .args in
+    kind-is (0 ∷ 3 ∷ 4 ∷ 5 ∷ 6 ∷ 7 ∷ 8 ∷ 9 ∷ 10 ∷ []) (λ (x : Kind). Move.Wrong ≡ Model.count (a .style) x) (search) (a .kind) (c .match .keys3)
 
 pub count-spec : {M : Type 1} → statement M
-count-spec =
-    tie.close
-    (tie.spec
-    enum-told
-    enum-told-2
-    truth-count-requires
-    enum-known-kind
-    number-count-requires
-    enum-told-3
-    enum-told-4
-    enum-told-5
-    enum-told-6
-    enum-told-7
-    enum-told-8
-    enum-told-9
-    enum-told-10
-    returns
-    returns-2
-    returns-3
-    returns-4
-    returns-5
-    returns-6
-    returns-7
-    returns-8
-    returns-9
-    returns-10
-    returns-11)
+count-spec = tie.close (tie.spec enum-told truth-count-requires enum-known-kind number-count-requires returns returns-2 returns-3)

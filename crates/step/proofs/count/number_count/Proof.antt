@@ -1,11 +1,13 @@
 -- `step::count::number_count` meets its contract: a signed Integer counts nothing.
 -- Assumes nothing.
 use mathlib.Core.Bool.{true, false}
+use mathlib.Core.List.{[], _∷_}
 use mathlib.Core.Path.{_≡_, refl, ap, sym, _∙_}
 use Rattle.moves.specs.declared.Move.the-variants as Move
 use Rattle.moves.specs.declared.Style.the-variants as Style
 use Rattle.moves.specs.declared.Style.{Style}
 use Rattle.moves.proofs.Model as Model
+use Rattle.step.proofs.Rest.{style-is}
 use Rattle.step.proofs.count.number_count.Statement.{statement}
 use Rattle.step.proofs.count.number_count.Tie as tie
 
@@ -24,12 +26,6 @@ enum-told c = c .match .keys1
 enum-told-2 : tie.Need-enum-told-2
 enum-told-2 c = c .match .keys2
 
-enum-told-3 : tie.Need-enum-told-3
-enum-told-3 c = c .match .keys3
-
-enum-told-4 : tie.Need-enum-told-4
-enum-told-4 c = c .match .keys4
-
 returns-2 : tie.Need-returns-2
 returns-2 c = λ i. Model.numberCount (sym (c .enum-told .given .1) i) (sym (c .before .before .if1 .left) i)
 
@@ -37,10 +33,10 @@ returns-3 : tie.Need-returns-3
 returns-3 c = λ i. Model.numberCount (sym (c .enum-told2 .given .1) i) (sym (c .before .before .if1 .left) i)
 
 returns-4 : tie.Need-returns-4
-returns-4 c = λ i. Model.numberCount (sym (c .enum-told3 .given .1) i) (sym (c .before .before .if1 .left) i)
-
-returns-5 : tie.Need-returns-5
-returns-5 c = λ i. Model.numberCount (sym (c .enum-told4 .given .1) i) (sym (c .before .before .if1 .left) i)
+returns-4 c =
+    let a = c .before .before .args in
+    style-is (0 ∷ 2 ∷ []) (λ (x : Style). Move.Wrong ≡ Model.numberCount x false) (search) (a .style) (c .match .keys3)
+    ∙ ap (Model.numberCount (a .style)) (sym (c .before .if1 .left))
 
 pub number-count-spec : {M : Type 1} → statement M
-number-count-spec = tie.close (tie.spec returns enum-told enum-told-2 enum-told-3 enum-told-4 returns-2 returns-3 returns-4 returns-5)
+number-count-spec = tie.close (tie.spec returns enum-told enum-told-2 returns-2 returns-3 returns-4)

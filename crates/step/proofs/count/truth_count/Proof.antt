@@ -1,43 +1,22 @@
 -- `step::count::truth_count` meets its contract, arm by arm.
 -- Assumes nothing.
-use mathlib.Core.Path.{ap, sym}
+use mathlib.Core.List.{[], _∷_}
+use mathlib.Core.Path.{_≡_, ap, sym}
+use Rattle.moves.specs.declared.Move.the-variants as Move
+use Rattle.moves.specs.declared.Style.{Style}
 use Rattle.moves.proofs.Model as Model
+use Rattle.step.proofs.Rest.{style-is}
 use Rattle.step.proofs.count.truth_count.Statement.{statement}
 use Rattle.step.proofs.count.truth_count.Tie as tie
 
 enum-told : tie.Need-enum-told
 enum-told c = c .match .keys1
 
-enum-told-2 : tie.Need-enum-told-2
-enum-told-2 c = c .match .keys2
-
-enum-told-3 : tie.Need-enum-told-3
-enum-told-3 c = c .match .keys3
-
-enum-told-4 : tie.Need-enum-told-4
-enum-told-4 c = c .match .keys4
-
 returns : tie.Need-returns
-returns c = ap Model.truthCount (sym (c .enum-told .given .1))
+returns c = let a = c .before .args in style-is (0 ∷ 1 ∷ 3 ∷ []) (λ (x : Style). Move.Wrong ≡ Model.truthCount x) (search) (a .style) (c .match .keys2)
 
 returns-2 : tie.Need-returns-2
-returns-2 c = ap Model.truthCount (sym (c .enum-told2 .given .1))
-
-returns-3 : tie.Need-returns-3
-returns-3 c = ap Model.truthCount (sym (c .enum-told3 .given .1))
-
-returns-4 : tie.Need-returns-4
-returns-4 c = ap Model.truthCount (sym (c .enum-told4 .given .1))
+returns-2 c = ap Model.truthCount (sym (c .enum-told .given .1))
 
 pub truth-count-spec : {M : Type 1} → statement M
-truth-count-spec =
-    tie.close
-    (tie.spec
-    enum-told
-    enum-told-2
-    enum-told-3
-    enum-told-4
-    returns
-    returns-2
-    returns-3
-    returns-4)
+truth-count-spec = tie.close (tie.spec enum-told returns returns-2)

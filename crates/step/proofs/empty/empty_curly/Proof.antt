@@ -8,24 +8,17 @@ use Rattle.step.proofs.empty.empty_curly.Tie as tie
 enum-known-frame : tie.Need-enum-known-frame
 enum-known-frame c = c .match .keys1
 
-shut-requires : tie.Need-shut-requires
-shut-requires c κs = tt
-
 enum-told : tie.Need-enum-told
 enum-told c = c .match .keys2
 
 returns : tie.Need-returns
-returns c = c .shut .ensures ∙ ap Model.emptyCurly (sym (c .before .before .frame .given .1))
+returns c = ap Model.emptyCurly (sym (c .enum-told .given .1))
+
+shut-requires : tie.Need-shut-requires
+shut-requires c κs = tt
 
 returns-2 : tie.Need-returns-2
-returns-2 c = ap Model.emptyCurly (sym (c .enum-told .given .1))
+returns-2 c = c .shut .ensures ∙ ap Model.emptyCurly (sym (c .before .before .frame .given .1))
 
 pub empty-curly-spec : {M : Type 1} → statement M
-empty-curly-spec =
-    tie.close
-    (tie.spec
-    enum-known-frame
-    shut-requires
-    enum-told
-    returns
-    returns-2)
+empty-curly-spec = tie.close (tie.spec enum-known-frame enum-told returns shut-requires returns-2)

@@ -1,59 +1,22 @@
 -- `step::empty::empty_round` meets its contract, arm by arm.
 -- Assumes nothing.
-use mathlib.Core.Path.{ap, sym}
+use mathlib.Core.List.{[], _∷_}
+use mathlib.Core.Path.{_≡_}
+use Rattle.moves.specs.declared.Move.the-variants as Move
+use Rattle.moves.specs.declared.Role.the-variants as Role
+use Rattle.moves.specs.declared.RoundFrame.{RoundFrame}
 use Rattle.moves.proofs.Model as Model
+use Rattle.step.proofs.Rest.{round-is}
 use Rattle.step.proofs.empty.empty_round.Statement.{statement}
 use Rattle.step.proofs.empty.empty_round.Tie as tie
 
-enum-told : tie.Need-enum-told
-enum-told c = c .match .keys1
-
-enum-told-2 : tie.Need-enum-told-2
-enum-told-2 c = c .match .keys2
-
-enum-told-3 : tie.Need-enum-told-3
-enum-told-3 c = c .match .keys3
-
-enum-told-4 : tie.Need-enum-told-4
-enum-told-4 c = c .match .keys4
-
-enum-told-5 : tie.Need-enum-told-5
-enum-told-5 c = c .match .keys5
-
-enum-told-6 : tie.Need-enum-told-6
-enum-told-6 c = c .match .keys6
-
 returns : tie.Need-returns
-returns c = ap Model.emptyRound (sym (c .enum-told .given .1))
+returns c =
+    let a = c .before .args in
+    round-is (0 ∷ 4 ∷ []) (λ (x : RoundFrame). Move.Close 10 0 Role.Root ≡ Model.emptyRound x) (search) (a .frame) (c .match .keys1)
 
 returns-2 : tie.Need-returns-2
-returns-2 c = ap Model.emptyRound (sym (c .enum-told2 .given .1))
-
-returns-3 : tie.Need-returns-3
-returns-3 c = ap Model.emptyRound (sym (c .enum-told3 .given .1))
-
-returns-4 : tie.Need-returns-4
-returns-4 c = ap Model.emptyRound (sym (c .enum-told4 .given .1))
-
-returns-5 : tie.Need-returns-5
-returns-5 c = ap Model.emptyRound (sym (c .enum-told5 .given .1))
-
-returns-6 : tie.Need-returns-6
-returns-6 c = ap Model.emptyRound (sym (c .enum-told6 .given .1))
+returns-2 c = let a = c .before .args in round-is (1 ∷ 2 ∷ 3 ∷ 5 ∷ []) (λ (x : RoundFrame). Move.Wrong ≡ Model.emptyRound x) (search) (a .frame) (c .match .keys2)
 
 pub empty-round-spec : {M : Type 1} → statement M
-empty-round-spec =
-    tie.close
-    (tie.spec
-    enum-told
-    enum-told-2
-    enum-told-3
-    enum-told-4
-    enum-told-5
-    enum-told-6
-    returns
-    returns-2
-    returns-3
-    returns-4
-    returns-5
-    returns-6)
+empty-round-spec = tie.close (tie.spec returns returns-2)

@@ -1,43 +1,28 @@
 -- `step::joint::colon_attribute` meets its contract, arm by arm.
 -- Assumes nothing.
-use mathlib.Core.Path.{ap, sym, _∙_}
+use mathlib.Core.List.{[], _∷_}
+use mathlib.Core.Path.{_≡_, ap, sym, _∙_}
+use Rattle.moves.specs.declared.Role.the-variants as Role
+use Rattle.moves.specs.declared.RoundFrame.the-variants as RoundFrame
+use Rattle.moves.specs.declared.Shape.{Shape}
 use Rattle.moves.proofs.Model as Model
+use Rattle.step.proofs.Rest.{shape-is}
 use Rattle.step.proofs.joint.colon_attribute.Statement.{statement}
 use Rattle.step.proofs.joint.colon_attribute.Tie as tie
-
-enum-told : tie.Need-enum-told
-enum-told c = c .match .keys1
 
 round-requires : tie.Need-round-requires
 round-requires c κs = tt
 
-enum-told-2 : tie.Need-enum-told-2
-enum-told-2 c = c .match .keys2
-
-round-requires-2 : tie.Need-round-requires-2
-round-requires-2 c κs = tt
-
-enum-told-3 : tie.Need-enum-told-3
-enum-told-3 c = c .match .keys3
+enum-told : tie.Need-enum-told
+enum-told c = c .match .keys2
 
 returns : tie.Need-returns
-returns c = c .round .ensures ∙ ap Model.colonAttribute (sym (c .before .enum-told .given .1))
+returns c =
+    let a = c .before .before .args in
+    c .round .ensures ∙ shape-is (0 ∷ 1 ∷ []) (λ (x : Shape). Model.round RoundFrame.Named Role.Name ≡ Model.colonAttribute x) (search) (a .shape) (c .before .match .keys1)
 
 returns-2 : tie.Need-returns-2
-returns-2 c = c .round2 .ensures ∙ ap Model.colonAttribute (sym (c .before .enum-told2 .given .1))
-
-returns-3 : tie.Need-returns-3
-returns-3 c = ap Model.colonAttribute (sym (c .enum-told3 .given .1))
+returns-2 c = ap Model.colonAttribute (sym (c .enum-told .given .1))
 
 pub colon-attribute-spec : {M : Type 1} → statement M
-colon-attribute-spec =
-    tie.close
-    (tie.spec
-    enum-told
-    round-requires
-    enum-told-2
-    round-requires-2
-    enum-told-3
-    returns
-    returns-2
-    returns-3)
+colon-attribute-spec = tie.close (tie.spec round-requires enum-told returns returns-2)

@@ -1,105 +1,60 @@
 -- `step::lead::lead` meets its contract, arm by arm.
 -- Assumes nothing.
-use mathlib.Core.Path.{ap, sym, _∙_}
+use mathlib.Core.List.{[], _∷_}
+use mathlib.Core.Path.{_≡_, ap, sym, _∙_}
+use Rattle.lexicon.specs.declared.Kind.{Kind}
+use Rattle.moves.specs.declared.Move.the-variants as Move
 use Rattle.moves.proofs.Model as Model
+use Rattle.step.proofs.Rest.{kind-is}
 use Rattle.step.proofs.lead.lead.Statement.{statement}
 use Rattle.step.proofs.lead.lead.Tie as tie
 
-enum-told : tie.Need-enum-told
-enum-told c = c .match .keys1
-
-enum-told-2 : tie.Need-enum-told-2
-enum-told-2 c = c .match .keys2
-
-enum-told-3 : tie.Need-enum-told-3
-enum-told-3 c = c .match .keys3
-
-enum-told-4 : tie.Need-enum-told-4
-enum-told-4 c = c .match .keys4
-
-enum-told-5 : tie.Need-enum-told-5
-enum-told-5 c = c .match .keys5
-
-enum-told-6 : tie.Need-enum-told-6
-enum-told-6 c = c .match .keys6
-
-enum-told-7 : tie.Need-enum-told-7
-enum-told-7 c = c .match .keys7
-
-enum-told-8 : tie.Need-enum-told-8
-enum-told-8 c = c .match .keys8
-
 enum-known-kind : tie.Need-enum-known-kind
-enum-known-kind c = c .match .keys9
+enum-known-kind c = c .match .keys1
 
-lead-sign-requires : tie.Need-lead-sign-requires
-lead-sign-requires c κs = tt
+enum-known-frame : tie.Need-enum-known-frame
+enum-known-frame c = c .match2 .keys1
 
-enum-told-9 : tie.Need-enum-told-9
-enum-told-9 c = c .match .keys10
+lead-sign-round-requires : tie.Need-lead-sign-round-requires
+lead-sign-round-requires c κs = tt
 
-enum-told-10 : tie.Need-enum-told-10
-enum-told-10 c = c .match .keys11
+enum-known-frame-2 : tie.Need-enum-known-frame-2
+enum-known-frame-2 c = c .match2 .keys2
+
+lead-sign-curly-requires : tie.Need-lead-sign-curly-requires
+lead-sign-curly-requires c κs = tt
+
+enum-known-frame-3 : tie.Need-enum-known-frame-3
+enum-known-frame-3 c = c .match2 .keys3
+
+lead-sign-square-requires : tie.Need-lead-sign-square-requires
+lead-sign-square-requires c κs = tt
+
+enum-told : tie.Need-enum-told
+enum-told c = c .match .keys2
 
 returns : tie.Need-returns
-returns c = let a = c .before .before .args in ap (Model.lead (a .frame)) (sym (c .enum-told .given .1))
+returns c =
+    let sign = c .before .before .before .before .before in
+    c .lead-sign-round .ensures ∙ (λ i. Model.lead (sym (c .before .before .frame .given .1) i) (sym (sign .kind .given .1) i))
 
 returns-2 : tie.Need-returns-2
-returns-2 c = let a = c .before .before .args in ap (Model.lead (a .frame)) (sym (c .enum-told2 .given .1))
+returns-2 c =
+    let sign = c .before .before .before .before .before in
+    c .lead-sign-curly .ensures ∙ (λ i. Model.lead (sym (c .before .before .frame2 .given .1) i) (sym (sign .kind .given .1) i))
 
 returns-3 : tie.Need-returns-3
-returns-3 c = let a = c .before .before .args in ap (Model.lead (a .frame)) (sym (c .enum-told3 .given .1))
+returns-3 c =
+    let sign = c .before .before .before .before .before in
+    c .lead-sign-square .ensures ∙ (λ i. Model.lead (sym (c .before .before .frame3 .given .1) i) (sym (sign .kind .given .1) i))
 
 returns-4 : tie.Need-returns-4
-returns-4 c = let a = c .before .before .args in ap (Model.lead (a .frame)) (sym (c .enum-told4 .given .1))
+returns-4 c = let a = c .before .before .args in ap (Model.lead (a .frame)) (sym (c .enum-told .given .1))
 
 returns-5 : tie.Need-returns-5
-returns-5 c = let a = c .before .before .args in ap (Model.lead (a .frame)) (sym (c .enum-told5 .given .1))
-
-returns-6 : tie.Need-returns-6
-returns-6 c = let a = c .before .before .args in ap (Model.lead (a .frame)) (sym (c .enum-told6 .given .1))
-
-returns-7 : tie.Need-returns-7
-returns-7 c = let a = c .before .before .args in ap (Model.lead (a .frame)) (sym (c .enum-told7 .given .1))
-
-returns-8 : tie.Need-returns-8
-returns-8 c = let a = c .before .before .args in ap (Model.lead (a .frame)) (sym (c .enum-told8 .given .1))
-
-returns-9 : tie.Need-returns-9
-returns-9 c =
-    let a = c .before .before .before .before .args in
-    c .lead-sign .ensures ∙ ap (Model.lead (a .frame)) (sym (c .before .before .kind .given .1))
-
-returns-10 : tie.Need-returns-10
-returns-10 c = let a = c .before .before .args in ap (Model.lead (a .frame)) (sym (c .enum-told9 .given .1))
-
-returns-11 : tie.Need-returns-11
-returns-11 c = let a = c .before .before .args in ap (Model.lead (a .frame)) (sym (c .enum-told10 .given .1))
+returns-5 c =
+    let a = c .before .args in
+    kind-is (0 ∷ 1 ∷ 2 ∷ 3 ∷ 4 ∷ 5 ∷ 6 ∷ 7 ∷ 10 ∷ []) (λ (x : Kind). Move.Value (a .frame) ≡ Model.lead (a .frame) x) (search) (a .kind) (c .match .keys3)
 
 pub lead-spec : {M : Type 1} → statement M
-lead-spec =
-    tie.close
-    (tie.spec
-    enum-told
-    enum-told-2
-    enum-told-3
-    enum-told-4
-    enum-told-5
-    enum-told-6
-    enum-told-7
-    enum-told-8
-    enum-known-kind
-    lead-sign-requires
-    enum-told-9
-    enum-told-10
-    returns
-    returns-2
-    returns-3
-    returns-4
-    returns-5
-    returns-6
-    returns-7
-    returns-8
-    returns-9
-    returns-10
-    returns-11)
+lead-spec = tie.close (tie.spec enum-known-kind enum-known-frame lead-sign-round-requires enum-known-frame-2 lead-sign-curly-requires enum-known-frame-3 lead-sign-square-requires enum-told returns returns-2 returns-3 returns-4 returns-5)

@@ -1,63 +1,27 @@
 -- `step::lead::lead_round` meets its contract, arm by arm.
 -- Assumes nothing.
-use mathlib.Core.Path.{ap, sym, _∙_}
+use mathlib.Core.List.{[], _∷_}
+use mathlib.Core.Path.{_≡_, ap, sym, _∙_}
+use Rattle.moves.specs.declared.Move.the-variants as Move
+use Rattle.moves.specs.declared.RoundFrame.{RoundFrame}
 use Rattle.moves.proofs.Model as Model
+use Rattle.step.proofs.Rest.{round-is}
 use Rattle.step.proofs.lead.lead_round.Statement.{statement}
 use Rattle.step.proofs.lead.lead_round.Tie as tie
 
 enum-told : tie.Need-enum-told
 enum-told c = c .match .keys1
 
+returns : tie.Need-returns
+returns c =
+    let a = c .before .args in
+    round-is (1 ∷ 2 ∷ 3 ∷ 4 ∷ 5 ∷ []) (λ (x : RoundFrame). Move.Wrong ≡ Model.leadRound x) (search) (a .frame) (c .match .keys2)
+
 round-requires : tie.Need-round-requires
 round-requires c κs = tt
 
-enum-told-2 : tie.Need-enum-told-2
-enum-told-2 c = c .match .keys2
-
-enum-told-3 : tie.Need-enum-told-3
-enum-told-3 c = c .match .keys3
-
-enum-told-4 : tie.Need-enum-told-4
-enum-told-4 c = c .match .keys4
-
-enum-told-5 : tie.Need-enum-told-5
-enum-told-5 c = c .match .keys5
-
-enum-told-6 : tie.Need-enum-told-6
-enum-told-6 c = c .match .keys6
-
-returns : tie.Need-returns
-returns c = c .round .ensures ∙ ap Model.leadRound (sym (c .before .enum-told .given .1))
-
 returns-2 : tie.Need-returns-2
-returns-2 c = ap Model.leadRound (sym (c .enum-told2 .given .1))
-
-returns-3 : tie.Need-returns-3
-returns-3 c = ap Model.leadRound (sym (c .enum-told3 .given .1))
-
-returns-4 : tie.Need-returns-4
-returns-4 c = ap Model.leadRound (sym (c .enum-told4 .given .1))
-
-returns-5 : tie.Need-returns-5
-returns-5 c = ap Model.leadRound (sym (c .enum-told5 .given .1))
-
-returns-6 : tie.Need-returns-6
-returns-6 c = ap Model.leadRound (sym (c .enum-told6 .given .1))
+returns-2 c = c .round .ensures ∙ ap Model.leadRound (sym (c .before .enum-told .given .1))
 
 pub lead-round-spec : {M : Type 1} → statement M
-lead-round-spec =
-    tie.close
-    (tie.spec
-    enum-told
-    round-requires
-    enum-told-2
-    enum-told-3
-    enum-told-4
-    enum-told-5
-    enum-told-6
-    returns
-    returns-2
-    returns-3
-    returns-4
-    returns-5
-    returns-6)
+lead-round-spec = tie.close (tie.spec enum-told returns round-requires returns-2)

@@ -1,42 +1,68 @@
 -- `step::lead::lead_star` meets its contract, arm by arm.
 -- Assumes nothing.
-use mathlib.Core.Path.{ap, sym, _∙_}
+use mathlib.Core.List.{[], _∷_}
+use mathlib.Core.Path.{_≡_, refl, ap, sym, _∙_}
+use Rattle.lexicon.specs.declared.Bound.{Bound}
+use Rattle.lexicon.specs.declared.Bound.the-variants as Bound
+use Rattle.moves.specs.declared.Move.{Move}
+use Rattle.moves.specs.declared.Move.the-variants as Move
 use Rattle.moves.specs.declared.SquareFrame.{SquareFrame}
+use Rattle.moves.specs.declared.SquareFrame.the-variants as Square
 use Rattle.moves.proofs.Model as Model
+use Rattle.step.proofs.Rest.{bound-is, square-is}
 use Rattle.step.proofs.lead.lead_star.Statement.{statement}
 use Rattle.step.proofs.lead.lead_star.Tie as tie
+
+-- directly behind `[`, and nothing before the star
+first-star : {f : SquareFrame} {a b high : Bound} {r : Move} → f ≡ Square.Opened → a ≡ Bound.Open → b ≡ high → r ≡ Model.starRight high → r ≡ Model.leadStar f a b
+first-star e o h x = x ∙ (λ i. Model.leadStar (sym e i) (sym o i) (sym h i))
 
 enum-told : tie.Need-enum-told
 enum-told c = c .match .keys1
 
-star-first-requires : tie.Need-star-first-requires
-star-first-requires c κs = tt
-
-enum-told-2 : tie.Need-enum-told-2
-enum-told-2 c = c .match .keys2
-
-enum-told-3 : tie.Need-enum-told-3
-enum-told-3 c = c .match .keys3
-
 returns : tie.Need-returns
 returns c =
-    let a = c .before .before .before .args in
-    c .star-first .ensures ∙ ap (λ (x : SquareFrame). Model.leadStar x (a .low) (a .high)) (sym (c .before .enum-told .given .1))
+    let a = c .before .args in
+    square-is (1 ∷ 2 ∷ []) (λ (x : SquareFrame). Move.Wrong ≡ Model.leadStar x (a .low) (a .high)) (search) (a .frame) (c .match .keys2)
+
+enum-told-2 : tie.Need-enum-told-2
+enum-told-2 c = c .match2 .keys1
 
 returns-2 : tie.Need-returns-2
-returns-2 c = let a = c .before .before .args in ap (λ (x : SquareFrame). Model.leadStar x (a .low) (a .high)) (sym (c .enum-told2 .given .1))
+returns-2 c =
+    let a = c .before .before .before .args in
+    bound-is (1 ∷ 2 ∷ []) (λ (x : Bound). Move.Wrong ≡ Model.starFirst x (a .high)) (search) (a .low) (c .match2 .keys2)
+    ∙ ap (λ (x : SquareFrame). Model.leadStar x (a .low) (a .high)) (sym (c .before .enum-told .given .1))
+
+enum-told-3 : tie.Need-enum-told-3
+enum-told-3 c = c .match3 .keys1
+
+enum-told-4 : tie.Need-enum-told-4
+enum-told-4 c = c .match3 .keys2
+
+square-requires : tie.Need-square-requires
+square-requires c κs = tt
+
+enum-told-5 : tie.Need-enum-told-5
+enum-told-5 c = c .match3 .keys3
+
+square-requires-2 : tie.Need-square-requires-2
+square-requires-2 c κs = tt
 
 returns-3 : tie.Need-returns-3
-returns-3 c = let a = c .before .before .args in ap (λ (x : SquareFrame). Model.leadStar x (a .low) (a .high)) (sym (c .enum-told3 .given .1))
+returns-3 c = let low = c .before .before in first-star (low .before .before .enum-told .given .1) (low .enum-told2 .given .1) (c .enum-told3 .given .1) refl
+
+returns-4 : tie.Need-returns-4
+returns-4 c =
+    let low = c .before .before .before in
+    first-star (low .before .before .enum-told .given .1) (low .enum-told2 .given .1) (c .before .enum-told4 .given .1) (c .square .ensures)
+
+returns-5 : tie.Need-returns-5
+returns-5 c =
+    let low = c .before .before .before in
+    first-star (low .before .before .enum-told .given .1) (low .enum-told2 .given .1) (c .before .enum-told5 .given .1) (c .square2 .ensures)
 
 pub lead-star-spec : {M : Type 1} → statement M
 lead-star-spec =
     tie.close
-    (tie.spec
-    enum-told
-    star-first-requires
-    enum-told-2
-    enum-told-3
-    returns
-    returns-2
-    returns-3)
+    (tie.spec enum-told returns enum-told-2 returns-2 enum-told-3 enum-told-4 square-requires enum-told-5 square-requires-2 returns-3 returns-4 returns-5)

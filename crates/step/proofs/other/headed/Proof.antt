@@ -1,105 +1,36 @@
--- `step::other::headed` meets its contract, arm by arm.
+-- `step::other::headed` meets its contract: `)` alone may come.
 -- Assumes nothing.
-use mathlib.Core.Path.{ap, sym, _∙_}
+use mathlib.Core.List.{[], _∷_}
+use mathlib.Core.Path.{_≡_, ap, sym, _∙_}
+use Rattle.lexicon.specs.declared.Sign.{Sign}
+use Rattle.moves.specs.declared.Move.the-variants as Move
+use Rattle.moves.specs.declared.Role.the-variants as Role
 use Rattle.moves.proofs.Model as Model
+use Rattle.step.proofs.Rest.{sign-is, no-sign, a-sign}
 use Rattle.step.proofs.other.headed.Statement.{statement}
 use Rattle.step.proofs.other.headed.Tie as tie
 
-enum-told : tie.Need-enum-told
-enum-told c = c .match .keys1
-
-enum-told-2 : tie.Need-enum-told-2
-enum-told-2 c = c .match .keys2
-
-enum-told-3 : tie.Need-enum-told-3
-enum-told-3 c = c .match .keys3
-
-enum-told-4 : tie.Need-enum-told-4
-enum-told-4 c = c .match .keys4
-
-enum-told-5 : tie.Need-enum-told-5
-enum-told-5 c = c .match .keys5
-
-enum-told-6 : tie.Need-enum-told-6
-enum-told-6 c = c .match .keys6
-
-enum-told-7 : tie.Need-enum-told-7
-enum-told-7 c = c .match .keys7
-
-enum-told-8 : tie.Need-enum-told-8
-enum-told-8 c = c .match .keys8
-
 enum-known-kind : tie.Need-enum-known-kind
-enum-known-kind c = c .match .keys9
-
-headed-sign-requires : tie.Need-headed-sign-requires
-headed-sign-requires c κs = tt
-
-enum-told-9 : tie.Need-enum-told-9
-enum-told-9 c = c .match .keys10
-
-enum-told-10 : tie.Need-enum-told-10
-enum-told-10 c = c .match .keys11
+enum-known-kind c = c .match .keys1
 
 returns : tie.Need-returns
-returns c = let a = c .before .before .args in ap (Model.only (Model.headedSign (a .style))) (sym (c .enum-told .given .1))
+returns c = let a = c .before .args in no-sign (Model.headedSign (a .style)) (a .kind) (c .match .keys2)
+
+enum-told : tie.Need-enum-told
+enum-told c = c .match2 .keys1
 
 returns-2 : tie.Need-returns-2
-returns-2 c = let a = c .before .before .args in ap (Model.only (Model.headedSign (a .style))) (sym (c .enum-told2 .given .1))
+returns-2 c =
+    let a = c .before .before .before .before .args in
+    a-sign (Model.headedSign (a .style)) (c .before .before .kind .given .1) (sign-is (0 ∷ 2 ∷ 3 ∷ 4 ∷ 5 ∷ 6 ∷ 7 ∷ 8 ∷ 9 ∷ 10 ∷ []) (λ (x : Sign). Move.Wrong ≡ Model.headedSign (a .style) x) (search) (c .before .before .kind .given .0 .0) (c .match2 .keys2))
+
+style-kind-requires : tie.Need-style-kind-requires
+style-kind-requires c κs = tt
 
 returns-3 : tie.Need-returns-3
-returns-3 c = let a = c .before .before .args in ap (Model.only (Model.headedSign (a .style))) (sym (c .enum-told3 .given .1))
-
-returns-4 : tie.Need-returns-4
-returns-4 c = let a = c .before .before .args in ap (Model.only (Model.headedSign (a .style))) (sym (c .enum-told4 .given .1))
-
-returns-5 : tie.Need-returns-5
-returns-5 c = let a = c .before .before .args in ap (Model.only (Model.headedSign (a .style))) (sym (c .enum-told5 .given .1))
-
-returns-6 : tie.Need-returns-6
-returns-6 c = let a = c .before .before .args in ap (Model.only (Model.headedSign (a .style))) (sym (c .enum-told6 .given .1))
-
-returns-7 : tie.Need-returns-7
-returns-7 c = let a = c .before .before .args in ap (Model.only (Model.headedSign (a .style))) (sym (c .enum-told7 .given .1))
-
-returns-8 : tie.Need-returns-8
-returns-8 c = let a = c .before .before .args in ap (Model.only (Model.headedSign (a .style))) (sym (c .enum-told8 .given .1))
-
-returns-9 : tie.Need-returns-9
-returns-9 c =
-    let a = c .before .before .before .before .args in
-    c .headed-sign .ensures ∙ ap (Model.only (Model.headedSign (a .style))) (sym (c .before .before .kind .given .1))
-
-returns-10 : tie.Need-returns-10
-returns-10 c = let a = c .before .before .args in ap (Model.only (Model.headedSign (a .style))) (sym (c .enum-told9 .given .1))
-
-returns-11 : tie.Need-returns-11
-returns-11 c = let a = c .before .before .args in ap (Model.only (Model.headedSign (a .style))) (sym (c .enum-told10 .given .1))
+returns-3 c =
+    let a = c .before .before .before .before .before .before .args in
+    a-sign (Model.headedSign (a .style)) (c .before .before .before .before .kind .given .1) ((λ i. Move.Close (c .style-kind .ensures i) 0 Role.Root) ∙ ap (Model.headedSign (a .style)) (sym (c .before .enum-told .given .1)))
 
 pub headed-spec : {M : Type 1} → statement M
-headed-spec =
-    tie.close
-    (tie.spec
-    enum-told
-    enum-told-2
-    enum-told-3
-    enum-told-4
-    enum-told-5
-    enum-told-6
-    enum-told-7
-    enum-told-8
-    enum-known-kind
-    headed-sign-requires
-    enum-told-9
-    enum-told-10
-    returns
-    returns-2
-    returns-3
-    returns-4
-    returns-5
-    returns-6
-    returns-7
-    returns-8
-    returns-9
-    returns-10
-    returns-11)
+headed-spec = tie.close (tie.spec enum-known-kind returns enum-told returns-2 style-kind-requires returns-3)

@@ -1,0 +1,2 @@
+-- The laws of the moves' code.
+pub mod Rest
