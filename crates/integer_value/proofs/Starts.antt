@@ -3,7 +3,7 @@
 use mathlib.Core.Path.{_≡_, refl, sym, ap, subst}
 use mathlib.Core.Bool.{Bool, true, false, cond}
 use mathlib.Core.List.{List, [], _∷_}
-use Prim.Native.Nat.{ℕ, _+_, _≤_, _<_}
+use Prim.Native.Nat.{ℕ, _+_, _<_}
 use native.Mathlib.Omega.{arith}
 use borrow.Author.Tests.{eq-eqb, ne-eqb}
 use lib.IntN.{pos, negℤ}
@@ -14,7 +14,6 @@ use Rattle.rules.specs.Rule.{one, At, Takes}
 use Rattle.rules.proofs.Classes.{is-just, just-is}
 use Rattle.rules.proofs.Tests.{there, not-there}
 use Rattle.lexicon.specs.declared.Base.{Base}
-use Rattle.lexicon.specs.declared.Base.the-variants.{Ten}
 use Rattle.lexicon.specs.Bytes.{digits, radix}
 use Rattle.lexicon.specs.Space.{Skips}
 use Rattle.lexicon.specs.Values.{Digits, value, IntegerOf}
@@ -22,7 +21,7 @@ use Rattle.lexicon.proofs.Spaces.{skips-same, landed}
 use Rattle.lexicon.proofs.Groups.{digits-at}
 use Rattle.lexicon.proofs.Numbers.{Numeral, marked, bare, clear, in-marks, bare-short, letter, same-base, valued}
 use Rattle.lexicon.proofs.Integers.{start-sign, of-integer}
-use Rattle.number.proofs.Marks.{start-plus, start-minus, start-other, other-letter}
+use Rattle.number.proofs.Marks.{start-plus, start-minus, start-other}
 use Rattle.integer_value.specs.Answers.{Exactly}
 use Rattle.integer_value.specs.Parts.{SignOf, MarkOf, hasMark, noMark, Ends}
 
@@ -52,28 +51,7 @@ module _ (piece : List ℕ) where
       let p = front-other piece 0x2B (omega arith) (not-there t f) in
       record { start = start-other piece 0 p m; minus-is = sym (ne-eqb (getD piece 0 0) 0x2D m) }
 
--- ---- the mark
-
-module _ (piece : List ℕ) (i : ℕ) where
-  pub no-zero : {o : Bool} → Says o (Takes piece (one (just 0x30)) i (i + 1)) → o ≡ false → MarkOf piece i Ten i
-  no-zero s e = noMark (record { none = λ m. not-there s e (m .zero) })
-
-  pub zero-last : length piece ≤ i + 1 → MarkOf piece i Ten i
-  zero-last h = noMark (record { none = λ m. let x = m .letter-is .0 in omega arith })
-
-  pub mark-of : (b : Base) (c : Base) {g : ℕ} {o : Bool} → Says o (Takes piece (one (just 0x30)) i (i + 1)) → o ≡ true → i + 1 < length piece → getD piece (i + 1) 0 ≡ letter b → c ≡ b → Skips piece (i + 2) g → MarkOf piece i c g
-  mark-of b c {g} s e h l p k =
-      subst (λ (x : Base). MarkOf piece i x g) (sym p)
-      (hasMark (record { zero = there s e; letter-is = (h, is-just (letter b) (getD piece (i + 1) 0) l) }) k)
-
-  pub no-letter : (getD piece (i + 1) 0 ≡ 0x62 → ⊥) → (getD piece (i + 1) 0 ≡ 0x6F → ⊥) → (getD piece (i + 1) 0 ≡ 0x64 → ⊥) → (getD piece (i + 1) 0 ≡ 0x78 → ⊥) → MarkOf piece i Ten i
-  no-letter f g h k = noMark (other-letter piece i f g h k)
-
-  -- ---- the digits
-
-  -- a place within the piece has a next one
-  pub place-fits : {o : Bool} → Says o (Takes piece (one (just 0x30)) i (i + 1)) → o ≡ true → i < length piece
-  place-fits s e = there s e .0
+-- ---- the digits behind the mark
 
 module _ (piece : List ℕ) where
   -- digits behind the mark are a number

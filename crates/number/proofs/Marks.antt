@@ -2,10 +2,10 @@
 use mathlib.Core.Path.{_≡_, refl, sym, subst, subst⁻¹, _∙_}
 use mathlib.Core.Logic.{⊎-elim}
 use mathlib.Core.List.{List}
-use Prim.Native.Nat.{ℕ, _+_, _-_, _≤_, _<_, min}
+use Prim.Native.Nat.{ℕ, _+_, _≤_, _<_, min}
 use native.Mathlib.Omega.{arith}
 use lib.ListN.{length, getD}
-use Rattle.rules.specs.Class.{In, just, has}
+use Rattle.rules.specs.Class.{In, has}
 use Rattle.rules.specs.Rule.{Takes, Fails, At, opt}
 use Rattle.rules.proofs.Classes.{is-just, just-is, in-cons}
 use Rattle.rules.proofs.Matches.{forward, starting}
@@ -22,8 +22,9 @@ use Rattle.lexicon.proofs.Limits.{limited-value}
 use Rattle.lexicon.proofs.Spaces.{skips-same, landed}
 use Rattle.lexicon.proofs.Groups.{Clear, digits-most, digits-forward, digits-unit, digits-at}
 use Rattle.lexicon.proofs.Numbers.{letter, Numeral, marked, bare, clear, in-marks, bare-short, aligned, same-base}
-use Rattle.number.specs.declared.integer.Mark.{Mark}
-use Rattle.number.specs.declared.integer.Mark.the-variants as Mark
+use Rattle.text.specs.declared.digit.Lettered.{Lettered}
+use Rattle.text.specs.declared.digit.Lettered.the-variants as Lettered
+use Rattle.text.specs.Letters.{Letters}
 use Rattle.number.specs.declared.integer.Number.{Number}
 use Rattle.number.specs.declared.integer.Number.the-variants as Number
 use Rattle.number.specs.Tally.{tallyOf, tallies}
@@ -35,30 +36,20 @@ use Rattle.number.specs.Number.{HasMark, NoMark, Marks, OfBase, IsNumber
 -- ---- the mark
 
 module _ (text : List ℕ) (i : ℕ) where
-  pub has-mark : (b : Base) → 2 ≤ length text - i → getD text i 0 ≡ 0x30 → getD text (i + 1) 0 ≡ letter b → HasMark text b i
-  has-mark b h z l =
-      record {
-        zero = (omega arith, is-just 0x30 (getD text i 0) z);
-        letter-is = (omega arith, is-just (letter b) (getD text (i + 1) 0) l);
-      }
-
-  pub short-mark : length text - i < 2 → NoMark text i
-  short-mark h = record { none = λ m. let a = m .letter-is .0 in omega arith }
-
   pub other-mark : (getD text i 0 ≡ 0x30 → ⊥) → NoMark text i
   other-mark f = record { none = λ m. f (just-is 0x30 (getD text i 0) (m .zero .1)) }
 
-  pub other-letter : (getD text (i + 1) 0 ≡ 0x62 → ⊥) → (getD text (i + 1) 0 ≡ 0x6F → ⊥) → (getD text (i + 1) 0 ≡ 0x64 → ⊥) → (getD text (i + 1) 0 ≡ 0x78 → ⊥) → NoMark text i
-  other-letter f g h k = record { none = λ m. go m }
+  -- the letter behind `0` decides
+  pub letter-marks : (r : Lettered) → i + 1 < length text → getD text i 0 ≡ 0x30 → Letters (getD text (i + 1) 0) r → Marks text i r
+  letter-marks (Lettered.Of b) h z l =
+      record {
+        zero = (omega arith, is-just 0x30 (getD text i 0) z);
+        letter-is = (h, is-just (letter b) (getD text (i + 1) 0) l);
+      }
+  letter-marks Lettered.Nothing h z n = record { none = λ m. go m }
     where
-      split : (b : Base) → In (just (letter b)) (getD text (i + 1) 0) → ⊥
-      split Two x = f (just-is 0x62 (getD text (i + 1) 0) x)
-      split Eight x = g (just-is 0x6F (getD text (i + 1) 0) x)
-      split Ten x = h (just-is 0x64 (getD text (i + 1) 0) x)
-      split Sixteen x = k (just-is 0x78 (getD text (i + 1) 0) x)
-
       go : {b : Base} → HasMark text b i → ⊥
-      go {b} m = split b (m .letter-is .1)
+      go {b} m = n b (just-is (letter b) (getD text (i + 1) 0) (m .letter-is .1))
 
 -- ---- the sum of a base's digits is its value, up to the limit
 
@@ -123,11 +114,8 @@ module _ (text : List ℕ) (i : ℕ) where
 
   -- ---- what the searches answered
 
-  pub mark-found : (b : Base) (r : Mark) → Marks text i r → r ≡ Mark.Of b → HasMark text b i
-  mark-found b r m e = subst (λ (x : Mark). Marks text i x) e m
-
-  pub mark-missing : (r : Mark) → Marks text i r → r ≡ Mark.Nothing → NoMarked text i
-  mark-missing r m e = no-mark-no-number (subst (λ (x : Mark). Marks text i x) e m)
+  pub mark-told : {r s : Lettered} → r ≡ s → Marks text i r → Marks text i s
+  mark-told e m = subst (λ (x : Lettered). Marks text i x) e m
 
   -- the digits behind the mark, or none
   pub marked-answer : (b : Base) {g : ℕ} → HasMark text b i → Skips text (i + 2) g → (n : Number) → OfBase text b g n → MarkedNumber text i n

@@ -1,17 +1,17 @@
 -- A row of units, one stretch of units more at a time. Assumes nothing.
 use mathlib.Core.Path.{_≡_, refl, sym, ap, subst, _∙_}
-use mathlib.Core.List.{List, _++_}
+use mathlib.Core.List.{List}
 use Prim.Native.Nat.{ℕ, _+_, _-_, _≤_}
 use native.Mathlib.Nat.{add-zero}
 use native.Mathlib.Omega.{arith}
-use lib.ListN.{length}
 use Rattle.rules.specs.Rule.{many, opt, At, Takes, nothing, right, stop, more, Longest, Fails}
-use Rattle.rules.proofs.Matches.{forward, inside, starting, move-at}
+use Rattle.rules.proofs.Chains.{snoc}
+use Rattle.rules.proofs.Matches.{forward, starting, move-at}
 use Rattle.lexicon.specs.declared.Set.{Set}
 use Rattle.lexicon.specs.Bytes.{members}
 use Rattle.lexicon.specs.Literals.{unit, joint}
 use Rattle.lexicon.specs.Values.{Digits, read, lastUnit}
-use Rattle.lexicon.proofs.Groups.{Clear, Ended, unit-end, unit-byte, snoc-digits}
+use Rattle.lexicon.proofs.Groups.{Clear, unit-end, unit-byte, snoc-digits}
 use Rattle.number.specs.Groups.{Summed, Row}
 use Rattle.number.specs.Tally.{tallies}
 use Rattle.number.proofs.Sums.{tallies-append, tallies-split}
@@ -77,18 +77,29 @@ module _ (text : List ℕ) (set : Set) (n : ℕ) where
         go (stop x) = absurd (d (sym x))
         go (more u us) = next-units (next-unit r (p .takes) u) us (unit-first s u us f)
 
+  -- ---- its end
+
+  -- no unit stands behind units
+  pub units-end : (i j : ℕ) → 1 ≤ n → Units i j → Fails text (unit n (members set)) j
+  units-end i j h l =
+      record { none = λ u. omega (arith, h, unit-end n (members set) u, l .most (snoc (l .takes) u)) }
+
   pub no-units : (i j : ℕ) → 1 ≤ n → Units i j → j ≡ i → Fails text (unit n (members set)) i
-  no-units i j h l e = record { none = λ u. omega (arith, e, h, unit-end n (members set) u, l .most (more u (stop refl))) }
+  no-units i j h l e = subst (λ (k : ℕ). Fails text (unit n (members set)) k) e (units-end i j h l)
 
-  -- no unit stands behind the last joint
-  pub whole-row : (i j m e s : ℕ) → 1 ≤ n → Clear (members set) → Summed text set n i j s → Longest text (opt joint) j m → Units m e → e ≡ m → Row text set n i j s
-  whole-row i j m e s h cl r p l d = record { row = r; ended = record { stops = λ f. go (f .joined) (f .next) } }
-    where
-      first-byte : {k x : ℕ} → Unit k x → At text (members set) k
-      first-byte {k} u = move-at text (members set) (add-zero k) (unit-byte n (members set) k u 0 h)
+  module _ (i j m s : ℕ) (h : 1 ≤ n) (cl : Clear (members set)) (r : Summed text set n i j s) (p : Longest text (opt joint) j m) where
+    -- none behind the joint either
+    ended : Fails text (unit n (members set)) m → Row text set n i j s
+    ended f = record { row = r; ended = record { stops = λ x. go (x .joined) (x .next) } }
+      where
+        first-byte : {k e : ℕ} → Unit k e → At text (members set) k
+        first-byte {k} u = move-at text (members set) (add-zero k) (unit-byte n (members set) k u 0 h)
 
-      go : {k x : ℕ} → Takes text (opt joint) j k → Unit k x → ⊥
-      go t u = no-units m e h l d .none (starting (joint-end (members set) cl t (first-byte u) p) u)
+        go : {k e : ℕ} → Takes text (opt joint) j k → Unit k e → ⊥
+        go t u = f .none (starting (joint-end (members set) cl t (first-byte u) p) u)
 
-  pub units-within : (i j : ℕ) → Units i j → i ≤ length text → (i ≤ j) × (j ≤ length text)
-  units-within i j l h = (forward (l .takes), inside (l .takes) h)
+    pub row-unjoined : Fails text (unit n (members set)) j → m ≡ j → Row text set n i j s
+    row-unjoined f e = ended (subst (λ (k : ℕ). Fails text (unit n (members set)) k) (sym e) f)
+
+    pub row-joined : (e : ℕ) → Units m e → e ≡ m → Row text set n i j s
+    row-joined e l d = ended (no-units m e h l d)

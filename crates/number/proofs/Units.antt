@@ -1,5 +1,5 @@
 -- Bytes of a class side by side, and the units among them. Assumes nothing.
-use mathlib.Core.Path.{_≡_, refl, sym, _∙_}
+use mathlib.Core.Path.{_≡_, refl, sym, subst, _∙_}
 use mathlib.Core.Bool.{Bool, true, false, not}
 use mathlib.Core.List.{List}
 use Prim.Native.Nat.{ℕ, zero, suc, _+_, _-_, _*_, _/_, _≤_, _<_}
@@ -8,10 +8,10 @@ use native.Mathlib.Omega.{arith}
 use lib.ListN.{length, getD}
 use borrow.Author.Tests.{not-false}
 use Rattle.rules.specs.Class.{Class, has}
-use Rattle.rules.specs.Rule.{one, many, At, Takes, nothing, byte, both, stop, more, Longest, Fails}
+use Rattle.rules.specs.Rule.{one, many, At, Takes, nothing, byte, both, stop, more, Longest}
 use Rattle.rules.proofs.Bools.{not-both}
 use Rattle.rules.proofs.Chains.{Single, join, snoc, longest}
-use Rattle.rules.proofs.Matches.{forward, starting, ending, one-at, byte-at}
+use Rattle.rules.proofs.Matches.{forward, starting, one-at, byte-at}
 use Rattle.lexicon.specs.Literals.{unit}
 use Rattle.lexicon.proofs.Groups.{unit-end}
 use Rattle.lexicon.proofs.Spaces.{byte-single}
@@ -63,16 +63,23 @@ module _ {text : List ℕ} (c : Class) where
   unit-single n = record { same = λ u v. unit-end n c u ∙ sym (unit-end n c v) }
 
 -- as many as there is room for
-pub all-units : (text : List ℕ) (c : Class) (n at end : ℕ) → 1 ≤ n → Longest text (many (one c)) at end → Longest text (many (unit n c)) at (at + (end - at) / n * n)
-all-units text c n at end h r =
-    longest (unit-single c n) us (record { none = λ u. short u })
-  where
-    room : at + (end - at) / n * n ≤ end
-    room = omega (arith, forward (r .takes), div-mul-le-self (end - at) n)
+module _ (text : List ℕ) (c : Class) (n at end : ℕ) (run : Longest text (many (one c)) at end) where
+  pub units-room : at + (end - at) / n * n ≤ end
+  units-room = omega (arith, forward (run .takes), div-mul-le-self (end - at) n)
 
-    us : Takes text (many (unit n c)) at (at + (end - at) / n * n)
-    us = some-units c ((end - at) / n) n (at + (end - at) / n * n) refl room (r .takes)
+  pub all-units : 1 ≤ n → Longest text (many (unit n c)) at (at + (end - at) / n * n)
+  all-units h = longest (unit-single c n) us (record { none = λ u. short u })
+    where
+      us : Takes text (many (unit n c)) at (at + (end - at) / n * n)
+      us = some-units c ((end - at) / n) n (at + (end - at) / n * n) refl units-room (run .takes)
 
-    short : {k : ℕ} → Takes text (unit n c) (at + (end - at) / n * n) k → ⊥
-    short u =
-        omega (arith, unit-end n c u, r .most (join (units-run c n us) (unit-run c n u)), forward (r .takes), lt-div-mul-add {a = end - at} {b = n} h)
+      short : {k : ℕ} → Takes text (unit n c) (at + (end - at) / n * n) k → ⊥
+      short u =
+          omega (arith, unit-end n c u, run .most (join (units-run c n us) (unit-run c n u)), forward (run .takes), lt-div-mul-add {a = end - at} {b = n} h)
+
+-- each byte is one
+pub byte-units : (text : List ℕ) (c : Class) (n at end : ℕ) → Longest text (many (one c)) at end → n ≡ 1 → Longest text (many (unit n c)) at end
+byte-units text c n at end run e =
+    let x : at + (end - at) / 1 * 1 ≡ end = omega (arith, forward (run .takes)) in
+    subst (λ (m : ℕ). Longest text (many (unit m c)) at end) (sym e)
+    (subst (λ (j : ℕ). Longest text (many (unit 1 c)) at j) x (all-units text c 1 at end run (omega arith)))

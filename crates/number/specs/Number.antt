@@ -11,8 +11,8 @@ use Rattle.lexicon.specs.Literals.{unit}
 use Rattle.lexicon.specs.Values.{Digits, value}
 use Rattle.lexicon.specs.Limited.{limit}
 use Rattle.lexicon.proofs.Numbers.{letter, Numeral, SomeNumeral}
-use Rattle.number.specs.declared.integer.Mark as Mark
-use Rattle.number.specs.declared.integer.Mark.{Mark}
+use Rattle.text.specs.declared.digit.Lettered as Lettered
+use Rattle.text.specs.declared.digit.Lettered.{Lettered}
 use Rattle.number.specs.declared.integer.Number as Number
 use Rattle.number.specs.declared.integer.Number.{Number}
 use Rattle.number.specs.Groups.{Row}
@@ -25,9 +25,9 @@ pub record HasMark (text : List ℕ) (b : Base) (i : ℕ) : Type 0 where
 pub record NoMark (text : List ℕ) (i : ℕ) : Type 0 where
   pub none : {b : Base} → HasMark text b i → ⊥
 
-abbrev pub Marks : List ℕ → ℕ → Mark → Type 0
-Marks text i (Mark.the-variants.Of b) = HasMark text b i
-Marks text i Mark.the-variants.Nothing = NoMark text i
+abbrev pub Marks : List ℕ → ℕ → Lettered → Type 0
+Marks text i (Lettered.the-variants.Of b) = HasMark text b i
+Marks text i Lettered.the-variants.Nothing = NoMark text i
 
 -- the longest row of a base's digits
 abbrev pub OfBase : List ℕ → Base → ℕ → Number → Type 0

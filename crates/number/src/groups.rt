@@ -43,6 +43,10 @@ fn units(text: &[u8], at: usize, set: Set, width: usize, classes: &[u8; 256]) ->
     ensures { λ r. ⌜ Longest (now (text .entry)) (many (unit width (members set))) at r ⌝ }
 {
     let end = run(text, at, set, classes);
+    // Bytes are whole units: a number's digits cost no division.
+    if width == 1 {
+        return end;
+    }
     at + (end - at) / width * width
 }
 
@@ -70,6 +74,10 @@ pub(crate) fn longest_row(text: &[u8], at: usize, set: Set, width: usize) -> Gro
     let mut sum = tally_run(text, at, end - at, set, 0);
     loop {
         let next = joint(text, end);
+        // Without a joint the row ends here: no unit stands behind the last.
+        if next == end {
+            return Groups::At { end, sum };
+        }
         let stop = units(text, next, set, width, &classes);
         if stop == next {
             return Groups::At { end, sum };

@@ -4,6 +4,8 @@ use crate::groups::Groups;
 use crate::groups::longest_row;
 use lexicon::Base;
 use lexicon::Found;
+use text::digit::Lettered;
+use text::digit::base_of;
 use text::digit::digit_set;
 ghost use Prim.Native.Nat.{_≤_};
 ghost use lib.ListN.{length};
@@ -12,37 +14,27 @@ ghost use Rattle.lexicon.specs.Literals.{integer as integerOf};
 ghost use Rattle.lexicon.proofs.Integers.{Start};
 ghost use Rattle.number.specs.Number.{Marks, OfBase, MarkedNumber, Numbered};
 
-// The base that a mark names.
-enum Mark {
-    Of(Base),
-    Nothing,
-}
-
 // A number's base, the place behind it, and its value up to the limit.
 pub enum Number {
     At { base: Base, end: usize, value: u32 },
     Nothing,
 }
 
-// The mark at a place: `0` and one of four letters.
-fn mark_at(text: &[u8], at: usize) -> Mark
-    requires { ⌜ at ≤ length (now text) ⌝ }
+// The base of the mark at a place: `0` and the base's letter.
+pub fn mark_at(text: &[u8], at: usize) -> Lettered
     ensures { λ r. ⌜ Marks (now (text .entry)) at r ⌝ }
 {
-    if text.len() - at < 2 {
-        return Mark::Nothing;
+    if at >= text.len() {
+        return Lettered::Nothing;
     }
     if text[at] != b'0' {
-        return Mark::Nothing;
+        return Lettered::Nothing;
     }
-    let letter = text[at + 1];
-    match letter {
-        b'b' => Mark::Of(Base::Two),
-        b'o' => Mark::Of(Base::Eight),
-        b'd' => Mark::Of(Base::Ten),
-        b'x' => Mark::Of(Base::Sixteen),
-        _ => Mark::Nothing,
+    let next = at + 1;
+    if next >= text.len() {
+        return Lettered::Nothing;
     }
+    base_of(text[next])
 }
 
 // The digits of a base from a place on, as a number.
@@ -66,7 +58,7 @@ fn marked(text: &[u8], at: usize) -> Number
     requires { ⌜ at ≤ length (now text) ⌝ }
     ensures { λ r. ⌜ MarkedNumber (now (text .entry)) at r ⌝ }
 {
-    let Mark::Of(base) = mark_at(text, at) else {
+    let Lettered::Of(base) = mark_at(text, at) else {
         return Number::Nothing;
     };
     let start = text::space::space(text, at + 2);

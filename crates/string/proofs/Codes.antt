@@ -139,11 +139,5 @@ module _ (text : List ℕ) (i : ℕ) (r : Literal) {o p : Bool}
   pub mark-judged : (b : Base) → i + 2 < length text → getD text (i + 2) 0 ≡ letter b → Judges text (number b) (BadNumber text b) (i + 3) r → Judges text codePoint (BadCode text) i r
   mark-judged b h x y = code-judged b i (i + 3) r (by-mark text b zero-c h x) y
 
-  pub digit-judged : (getD text (i + 2) 0 ≡ 0x62 → ⊥) → (getD text (i + 2) 0 ≡ 0x6F → ⊥) → (getD text (i + 2) 0 ≡ 0x64 → ⊥) → (getD text (i + 2) 0 ≡ 0x78 → ⊥) → Judges text (number Ten) (BadNumber text Ten) (i + 2) r → Judges text codePoint (BadCode text) i r
-  digit-judged n2 n8 n10 n16 y = code-judged Ten i (i + 2) r (by-digit text zero-c none) y
-    where
-      none : (b : Base) → getD text (i + 2) 0 ≡ letter b → ⊥
-      none Two = n2
-      none Eight = n8
-      none Ten = n10
-      none Sixteen = n16
+  pub digit-judged : ((b : Base) → getD text (i + 2) 0 ≡ letter b → ⊥) → Judges text (number Ten) (BadNumber text Ten) (i + 2) r → Judges text codePoint (BadCode text) i r
+  digit-judged n y = code-judged Ten i (i + 2) r (by-digit text zero-c n) y

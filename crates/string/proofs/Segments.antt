@@ -147,13 +147,13 @@ module _ (text : List ℕ) where
   further-rest : {i s k : ℕ} → Skips text i s → Takes text further i k → Takes text segment s k
   further-rest y (both p t) = starting (space-ends p t y) t
 
-  pub further-single : Single text further
+  further-single : Single text further
   further-single = record { same = go }
     where
       go : {i j k : ℕ} → Takes text further i j → Takes text further i k → j ≡ k
       go (both p t) u = segment-single .same t (further-rest (landed quote quote-blank p (segment-begins t)) u)
 
-  pub further-strict : Strict text further
+  further-strict : Strict text further
   further-strict = strict-of further refl
 
   among-takes : {r : Rule} {P : ℕ → ℕ → Type 0} {i j : ℕ} → Among text r P i j → Takes text (many r) i j
@@ -169,7 +169,7 @@ module _ (text : List ℕ) where
   bad-further {j = j} y b =
       subst (λ (x : ℕ). BadSegment text x j) (space-ends (b .before) (bad-takes (b .bad)) y) (b .bad)
 
-  pub further-judged : (i s : ℕ) (r : Literal) → Skips text i s → Judges text segment (BadSegment text) s r → Judges text further (BadFurther text) i r
+  further-judged : (i s : ℕ) (r : Literal) → Skips text i s → Judges text segment (BadSegment text) s r → Judges text further (BadFurther text) i r
   further-judged i s (Literal.the-variants.At j bad) p y = (
     record { takes = both (p .takes) (y .0 .takes); most = λ t. y .0 .most (further-rest p t) },
     record {
@@ -181,21 +181,21 @@ module _ (text : List ℕ) where
 
   -- ---- the text
 
-  pub no-quoted : {i : ℕ} → Fails text segment i → Fails text quoted i
+  no-quoted : {i : ℕ} → Fails text segment i → Fails text quoted i
   no-quoted f = fails-first f
 
   module _ {i m : ℕ} (first : Takes text segment i m) where
     first-same : {k : ℕ} → Takes text segment i k → k ≡ m
     first-same t = segment-single .same t first
 
-    pub quoted-ends : {j : ℕ} → Takes text (many further) m j → Fails text further j → Longest text quoted i j
+    quoted-ends : {j : ℕ} → Takes text (many further) m j → Fails text further j → Longest text quoted i j
     quoted-ends {j} c f = record { takes = both first c; most = go }
       where
         go : {k : ℕ} → Takes text quoted i k → k ≤ j
         go (both t u) = forward (reaches further-single c f (starting (first-same t) u))
 
     -- nothing but the first segment
-    pub first-said : {b : Bool} → Says b (BadSegment text i m) → Says b (BadQuoted text i m)
+    first-said : {b : Bool} → Says b (BadSegment text i m) → Says b (BadQuoted text i m)
     first-said {b} y = record { true-holds = λ e. inFirst (y .true-holds e) (stop refl); holds-true = λ q. go q refl }
       where
         go : {k : ℕ} → BadQuoted text i k → k ≡ m → b ≡ true
@@ -205,7 +205,7 @@ module _ (text : List ℕ) where
             (place (Among text further (BadFurther text)) (first-same t) e a))
 
     -- one more segment
-    pub next-said : {j k : ℕ} {b c : Bool} → Takes text (many further) m j → Takes text further j k → Says b (BadQuoted text i j) → Says c (BadFurther text j k) → Says (b || c) (BadQuoted text i k)
+    next-said : {j k : ℕ} {b c : Bool} → Takes text (many further) m j → Takes text further j k → Says b (BadQuoted text i j) → Says c (BadFurther text j k) → Says (b || c) (BadQuoted text i k)
     next-said {j} {k} {b} {c} t s y z =
         record { true-holds = λ e. ⊎-elim (λ x. more-bad (y .true-holds x) s) (λ x. inFurther first (found t s (z .true-holds x))) (or-cases b c e); holds-true = back }
       where
@@ -219,3 +219,28 @@ module _ (text : List ℕ) where
             ⊎-elim (λ p. or-left b c (y .holds-true (inFurther first p))) (λ p. or-right b c (z .holds-true p))
             (which text further (BadFurther text) further-single further-strict t s
             (place (Among text further (BadFurther text)) (first-same x) refl a))
+
+  pub segment-strict : Strict text segment
+  segment-strict = strict-of segment refl
+
+  -- ---- the segments so far, and where the next would begin
+
+  pub data Going (at end next : ℕ) (bad : Bool) : Type 0 where
+    none : end ≡ at → next ≡ at → bad ≡ false → Going at end next bad
+    some : {first : ℕ} → Takes text segment at first → Takes text (many further) first end → Says bad (BadQuoted text at end) → Skips text end next → Going at end next bad
+
+  pub going-on : {at end next j k : ℕ} {bad worse : Bool} → Going at end next bad → Judges text segment (BadSegment text) next (Literal.the-variants.At j worse) → Skips text j k →
+      Going at j k (bad || worse)
+  going-on {at} {j = j} {worse = worse} (none e n b) y s =
+      let z = subst (λ (i : ℕ). Judges text segment (BadSegment text) i (Literal.the-variants.At j worse)) n y in
+      some (z .0 .takes) (stop refl) (subst (λ (o : Bool). Says (o || worse) (BadQuoted text at j)) (sym b) (first-said (z .0 .takes) (z .1))) s
+  going-on {end = end} {next} {j} {worse = worse} (some f t b p) y s =
+      let z = further-judged end next (Literal.the-variants.At j worse) p y in some f (snoc t (z .0 .takes)) (next-said f t (z .0 .takes) b (z .1)) s
+
+  pub going-nowhere : {at end next : ℕ} {bad : Bool} → Going at end next bad → Fails text segment next → end ≡ at → Fails text quoted at
+  going-nowhere (none e n b) f q = no-quoted (subst (λ (i : ℕ). Fails text segment i) n f)
+  going-nowhere (some g t b k) f q = absurd (omega (arith, q, segment-strict .less g, forward t))
+
+  pub going-ends : {at end next : ℕ} {bad : Bool} → Going at end next bad → Fails text segment next → (end ≡ at → ⊥) → Judges text quoted (BadQuoted text) at (Literal.the-variants.At end bad)
+  going-ends (none e n b) f q = absurd (q e)
+  going-ends {end = end} {next} (some g t b k) f q = (quoted-ends g t (further-judged end next Literal.the-variants.Nothing k f), b)

@@ -4,6 +4,8 @@ use lexicon::Literal;
 use text::byte::stands;
 use text::class::classes;
 use text::class::holds;
+use text::digit::Lettered;
+use text::digit::base_of;
 use text::digit::digit_set;
 use text::digit::limited;
 use text::digit::radix;
@@ -82,11 +84,8 @@ pub fn code_point(text: &[u8], at: usize) -> Literal
     if mark >= text.len() {
         return Literal::Nothing;
     }
-    match text[mark] {
-        b'b' => number(text, at + 3, Base::Two),
-        b'o' => number(text, at + 3, Base::Eight),
-        b'd' => number(text, at + 3, Base::Ten),
-        b'x' => number(text, at + 3, Base::Sixteen),
-        _ => number(text, at + 2, Base::Ten),
-    }
+    let Lettered::Of(base) = base_of(text[mark]) else {
+        return number(text, mark, Base::Ten);
+    };
+    number(text, at + 3, base)
 }

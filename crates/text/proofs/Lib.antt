@@ -7,3 +7,4 @@ pub mod Sequences
 pub mod Spaces
 pub mod Lines
 pub mod Digits
+pub mod Letters

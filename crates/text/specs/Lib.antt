@@ -1,2 +1,3 @@
--- What the table of classes says.
+-- What the table of classes says, and the letter of a base.
 pub mod Classes
+pub mod Letters

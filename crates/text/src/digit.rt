@@ -1,13 +1,34 @@
-// Digits: the set of a base's digits, the number that each stands for, and the number of a row of them, counted up to a limit.
+// Digits: the base that a letter names, the set of its digits, the number that each stands for, and the number of a row of them,
+// counted up to a limit.
 use lexicon::Base;
 use lexicon::Set;
 ghost use mathlib.Core.Path.{_≡_};
 ghost use Rattle.lexicon.specs.Bytes.{digitSet, size};
 ghost use Rattle.lexicon.specs.Values.{digit as digitOf};
 ghost use Rattle.lexicon.specs.Limited.{limited as limitedOf};
+ghost use Rattle.text.specs.Letters.{Letters};
 
 // From it on a number is no code point, no denominator 0 and no radix below 2.
 const LIMIT: u32 = 0x11_0000;
+
+// The base of a letter, if it has one.
+pub enum Lettered {
+    Of(Base),
+    Nothing,
+}
+
+// The base that a letter names.
+pub fn base_of(b: u8) -> Lettered
+    ensures { λ r. ⌜ Letters b r ⌝ }
+{
+    match b {
+        b'b' => Lettered::Of(Base::Two),
+        b'o' => Lettered::Of(Base::Eight),
+        b'd' => Lettered::Of(Base::Ten),
+        b'x' => Lettered::Of(Base::Sixteen),
+        _ => Lettered::Nothing,
+    }
+}
 
 // The digits of a base.
 pub fn digit_set(base: Base) -> Set

@@ -7,7 +7,6 @@ use lib.ListN.{length, getD}
 use Rattle.rules.specs.Rule.{lit, Takes, both}
 use Rattle.rules.proofs.Matches.{forward, inside}
 use Rattle.lexicon.specs.declared.Base.{Base}
-use Rattle.lexicon.specs.declared.Base.the-variants.{Two, Eight, Ten, Sixteen}
 use Rattle.lexicon.specs.declared.Set.{Set}
 use Rattle.lexicon.specs.Bytes.{digitSet, radix, size}
 use Rattle.lexicon.specs.Literals.{codeOfBase, codePoint}
@@ -15,9 +14,8 @@ use Rattle.lexicon.specs.Limited.{limit, limited}
 use Rattle.lexicon.specs.Values.{read, CodeOf}
 use Rattle.lexicon.proofs.Bases.{some-base}
 use Rattle.lexicon.proofs.Limits.{limited-value, read-more}
-use Rattle.lexicon.proofs.Numbers.{letter}
 use Rattle.string.specs.Parts.{numberAt}
-use Rattle.string.proofs.Marks.{Marked, begins, mark-long, by-digit}
+use Rattle.string.proofs.Marks.{Marked, begins, mark-long}
 use Rattle.text_value.specs.Parts.{CodeIs}
 use Rattle.text_value.proofs.Spelled.{first-digit}
 
@@ -29,16 +27,6 @@ module _ (piece : List ℕ) where
     where
       go : (b : Base) {i j : ℕ} → Takes piece (codeOfBase b) i j → Takes piece (lit "0c") i (i + 2) × (i + 2 < length piece)
       go b (both u d) = (begins piece b u, omega (arith, mark-long piece b u, first-digit piece d .0))
-
-  pub mark-none : (i : ℕ) → Takes piece (lit "0c") i (i + 2) → (getD piece (i + 2) 0 ≡ 0x62 → ⊥) → (getD piece (i + 2) 0 ≡ 0x6F → ⊥) →
-      (getD piece (i + 2) 0 ≡ 0x64 → ⊥) → (getD piece (i + 2) 0 ≡ 0x78 → ⊥) → Marked piece i Ten (i + 2)
-  mark-none i t n2 n8 n10 n16 = by-digit piece t none
-    where
-      none : (b : Base) → getD piece (i + 2) 0 ≡ letter b → ⊥
-      none Two = n2
-      none Eight = n8
-      none Ten = n10
-      none Sixteen = n16
 
   pub code-within : {i j : ℕ} (b : Base) {s : ℕ} → Marked piece i b s → Takes piece codePoint i j → (s ≤ j) × (j ≤ length piece)
   code-within {i} {j} b {s} m t = let x = some-base codeOfBase t in (go (x .0) (x .1), inside t (omega (arith, code-begins t .1)))

@@ -19,7 +19,6 @@ use Rattle.lexicon.specs.Values.{read, Letter, CodeOf}
 use Rattle.lexicon.specs.Bad.{Scalar}
 use Rattle.lexicon.proofs.Spaces.{byte-single, skips-same}
 use Rattle.string.proofs.Codes.{angle-most}
-use Rattle.text_value.specs.declared.quoted.Meaning as Meaning
 use Rattle.text_value.specs.declared.quoted.Meaning.{Meaning}
 use Rattle.text_value.specs.Encode.{encode}
 use Rattle.text_value.specs.Letters.{NoMeaning, Means}

@@ -1,5 +1,7 @@
 // The number of a code point literal. The functions have a `requires` each: their caller has found the literal.
 use lexicon::Base;
+use text::digit::Lettered;
+use text::digit::base_of;
 use text::digit::digit_set;
 use text::digit::limited;
 use text::digit::radix;
@@ -24,27 +26,15 @@ fn mark(piece: &[u8], at: usize) -> Marked
     requires { ⌜ Takes (now piece) (lit "0c") at (at + 2) × (at + 2 < length (now piece)) ⌝ }
     ensures { λ r. ⌜ Marks.Marked (now (piece .entry)) at (r .base) (r .start) ⌝ }
 {
-    match piece[at + 2] {
-        b'b' => Marked {
-            base: Base::Two,
-            start: at + 3,
-        },
-        b'o' => Marked {
-            base: Base::Eight,
-            start: at + 3,
-        },
-        b'd' => Marked {
-            base: Base::Ten,
-            start: at + 3,
-        },
-        b'x' => Marked {
-            base: Base::Sixteen,
-            start: at + 3,
-        },
-        _ => Marked {
+    let Lettered::Of(base) = base_of(piece[at + 2]) else {
+        return Marked {
             base: Base::Ten,
             start: at + 2,
-        },
+        };
+    };
+    Marked {
+        base,
+        start: at + 3,
     }
 }
 

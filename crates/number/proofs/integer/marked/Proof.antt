@@ -1,7 +1,7 @@
 -- `number::integer::marked` meets its contract. Assumes nothing.
 use native.Mathlib.Omega.{arith}
 use Rattle.number.specs.Number.{HasMark}
-use Rattle.number.proofs.Marks.{mark-found, mark-missing, marked-answer}
+use Rattle.number.proofs.Marks.{mark-told, no-mark-no-number, marked-answer}
 use Rattle.rules.proofs.Matches.{inside}
 use borrow.Author.Needs.{needs}
 use Rattle.number.proofs.integer.marked.Statement.{statement}
@@ -19,12 +19,12 @@ enum-told c = search needs
 the-mark : (c : tie.After-space) → HasMark (c .before .before .before .before .before .before .args .text .now) (c .before .before .base .given .0 .0) (c .before .before .before .before .before .before .args .at)
 the-mark c =
     let a = c .before .before .before .before .before .before .args in
-    mark-found (a .text .now) (a .at) _ (c .before .before .before .before .mark-at .result) (c .before .before .before .before .mark-at .ensures) (c .before .before .base .given .1)
+    mark-told (a .text .now) (a .at) (c .before .before .base .given .1) (c .before .before .before .before .mark-at .ensures)
 
 returns : tie.Need-returns
 returns c =
     let a = c .before .before .before .before .args in
-    mark-missing (a .text .now) (a .at) (c .before .before .mark-at .result) (c .before .before .mark-at .ensures) (c .enum-told .given .1)
+    no-mark-no-number (a .text .now) (a .at) (mark-told (a .text .now) (a .at) (c .enum-told .given .1) (c .before .before .mark-at .ensures))
 
 add-space : tie.Need-add-space
 add-space c = search needs
