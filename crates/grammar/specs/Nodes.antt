@@ -4,9 +4,9 @@ use mathlib.Core.List.{List, [], _∷_, _++_}
 use Prim.Native.Nat.{ℕ, _+_}
 use lib.ListN.{length}
 use Rattle.grammar.specs.Tokens
-use Rattle.grammar.specs.Tokens.{Span, Atom, Spelling, quoted, word, codePoint, Wording, spelled, headWord}
+use Rattle.grammar.specs.Tokens.{Span, Atom, Spelling, quoted, word, codePoint}
 use Rattle.grammar.specs.Tree
-use Rattle.grammar.specs.Tree.{Names, oneName, moreNames, PlainName, textName, nestingName, Name, plainName, bareName, Arrow, rightward, leftward, Joiner, Collection, Measure, Count, Side, less, lessEqual, Between, twoDots, starSign, Style, Value, Plain, Item, Row, Listing, Attributes, Bounds}
+use Rattle.grammar.specs.Tree.{Names, oneName, moreNames, PlainName, textName, nestingName, Name, plainName, bareName, Arrow, rightward, leftward, Joiner, Collection, Measure, Count, less, lessEqual, Between, twoDots, starSign, Style, Value, Plain, Item, Row, Listing, Attributes, Bounds}
 
 pub data NodeKind : Type 0 where
   anIgnorance aBoolean anInteger aFraction aBits aBlob aText aNesting aPair aTuple aLot anArray aSet aBag anInterval : NodeKind

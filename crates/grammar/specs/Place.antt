@@ -1,6 +1,6 @@
 -- Texts of a level, tokens in the wrong place, places for a value, and newer forms. Assumes nothing.
 use mathlib.Core.Path.{_≡_}
-use mathlib.Core.Bool.{Bool, true, false}
+use mathlib.Core.Bool.{true, false}
 use mathlib.Core.List.{List, [], _∷_, _++_}
 use Rattle.lexicon.specs.declared.Head.{Head}
 use Rattle.grammar.specs.Tokens.{Span, Tok, tok, atom, ignorance, text, headWord, round, square, mark, colon, later}

@@ -2,7 +2,7 @@
 use mathlib.Core.Path.{_≡_, refl, sym, ap, subst, _∙_}
 use mathlib.Core.Bool.{Bool, true, false}
 use mathlib.Core.List.{List}
-use Prim.Native.Nat.{ℕ, _≤_, _<_}
+use Prim.Native.Nat.{ℕ, _≤_}
 use native.Mathlib.Omega.{arith}
 use lib.ListN.{length}
 use Rattle.rules.specs.Test.{Says}
@@ -19,7 +19,7 @@ use Rattle.lexicon.specs.declared.Kind.{Kind}
 use Rattle.lexicon.specs.declared.Token as Token
 use Rattle.lexicon.specs.declared.Next.{Next}
 use Rattle.lexicon.specs.declared.Next.the-variants as Next
-use Rattle.lexicon.specs.Space.{sp, Skips}
+use Rattle.lexicon.specs.Space.{sp}
 use Rattle.lexicon.specs.Token.{Is, Bad, Comes}
 use Rattle.lexicon.proofs.Spaces.{skips-same}
 use Rattle.lexicon.proofs.Unique.{one-token}

@@ -1,7 +1,6 @@
 -- 01's examples of classes: `0` is 95, `A` 120, `g` 112, `_` 96, `=` 16, tab 128. Assumes nothing.
 use mathlib.Core.Path.{_≡_, refl}
-use mathlib.Core.List.{List, [], _∷_, map}
-use Prim.Native.Nat.{ℕ}
+use mathlib.Core.List.{[], _∷_, map}
 use Rattle.rules.specs.Class.{has}
 use Rattle.lexicon.specs.Bytes.{classOf}
 

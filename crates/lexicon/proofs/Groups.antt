@@ -2,24 +2,21 @@
 -- at most one joint between two; the row's digits are fixed by its ends; and a row that is shorter than another goes on with a
 -- joint and a unit. Assumes nothing.
 use mathlib.Core.Path.{_≡_, refl, subst, sym, ap, _∙_}
-use mathlib.Core.Logic.{_⊎_, inl, inr}
 use mathlib.Core.Bool.{true}
-use mathlib.Core.List.{List, [], _∷_, _++_, append-assoc}
+use mathlib.Core.List.{List, _++_, append-assoc}
 use Prim.Native.Nat.{ℕ, zero, suc, _+_, _≤_, _<_}
 use native.Mathlib.Decide.{decLe}
 use native.Mathlib.Nat.{not-suc-le-zero, le-of-suc-le-suc, add-zero}
 use native.Mathlib.Omega.{arith}
-use lib.ListN.{length, getD}
-use Rattle.rules.specs.Class.{Class, In, has, just, anyOf}
-use Rattle.rules.specs.Rule.{Rule, one, _then_, _or_, many, plus, opt, times, At, Takes, nothing, byte, both, left, right, stop, more, Longest, Fails}
-use Rattle.rules.proofs.Classes.{apart, apartSpan, apart-no}
+use Rattle.rules.specs.Class.{Class, anyOf}
+use Rattle.rules.specs.Rule.{_then_, many, plus, opt, At, Takes, nothing, byte, both, left, right, stop, more}
+use Rattle.rules.proofs.Classes.{apart, apartSpan}
 use Rattle.rules.proofs.Matches.{forward, starting, ending}
 use Rattle.rules.proofs.Ways.{never, never-takes}
-use Rattle.lexicon.specs.Bytes.{dividing}
-use Rattle.lexicon.specs.Space.{blank, sp, Skips}
+use Rattle.lexicon.specs.Space.{blank, sp}
 use Rattle.lexicon.specs.Literals.{joint, unit, groups}
 use Rattle.lexicon.specs.Values.{Digits, lastUnit, nextUnit, read}
-use Rattle.lexicon.proofs.Spaces.{skips-same, landed, landed-here, Ahead}
+use Rattle.lexicon.proofs.Spaces.{skips-same, landed}
 
 -- no byte of the class begins a joint
 pub record Clear (c : Class) : Type 0 where
@@ -43,10 +40,6 @@ module _ {text : List ℕ} where
   unit-at n (both (byte a e) u) = a
 
   -- a unit is read byte by byte
-  pub unit-snoc : (n : ℕ) (c : Class) {i j : ℕ} → Takes text (unit n c) i j → At text c j → Takes text (unit (suc n) c) i (j + 1)
-  unit-snoc zero c (nothing e) a = both (byte (subst (λ (k : ℕ). At text c k) (sym e) a) refl) (nothing (ap (λ (k : ℕ). k + 1) e))
-  unit-snoc (suc n) c (both x u) a = both x (unit-snoc n c u a)
-
   pub unit-byte : (n : ℕ) (c : Class) (i : ℕ) {j : ℕ} → Takes text (unit n c) i j → (k : ℕ) → k < n → At text c (i + k)
   unit-byte zero c i u k h = absurd (not-suc-le-zero h)
   unit-byte (suc n) c i (both (byte a e) u) zero h = subst (λ (k : ℕ). At text c k) (sym (add-zero i)) a

@@ -2,20 +2,19 @@
 -- from there. Assumes nothing.
 use mathlib.Core.Path.{_≡_, refl, subst, sym, _∙_}
 use mathlib.Core.Bool.{true}
-use mathlib.Core.List.{List, [], _∷_}
-use Prim.Native.Nat.{ℕ, _+_, _≤_, _<_}
-use lib.ListN.{length, getD}
-use Rattle.rules.specs.Class.{Class, In}
-use Rattle.rules.specs.Rule.{Rule, one, _then_, opt, At, Takes, nothing, byte, both, left, right, Longest, Fails}
+use mathlib.Core.List.{List}
+use Prim.Native.Nat.{ℕ, _+_, _<_}
+use lib.ListN.{getD}
+use Rattle.rules.specs.Class.{In}
+use Rattle.rules.specs.Rule.{At, Takes, nothing, byte, both, left, right}
 use Rattle.rules.proofs.Classes.{apart, apartSpan, apart-no}
-use Rattle.rules.proofs.Matches.{starting, ending}
+use Rattle.rules.proofs.Matches.{starting}
 use Rattle.rules.proofs.Ways.{never}
-use Rattle.lexicon.specs.declared.Base.{Base}
 use Rattle.lexicon.specs.Bytes.{decimal, wordRest}
-use Rattle.lexicon.specs.Space.{blank, sp, Skips}
-use Rattle.lexicon.specs.Literals.{sign, plusMinus, nonsigned, integer}
+use Rattle.lexicon.specs.Space.{blank, Skips}
+use Rattle.lexicon.specs.Literals.{sign, plusMinus, integer}
 use Rattle.lexicon.proofs.Spaces.{skips-same, landed, Ahead}
-use Rattle.lexicon.proofs.Numbers.{Numeral, SomeNumeral, numeral-at, numeral-cut, of-nonsigned, to-nonsigned, to-base}
+use Rattle.lexicon.proofs.Numbers.{SomeNumeral, numeral-at, numeral-cut, of-nonsigned, to-nonsigned, to-base}
 
 pub decimal-blank : never decimal blank ≡ true
 unfolding never apart apartSpan

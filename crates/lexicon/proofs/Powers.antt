@@ -1,24 +1,23 @@
 -- The power of a Fraction, `* R ^ E`: what its search finds at each step, and which radix it has. Assumes nothing.
-use mathlib.Core.Path.{_≡_, refl, subst, sym, _∙_}
+use mathlib.Core.Path.{_≡_, refl, subst, sym}
 use mathlib.Core.Bool.{true}
-use mathlib.Core.List.{List, [], _∷_}
+use mathlib.Core.List.{List, _∷_}
 use Prim.Native.Nat.{ℕ, _+_, _≤_, _<_}
-use native.Mathlib.Omega.{arith}
 use native.Mathlib.Nat.{le-antisymm}
-use lib.ListN.{length, getD}
-use Rattle.rules.specs.Class.{Class, In, _to_, just, anyOf}
-use Rattle.rules.specs.Rule.{Rule, _then_, opt, At, Takes, nothing, byte, both, left, right, Longest, Fails}
+use lib.ListN.{getD}
+use Rattle.rules.specs.Class.{Class, _to_, just, anyOf}
+use Rattle.rules.specs.Rule.{Rule, _then_, At, Takes, nothing, byte, both, left, right, Longest, Fails}
 use Rattle.rules.proofs.Classes.{apart, apartSpan, includes, inSome, includes-in}
 use Rattle.rules.proofs.Matches.{starting}
 use Rattle.rules.proofs.Ways.{never}
 use Rattle.lexicon.specs.Bytes.{decimal, radix}
-use Rattle.lexicon.specs.Space.{blank, sp, Skips}
-use Rattle.lexicon.specs.Literals.{sign, plusMinus, integer, spaced, power}
+use Rattle.lexicon.specs.Space.{blank, Skips}
+use Rattle.lexicon.specs.Literals.{plusMinus, integer, spaced, power}
 use Rattle.lexicon.specs.Values.{Number, value}
 use Rattle.lexicon.proofs.Spaces.{Ahead}
 use Rattle.lexicon.proofs.Numbers.{Numeral, SomeNumeral, numeral, numeral-at, number-same, valued, of-nonsigned, to-nonsigned, to-base}
 use Rattle.lexicon.proofs.Integers.{decimal-blank}
-use Rattle.lexicon.proofs.Fractions.{Symbol, Apart, of-spaced, to-spaced, symbol-ahead, ahead-most, behind-symbol, some, star-apart, caret-apart}
+use Rattle.lexicon.proofs.Fractions.{Symbol, of-spaced, to-spaced, symbol-ahead, ahead-most, behind-symbol, some, star-apart, caret-apart}
 
 -- an Integer's first byte
 abbrev begins : Class

@@ -4,18 +4,16 @@ use mathlib.Core.Path.{_≡_, refl, sym, ap, subst, _∙_}
 use mathlib.Core.Logic.{_⊎_, inl, inr, ⊎-elim}
 use mathlib.Core.Bool.{Bool, true, false, _&&_, _||_, false≢true}
 use mathlib.Core.List.{List, [], _∷_}
-use Prim.Native.Nat.{ℕ, zero, suc, _≤_, _<_}
+use Prim.Native.Nat.{ℕ, zero, suc, _≤_}
 use lib.Dec.{eqb}
-use lib.ListN.{length, getD}
+use lib.ListN.{getD}
 use borrow.Author.Tests.{eqb-true}
 use Rattle.rules.specs.Class.{Class}
 use Rattle.rules.specs.Rule.{Takes, At, Longest}
 use Rattle.rules.proofs.Bools.{and-left, and-right, or-cases}
 use Rattle.rules.proofs.Classes.{apart, apartSpan}
 use Rattle.rules.proofs.Ways.{never, never-takes, covers, covers-all}
-use Rattle.lexicon.specs.declared.Bound.{Bound}
 use Rattle.lexicon.specs.declared.Bound.the-variants.{Open, Less, LessEqual}
-use Rattle.lexicon.specs.declared.Sign.{Sign}
 use Rattle.lexicon.specs.declared.Sign.the-variants.{RoundOpen, RoundClose, CurlyOpen, CurlyClose, SquareOpen, SquareClose, Comma, ArrowRight, ArrowLeft, Dots, Star}
 use Rattle.lexicon.specs.Token.{Lexeme, anIgnorance, aBoolean, anInteger, aFraction, aBits, aBlob, aQuoted, aWord, aCodePoint, aLater, aSymbol, rule, Here}
 

@@ -3,12 +3,12 @@
 -- place i to place j. Assumes nothing.
 use mathlib.Core.Path.{_≡_}
 use mathlib.Core.Logic.{_⊎_}
-use mathlib.Core.List.{List, [], _∷_}
+use mathlib.Core.List.{List, _∷_}
 use Prim.Native.Nat.{ℕ, _≤_, _<_}
-use Rattle.rules.specs.Rule.{Rule, _then_, _or_, many, opt, lit, Takes, Among}
+use Rattle.rules.specs.Rule.{_then_, _or_, many, opt, lit, Takes, Among}
 use Rattle.lexicon.specs.Bytes.{base64}
 use Rattle.lexicon.specs.Space.{sp}
-use Rattle.lexicon.specs.Literals.{integer, nonsigned, significand, spaced, power, unescaped, escape, segment}
+use Rattle.lexicon.specs.Literals.{integer, significand, spaced, power, unescaped, escape, segment}
 use Rattle.lexicon.specs.Values.{Digits, Number, CodeOf}
 
 -- a number that is a code point

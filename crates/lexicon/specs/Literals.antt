@@ -1,14 +1,14 @@
 -- The literals of levels 1 and 2, as source document 003 prints them, with 01's readings: dividing space that leads to no more
 -- of the literal is not part of it, and belongs to a number only behind a sign. Assumes nothing.
 use mathlib.Core.Bool.{Bool, true, false}
-use mathlib.Core.List.{List, [], _∷_}
+use mathlib.Core.List.{[], _∷_}
 use Prim.Native.Nat.{ℕ}
 use Prim.Native.String.{String}
-use Rattle.rules.specs.Class.{Class, _to_, _upto_, anyOf}
-use Rattle.rules.specs.Rule.{Rule, empty, one, _then_, _or_, many, plus, opt, times, _sepBy_, lit}
+use Rattle.rules.specs.Class.{Class, _upto_, anyOf}
+use Rattle.rules.specs.Rule.{Rule, one, _then_, _or_, many, plus, opt, times, _sepBy_, lit}
 use Rattle.lexicon.specs.declared.Base.{Base}
 use Rattle.lexicon.specs.declared.Base.the-variants.{Two, Eight, Ten, Sixteen}
-use Rattle.lexicon.specs.Bytes.{binary, octal, decimal, hexadecimal, base64, wordStart, wordRest, digits}
+use Rattle.lexicon.specs.Bytes.{binary, octal, hexadecimal, base64, wordStart, wordRest, digits}
 use Rattle.lexicon.specs.Space.{sp}
 use Rattle.lexicon.specs.Utf8.{beyond}
 

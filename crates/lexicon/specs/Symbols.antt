@@ -1,9 +1,9 @@
 -- Symbols and colon runs: 01, 'Symbols: `( ) { } [ ] , -> <-`, `..`, and the nine with a star in the source's list'.
 -- Assumes nothing.
-use mathlib.Core.List.{List, [], _∷_}
+use mathlib.Core.List.{List}
 use Prim.Native.Nat.{ℕ, _+_}
 use Prim.Native.String.{String}
-use Rattle.rules.specs.Class.{Class, anyOf}
+use Rattle.rules.specs.Class.{anyOf}
 use Rattle.rules.specs.Rule.{Rule, one, _then_, many, lit, Longest}
 use Rattle.lexicon.specs.declared.Bound.{Bound}
 use Rattle.lexicon.specs.declared.Bound.the-variants.{Open, Less, LessEqual}

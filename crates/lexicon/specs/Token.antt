@@ -2,8 +2,8 @@
 -- don't occur'; colon runs are no longest match and stand apart. Assumes nothing.
 use mathlib.Core.Path.{_≡_}
 use mathlib.Core.Logic.{_⊎_}
-use mathlib.Core.Bool.{Bool, true, false}
-use mathlib.Core.List.{List, [], _∷_}
+use mathlib.Core.Bool.{Bool}
+use mathlib.Core.List.{List}
 use Prim.Native.Nat.{ℕ, _+_, _≤_, _<_}
 use Prim.Native.String.{String}
 use lib.ListN.{length, getD}
@@ -13,7 +13,6 @@ use Rattle.rules.specs.Rule.{Rule, lit, Takes}
 use Rattle.lexicon.specs.declared.Sign.{Sign}
 use Rattle.lexicon.specs.declared.Head.{Head}
 use Rattle.lexicon.specs.declared.Head.the-variants.{Array, Set, Bag, Mix, IntervalSet, IntervalBag, TupleArray, Relation, TupleBag, Article, Excuse, Heading, Renaming}
-use Rattle.lexicon.specs.declared.Form.{Form}
 use Rattle.lexicon.specs.declared.Form.the-variants.{Quoted, Word, HeadWord, CodePoint}
 use Rattle.lexicon.specs.declared.Kind.{Kind}
 use Rattle.lexicon.specs.declared.Kind.the-variants.{Ignorance, Boolean, Integer, Fraction, Bits, Blob, Text, Later, Symbol, Colon, TwoColons}

@@ -3,7 +3,7 @@
 use mathlib.Core.List.{List, [], _∷_}
 use Prim.Native.Nat.{ℕ, _<_}
 use lib.ListN.{length}
-use Rattle.rules.specs.Class.{Class, _upto_}
+use Rattle.rules.specs.Class.{_upto_}
 use Rattle.lexicon.specs.declared.Encoding as Encoding
 use Rattle.lexicon.specs.declared.Encoding.{Encoding}
 use Rattle.rules.specs.Rule.{Rule, one, _then_, _or_, many, Takes, Fails}

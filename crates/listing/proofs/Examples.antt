@@ -1,7 +1,6 @@
 -- The listings that 01 prints, byte for byte. Assumes nothing.
 use mathlib.Core.Path.{_≡_, refl}
-use mathlib.Core.List.{List, [], _∷_}
-use Prim.Native.Nat.{ℕ}
+use mathlib.Core.List.{[], _∷_}
 use Rattle.reading.specs.Answers.{answer}
 use Rattle.listing.specs.Listing.{digits, decimal, nodeLines, listing}
 

@@ -1,7 +1,7 @@
 -- Bytes written into the lent buffer, piece behind piece. Assumes nothing.
 use mathlib.Core.Path.{_≡_, refl, sym, ap, _∙_, subst}
 use mathlib.Core.List.{List, [], _∷_, _++_}
-use Prim.Native.Nat.{ℕ, _+_, _/_, _%_, _≤_, _<_, min}
+use Prim.Native.Nat.{ℕ, _+_, _/_, _%_, _≤_, _<_}
 use native.Mathlib.Omega.{arith, min-cases}
 use lib.ListN.{length, set, length-append, length-set}
 use Rattle.rules.specs.Over.{over}

@@ -1,9 +1,9 @@
 -- Demand 3, for any two levels of which one has the other's forms. Assumes nothing.
-use mathlib.Core.Path.{_≡_, refl, sym, ap, subst, _∙_}
+use mathlib.Core.Path.{_≡_, refl, sym, ap, subst}
 use mathlib.Core.Bool.{true}
 use mathlib.Core.Logic.{_⊎_, inl, inr}
 use mathlib.Core.List.{List, [], _∷_, _++_}
-use Prim.Native.Nat.{ℕ, suc, _≤_, _<_}
+use Prim.Native.Nat.{ℕ, _≤_, _<_}
 use native.Mathlib.Omega.{arith}
 use lib.ListN.{length, length-append}
 use Rattle.lexicon.specs.declared.Token as Token
@@ -18,13 +18,13 @@ use Rattle.grammar.specs.Tokens.{Tok}
 use Rattle.grammar.specs.Tree.{Value}
 use Rattle.grammar.specs.Yield.{yieldValue}
 use Rattle.grammar.specs.Level.{Level, level1, level2, leftArrows, keeps, _Within_}
-use Rattle.grammar.specs.Place.{Sentence, Wrong, WrongEnd, Newer}
+use Rattle.grammar.specs.Place.{Newer}
 use Rattle.grammar.proofs.OneTree.{oneTree}
 use Rattle.grammar.proofs.Levels.{Known, sentenceAlike, sentenceAlikeBack, wrongAlike, newerBelow, oneWithinTwo}
 use Rattle.reading.specs.declared.Answer.{Answer}
 use Rattle.reading.specs.Sizes.{Sizes}
 use Rattle.reading.specs.Tokens.{seen, Follow, nothing, next}
-use Rattle.reading.specs.Faults.{NewerAt, TooDeep, Fault, noToken, wrong, wrongEnd, newer, badValue, tooDeep, Passed, begun, passed, FirstFault, AllPassed}
+use Rattle.reading.specs.Faults.{NewerAt, Fault, noToken, wrong, wrongEnd, newer, badValue, tooDeep, Passed, begun, passed, FirstFault, AllPassed}
 use Rattle.reading.specs.Answers.{LevelOf, first, second, Accepted, Answers, noLevel, tooLong, notUtf8, faulty, noRoom, accepted}
 use Rattle.reading.specs.Agree.{NewerFrom, FirstNewer, Agree}
 use Rattle.reading.proofs.Rows.{Order, equal, less, more, order, pick, no-end, no-none, comes-forward, one-row, row-beyond, append, split}

@@ -22,10 +22,10 @@ use Rattle.grammar.specs.Tokens.{Tok, tok, Mark, Class, atom, text, names, roun
 use Rattle.grammar.specs.Tree.{Value}
 use Rattle.grammar.specs.Level.{Level, intervals, hasHead}
 use Rattle.grammar.specs.Place.{Beyond, newerHead, newerBracket, laterLiteral}
-use Rattle.grammar.proofs.Frames.{Stack, Config, want, have, wantText, wantCurly, wantCount, haveItem, wantClose}
+use Rattle.grammar.proofs.Frames.{Stack, Config, want, have}
 use Rattle.grammar.proofs.Machine.{step}
 use Rattle.grammar.proofs.Accepts.{reached, accepts}
-use Rattle.grammar.proofs.Viable.{Final, final, Wants, wants, wantsValue}
+use Rattle.grammar.proofs.Viable.{Wants, wants, wantsValue}
 use Rattle.grammar.proofs.FirstNewer.{wanting, isBeyond, beyondHolds}
 use Rattle.reading.specs.Sizes.{Sizes}
 use Rattle.reading.specs.Tokens.{seen, Follow, nothing, next, openMark, openBehind, openFrom, opened}

@@ -1,8 +1,8 @@
 -- The first faulty token is one: no text has two first faults, and a text whose tokens all pass has none. Assumes nothing.
-use mathlib.Core.Path.{_≡_, refl, sym, ap, subst, _∙_}
+use mathlib.Core.Path.{_≡_, refl, sym, ap, subst}
 use mathlib.Core.Bool.{true}
-use mathlib.Core.List.{List, [], _∷_, _++_}
-use Prim.Native.Nat.{ℕ, zero, suc, _≤_, _<_}
+use mathlib.Core.List.{List, [], _∷_}
+use Prim.Native.Nat.{ℕ, _<_}
 use native.Mathlib.Omega.{arith}
 use lib.ListN.{length, length-append}
 use Rattle.lexicon.specs.declared.Token as Token
@@ -16,7 +16,7 @@ use Rattle.grammar.specs.Level.{Level}
 use Rattle.grammar.specs.Place.{Wrong, WrongEnd}
 use Rattle.reading.specs.Sizes.{Sizes}
 use Rattle.reading.specs.Tokens.{seen, Follow, nothing, next}
-use Rattle.reading.specs.Faults.{NewerAt, TooDeep, Fault, noToken, wrong, wrongEnd, newer, badValue, tooDeep, Passed, begun, passed, FirstFault, AllPassed}
+use Rattle.reading.specs.Faults.{NewerAt, Fault, noToken, wrong, wrongEnd, newer, badValue, tooDeep, Passed, begun, passed, FirstFault, AllPassed}
 use Rattle.reading.proofs.Rows.{Order, equal, less, more, order, pick, same-place, no-end, no-none, none-end, one-row, append}
 
 module _ (bytes : List ℕ) where

@@ -1,10 +1,10 @@
 -- Where a reader stands: behind tokens that pass, with the machine's configuration there. A token that the machine takes leads on, and
 -- each test that fails is the answer's first fault. Assumes nothing.
-use mathlib.Core.Path.{_≡_, refl, sym, ap, subst, _∙_}
+use mathlib.Core.Path.{_≡_, refl, sym, _∙_}
 use mathlib.Core.Bool.{Bool, true, false}
 use mathlib.Core.List.{List, [], _∷_, _++_}
-use mathlib.Core.Option.{Option, none, some}
-use Prim.Native.Nat.{ℕ, _<_}
+use mathlib.Core.Option.{none, some}
+use Prim.Native.Nat.{ℕ}
 use Rattle.rules.proofs.Bools.{clash}
 use Rattle.lexicon.specs.declared.Token as Token
 use Rattle.lexicon.specs.declared.Next.the-variants as Next
@@ -12,7 +12,7 @@ use Rattle.lexicon.specs.Front.{Front}
 use Rattle.lexicon.specs.Token.{Comes}
 use Rattle.grammar.specs.Tokens.{Tok, Class, atom, text, names, round, curly, square, mark, later, classKind}
 use Rattle.grammar.specs.Level.{Level}
-use Rattle.grammar.specs.Place.{Wrong, WrongEnd, Sentence, Beyond, newerHead, newerBracket, laterLiteral}
+use Rattle.grammar.specs.Place.{Beyond, newerHead, newerBracket, laterLiteral}
 use Rattle.grammar.proofs.Frames.{Config, want}
 use Rattle.grammar.proofs.Machine.{step, runs}
 use Rattle.grammar.proofs.Viable as Viable

@@ -1,10 +1,9 @@
 -- A reading has one answer at most: number, place, count and every word of the table at exit. Assumes nothing.
-use mathlib.Core.Path.{_≡_, refl, sym, ap, subst, _∙_}
-use mathlib.Core.List.{List, [], _∷_, _++_}
-use Prim.Native.Nat.{ℕ, _*_, _≤_, _<_}
+use mathlib.Core.Path.{_≡_, refl, ap, subst}
+use mathlib.Core.List.{List, [], _++_}
+use Prim.Native.Nat.{ℕ, _*_}
 use native.Mathlib.Omega.{arith}
 use lib.ListN.{length, drop}
-use Rattle.lexicon.specs.Utf8.{WellFormed, BadAt}
 use Rattle.lexicon.proofs.Determined.{formed-or-bad, one-bad}
 use Rattle.grammar.specs.Tree.{Value}
 use Rattle.grammar.specs.Yield.{yieldValue}
@@ -12,7 +11,7 @@ use Rattle.grammar.specs.Level.{Level}
 use Rattle.grammar.specs.Nodes.{table, tableWords, nodeWords}
 use Rattle.grammar.proofs.OneTree.{oneTree}
 use Rattle.reading.specs.declared.Answer.{Answer}
-use Rattle.reading.specs.Sizes.{Sizes, room}
+use Rattle.reading.specs.Sizes.{Sizes}
 use Rattle.reading.specs.Faults.{FirstFault, AllPassed}
 use Rattle.reading.specs.Answers.{LevelOf, first, second, answer, Accepted, Answers, noLevel, tooLong, notUtf8, faulty, noRoom, accepted}
 use Rattle.reading.proofs.First.{one-first, all-or-fault, one-passing}

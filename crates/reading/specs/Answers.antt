@@ -1,9 +1,8 @@
 -- The answer of a reading: 01, 'Table of refusals', in its order. One record states number, place, count and the table at exit for
 -- every level number, text and table at entry. Assumes nothing.
 use mathlib.Core.Path.{_≡_}
-use mathlib.Core.Logic.{_⊎_}
 use mathlib.Core.Bool.{true}
-use mathlib.Core.List.{List, [], _∷_, _++_}
+use mathlib.Core.List.{List, [], _++_}
 use Prim.Native.Nat.{ℕ, _*_, _≤_, _<_}
 use lib.ListN.{length, drop}
 use Rattle.lexicon.specs.Utf8.{WellFormed, BadAt}

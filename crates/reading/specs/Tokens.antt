@@ -1,10 +1,10 @@
 -- The tokens of a text, from left to right. Assumes nothing.
-use mathlib.Core.List.{List, [], _∷_, _++_}
+use mathlib.Core.List.{List, [], _∷_}
 use Prim.Native.Nat.{ℕ, suc, pred}
 use Rattle.lexicon.specs.declared.Token as Token
 use Rattle.lexicon.specs.declared.Next.the-variants as Next
 use Rattle.lexicon.specs.Token.{Comes}
-use Rattle.grammar.specs.Tokens.{Span, Tok, tok, Class, atom, text, names, round, curly, square, mark, later, roundClose, curlyClose, squareClose, comma, colon, rightArrow, leftArrow, dots, star, Mark, classKind}
+use Rattle.grammar.specs.Tokens.{Tok, tok, Class, atom, text, names, round, curly, square, mark, later, roundClose, curlyClose, squareClose, comma, colon, rightArrow, leftArrow, dots, star, Mark, classKind}
 
 -- a token as the tree rules see it
 abbrev pub seen : Token.Token → Tok

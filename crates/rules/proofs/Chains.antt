@@ -1,9 +1,8 @@
 -- Repeated matches of one rule: joined, extended at the end, and compared where from each place the rule has one match at most.
 -- Assumes nothing.
 use mathlib.Core.Path.{_≡_, refl, subst, sym, _∙_}
-use mathlib.Core.Logic.{_⊎_, inl, inr}
 use mathlib.Core.List.{List}
-use Prim.Native.Nat.{ℕ, _≤_, _<_}
+use Prim.Native.Nat.{ℕ}
 use Rattle.rules.specs.Rule.{Rule, many, plus, opt, Takes, nothing, both, left, right, stop, more, Fails, Longest}
 use Rattle.rules.proofs.Matches.{forward}
 

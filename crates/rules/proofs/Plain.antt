@@ -2,13 +2,13 @@
 use mathlib.Core.Path.{_≡_, refl, sym, ap, subst, _∙_}
 use mathlib.Core.Logic.{_↔_}
 use mathlib.Core.List.{List, [], _∷_, _++_, append-assoc}
-use Prim.Native.Nat.{ℕ, zero, suc, _+_, _-_, _≤_, _<_}
+use Prim.Native.Nat.{ℕ, _+_, _-_, _≤_, _<_}
 use native.Mathlib.Nat.{add-zero, sub-zero, sub-self, add-sub-cancel-left, add-sub-of-le}
 use native.Mathlib.Omega.{arith}
-use lib.ListN.{length, getD, take, drop, length-append, length-drop, take-append-drop}
+use lib.ListN.{length, getD, drop, length-append, length-drop, take-append-drop}
 use lib.Seq.{take-add, drop-drop, drop-cons, getD-drop, length-take-le, take-length, take-append-seam, drop-append-seam}
-use Rattle.rules.specs.Class.{Class, In, just}
-use Rattle.rules.specs.Rule.{Rule, empty, one, _then_, _or_, many, row, At, Takes, nothing, byte, both, left, right, stop, more}
+use Rattle.rules.specs.Class.{Class, In}
+use Rattle.rules.specs.Rule.{Rule, row, At, Takes, nothing, byte, both, left, right, stop, more}
 use Rattle.rules.specs.Plain.{Matches, noByte, oneByte, joined, inLeft, inRight, noMore, oneMore, between}
 use Rattle.rules.proofs.Classes.{just-is}
 use Rattle.rules.proofs.Matches.{forward, ending}

@@ -7,10 +7,10 @@ use mathlib.Core.Bool.{Bool, true, false, not, _&&_, _||_, cond, false≢true}
 use mathlib.Core.List.{List, [], _∷_, _++_}
 use Prim.Native.Nat.{ℕ, zero, suc, _+_, _≤_, _<_}
 use native.Mathlib.Omega.{arith}
-use lib.ListN.{length, getD}
-use Rattle.rules.specs.Class.{Class, In}
+use lib.ListN.{length}
+use Rattle.rules.specs.Class.{Class}
 use Rattle.rules.specs.Rule.{Rule, empty, one, _then_, _or_, many, Takes, nothing, byte, both, left, right, stop, more, At, Fails}
-use Rattle.rules.proofs.Bools.{and-left, and-right, and-both, or-cases, or-left, or-right, decide, clash, not-both}
+use Rattle.rules.proofs.Bools.{and-left, and-right, and-both, or-cases, or-left, or-right, clash, not-both}
 use Rattle.rules.proofs.Classes.{apart, apart-no, includes, includes-in}
 use Rattle.rules.proofs.Matches.{forward}
 use Rattle.rules.proofs.Chains.{Single}

@@ -7,7 +7,7 @@ use Prim.Native.Nat.{ℕ}
 use Prim.Native.Char.{Char, code}
 use Prim.Native.String as String
 use Prim.Native.String.{String}
-use lib.Dec.{leb, ltb}
+use lib.Dec.{leb}
 
 -- the bytes from `low` to `high`, both included
 pub record Span : Type 0 where

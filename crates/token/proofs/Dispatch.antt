@@ -1,5 +1,5 @@
 -- The token that the first byte tells. Assumes nothing.
-use mathlib.Core.Path.{_≡_, refl, sym, subst, subst⁻¹, ap, _∙_}
+use mathlib.Core.Path.{_≡_, refl, sym, subst, subst⁻¹, _∙_}
 use mathlib.Core.Logic.{_⊎_, inl, inr, ⊎-elim}
 use mathlib.Core.Bool.{Bool, true, false, _||_, false≢true}
 use mathlib.Core.List.{List, [], _∷_}
@@ -15,19 +15,19 @@ use Rattle.rules.specs.Class.{Class, In, has, just, codes, _to_}
 use Prim.Native.String.{String}
 use Rattle.rules.specs.Rule.{Rule, row, lit, At, Takes, Longest, Fails}
 use Rattle.rules.proofs.Bools.{clash, decide, or-cases}
-use Rattle.rules.proofs.Classes.{apart, apartSpan, apart-no, includes, inSome, includes-in, in-cons, just-is}
+use Rattle.rules.proofs.Classes.{apart, apartSpan, apart-no, includes, inSome, in-cons, just-is}
 use Rattle.rules.proofs.Matches.{ending, row-end}
 use Rattle.rules.proofs.Tests.{says-no}
 use Rattle.rules.proofs.Ways.{never, covers, opens, opens-at}
 use Rattle.lexicon.specs.declared.Form.{Form}
 use Rattle.lexicon.specs.declared.Form.the-variants.{Quoted, Word, HeadWord, CodePoint}
 use Rattle.lexicon.specs.declared.Kind.{Kind}
-use Rattle.lexicon.specs.declared.Kind.the-variants.{Ignorance, Boolean, Integer, Fraction, Bits, Blob, Text, Later, Symbol, Colon, TwoColons}
+use Rattle.lexicon.specs.declared.Kind.the-variants.{Ignorance, Boolean, Integer, Fraction, Bits, Blob, Text, Later, Symbol}
 use Rattle.lexicon.specs.declared.Sign.{Sign}
 use Rattle.lexicon.specs.declared.Sign.the-variants.{ArrowRight}
 use Rattle.lexicon.specs.Bytes.{wordStart, decimal}
 use Rattle.lexicon.specs.Space.{Skips}
-use Rattle.lexicon.specs.Literals.{ignorance, boolean, integer, fraction, bits, blob, quoted, word, codePoint, later, plusMinus}
+use Rattle.lexicon.specs.Literals.{integer, fraction, bits, blob, quoted, word, codePoint, plusMinus}
 use Rattle.lexicon.specs.Bad.{BadCode, BadQuoted, BadPadding, BadFraction}
 use Rattle.lexicon.specs.Token.{Lexeme, anIgnorance, aBoolean, anInteger, aFraction, aBits, aBlob, aQuoted, aWord, aCodePoint, aLater, aSymbol, rule, Here, Is, Bad, Comes}
 use Rattle.lexicon.proofs.Tokens.{every, for-every, begins, begins-with, outreaches, alone, oneOf, is-one}
@@ -44,7 +44,7 @@ use Rattle.token.specs.declared.zero.Fixed.{Fixed}
 use Rattle.token.specs.declared.zero.Fixed.the-variants as Fixed
 use Rattle.token.specs.Answers.{NoSymbol, Symboled, NoneAt, TokenAt, StartsAt, NumberOnly, Marked, FixedAt, NotOpening}
 use Rattle.token.proofs.Symbols.{taken-as}
-use Rattle.token.proofs.Starts.{NoLexeme, nothing-starts}
+use Rattle.token.proofs.Starts.{nothing-starts}
 
 -- ---- the lexemes that no other outreaches
 

@@ -1,26 +1,22 @@
 -- From the longest lexeme to the token, and where none starts. Assumes nothing.
-use mathlib.Core.Path.{_≡_, refl, sym, subst, _∙_}
-use mathlib.Core.Logic.{_⊎_, inl, inr, ⊎-elim}
-use mathlib.Core.Bool.{Bool, true, false, false≢true}
-use mathlib.Core.List.{List, [], _∷_}
-use Prim.Native.Nat.{ℕ, _+_, _≤_, _<_}
+use mathlib.Core.Path.{_≡_, refl, sym, subst}
+use mathlib.Core.Logic.{_⊎_, inl, inr}
+use mathlib.Core.Bool.{true, false, false≢true}
+use mathlib.Core.List.{List, []}
+use Prim.Native.Nat.{ℕ, _+_, _<_}
 use native.Mathlib.Omega.{arith}
-use lib.ListN.{length, getD}
 use Rattle.rules.specs.Class.{just, anyOf}
 use Rattle.rules.specs.Rule.{one, many, At, Takes, byte, stop, more, Longest, Fails}
 use Rattle.rules.proofs.Tests.{says-no}
 use Rattle.rules.proofs.Classes.{apart, apartSpan}
-use Rattle.rules.proofs.Matches.{starting, ending}
-use Rattle.rules.proofs.Chains.{Single, longest}
+use Rattle.rules.proofs.Chains.{longest}
 use Rattle.rules.proofs.Ways.{never}
-use Rattle.lexicon.specs.declared.Form.{Form}
 use Rattle.lexicon.specs.declared.Form.the-variants.{Quoted, Word, HeadWord, CodePoint}
 use Rattle.lexicon.specs.declared.Kind.{Kind}
 use Rattle.lexicon.specs.declared.Kind.the-variants.{Ignorance, Boolean, Integer, Fraction, Bits, Blob, Text, Later, Symbol, Colon, TwoColons}
 use Rattle.lexicon.specs.declared.Next.{Next}
-use Rattle.lexicon.specs.declared.Next.the-variants as Next
 use Rattle.lexicon.specs.Symbols.{Colons}
-use Rattle.lexicon.specs.Token.{Lexeme, rule, Here, Told, Is}
+use Rattle.lexicon.specs.Token.{Lexeme, rule, Here, Told}
 use Rattle.lexicon.proofs.Spaces.{byte-single}
 use Rattle.lexicon.proofs.Tokens.{begins, begins-with}
 use Rattle.token.specs.Answers.{NoneAt, TokenAt, StartsAt, colonAt}

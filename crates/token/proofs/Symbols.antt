@@ -1,16 +1,16 @@
 -- The longest symbol: how far each reaches, told by the first bytes, and what rules the others out. Assumes nothing.
 use mathlib.Core.Path.{_≡_, refl, sym, subst, ap, _∙_}
 use mathlib.Core.Logic.{⊎-elim}
-use mathlib.Core.Bool.{Bool, true, false, false≢true}
+use mathlib.Core.Bool.{true, false, false≢true}
 use mathlib.Core.List.{List, [], _∷_}
 use Prim.Native.Nat.{ℕ, _+_, _≤_, _<_}
 use native.Mathlib.Omega.{arith}
-use lib.ListN.{length, getD}
+use lib.ListN.{getD}
 use Rattle.rules.specs.Class.{just, codes}
 use Rattle.rules.specs.Rule.{lit, At, Takes, nothing, byte, both}
 use Rattle.rules.proofs.Classes.{apart, apartSpan}
-use Rattle.rules.proofs.Matches.{starting, ending, row-end}
-use Rattle.rules.proofs.Ways.{covers, never, never-takes}
+use Rattle.rules.proofs.Matches.{starting, row-end}
+use Rattle.rules.proofs.Ways.{covers}
 use Rattle.lexicon.specs.declared.Bound.{Bound}
 use Rattle.lexicon.specs.declared.Bound.the-variants.{Open, Less, LessEqual}
 use Rattle.lexicon.specs.declared.Sign.{Sign}

@@ -15,7 +15,7 @@ use Rattle.lexicon.specs.declared.Next.{Next}
 use Rattle.lexicon.specs.declared.Next.the-variants as Next
 use Rattle.lexicon.specs.Token.{Comes}
 use Rattle.grammar.specs.Tokens
-use Rattle.grammar.specs.Tokens.{Class, classKind}
+use Rattle.grammar.specs.Tokens.{Class}
 use Rattle.grammar.specs.Level.{Feature, Level, hasHead, level1, level2, arrays, sets, bags, intervals, leftArrows}
 use Rattle.reading.specs.Answers.{LevelOf, first, second}
 use Rattle.reading.proofs.Rows.{pick, no-end, no-none}

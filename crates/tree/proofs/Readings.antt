@@ -1,39 +1,35 @@
 -- The readers that call each other: what each makes of the answers below it. Assumes nothing.
 use mathlib.Core.Path.{_≡_, refl, sym, ap, subst, _∙_}
 use mathlib.Core.Bool.{Bool, true, false, not, false≢true}
-use mathlib.Core.Logic.{_⊎_, inl, inr}
-use mathlib.Core.List.{List, [], _∷_, _++_, append-nil}
-use mathlib.Core.Option.{Option, none, some}
+use mathlib.Core.Logic.{inl, inr}
+use mathlib.Core.List.{List, [], _∷_, append-nil}
+use mathlib.Core.Option.{none}
 use Prim.Native.Nat.{ℕ, suc, _+_, _-_, _*_, _≤_, _<_}
 use native.Mathlib.Omega.{arith}
 use lib.ListN.{length, length-append}
 use types.Run.{OneOf, miss}
 use denote.Enum.Declared.{tagOf}
 use Rattle.moves.proofs.Move as MoveType
-use Rattle.rules.specs.Test.{Says}
 use Rattle.rules.proofs.Bools.{clash}
 use Rattle.lexicon.specs.declared.Head.{Head}
-use Rattle.lexicon.specs.declared.Form.the-variants as Form
-use Rattle.lexicon.specs.declared.Kind.{Kind}
-use Rattle.lexicon.specs.declared.Kind.the-variants as Kind
 use Rattle.lexicon.specs.declared.Token as Token
 use Rattle.lexicon.specs.declared.Next.the-variants as Next
 use Rattle.lexicon.specs.Token.{Comes}
 use Rattle.grammar.specs.Tokens
-use Rattle.grammar.specs.Tokens.{Span, Mark, Class, classKind}
+use Rattle.grammar.specs.Tokens.{Mark, Class, classKind}
 use Rattle.grammar.specs.Tree
 use Rattle.grammar.specs.Tree.{Value, Names}
 use Rattle.grammar.specs.Nodes as Nodes
 use Rattle.grammar.specs.Nodes.{Node, nodes}
 use Rattle.grammar.proofs.Frames as Frames
-use Rattle.grammar.proofs.Frames.{Config, Stack, want, have, namesOf}
-use Rattle.grammar.proofs.Machine.{wantMark, haveClass}
+use Rattle.grammar.proofs.Frames.{Config, Stack, want, have}
+use Rattle.grammar.proofs.Machine.{haveClass}
 use Rattle.grammar.proofs.NodeLaws.{some-node, same-size}
 use Rattle.reading.specs.Sizes.{base}
 use Rattle.reading.specs.Tokens.{seen, openMark}
 use Rattle.reading.proofs.Rows.{pick}
 use Rattle.reading.proofs.Decide.{whole}
-use Rattle.reading.proofs.At.{At, none-here, end-here, sign-on}
+use Rattle.reading.proofs.At.{none-here, end-here, sign-on}
 use Rattle.reading.proofs.Depth.{depth-is}
 use Rattle.moves.specs.declared.Forms.{Forms}
 use Rattle.moves.specs.declared.Shape.{Shape}
@@ -46,8 +42,8 @@ use Rattle.moves.specs.declared.Mode.the-variants as Mode
 use Rattle.moves.specs.declared.Move.{Move}
 use Rattle.moves.specs.declared.Move.the-variants as Move
 use Rattle.moves.proofs.Model.{move}
-use Rattle.moves.proofs.Means.{levelOf, given, shapeOf, frameOf, modeOf, inside, below, openOf, framed, before, children}
-use Rattle.moves.proofs.Effects.{headBare, nested, opening, openingFrame, held, Does, Begins, Asked}
+use Rattle.moves.proofs.Means.{levelOf, given, shapeOf, frameOf, modeOf, inside, framed}
+use Rattle.moves.proofs.Effects.{headBare, nested, openingFrame, held, Does, Begins, Asked}
 use Rattle.moves.proofs.Does.{does}
 use Rattle.table.specs.Over.{Written, Raised, Reserved}
 use Rattle.table.proofs.Written.{written-nothing, written-more}
@@ -61,9 +57,9 @@ use Rattle.tree.specs.declared.begin.Begin.the-variants as Begin
 use Rattle.tree.specs.declared.bracket.State as State
 use Rattle.tree.specs.declared.bracket.Turn.{Turn}
 use Rattle.tree.specs.declared.bracket.Turn.the-variants as Turn
-use Rattle.tree.specs.Looks.{Gets, NotNext, NoHead, HeadHere, noMark, isClose, handedOn}
+use Rattle.tree.specs.Looks.{Gets, NoHead, noMark, isClose, handedOn}
 use Rattle.tree.specs.Readers
-use Rattle.tree.specs.Readers.{spanOf, literal, opened, Fit, Sized, Inner, From, Turned, Born, Refuses, Stands, Faulty, Asks, IsValue, Outcome, Reads, Entered, Begun, BeginsSo, Holds, Turns, Bore, Member, Bracketed, Rounded, entering, signs, Ends, Alone, Slim, Literal, Nesting, Taken}
+use Rattle.tree.specs.Readers.{spanOf, opened, Fit, Sized, Inner, From, Turned, Born, Stands, Faulty, Asks, IsValue, Outcome, Reads, Entered, Begun, BeginsSo, Holds, Turns, Bore, Member, Bracketed, Rounded, entering, signs, Ends, Alone, Slim, Literal, Nesting, Taken}
 use Rattle.tree.specs.Turning.{Narrow, Outer}
 use Rattle.tree.proofs.Bounds.{token-bounds}
 use Rattle.tree.proofs.Looking.{got-token, close-class}

@@ -2,27 +2,24 @@
 use mathlib.Core.Path.{_≡_, refl, sym, ap, subst, _∙_}
 use mathlib.Core.Bool.{Bool, true, false, false≢true}
 use mathlib.Core.Logic.{_⊎_, inl, inr}
-use mathlib.Core.List.{List, [], _∷_, _++_, append-nil}
-use mathlib.Core.Option.{Option, none, some}
-use Prim.Native.Nat.{ℕ, zero, suc, pred, _+_, _*_, _≤_, _<_}
+use mathlib.Core.List.{List, [], _∷_, _++_}
+use mathlib.Core.Option.{none}
+use Prim.Native.Nat.{ℕ, zero, suc, pred, _+_, _≤_}
 use native.Mathlib.Omega.{arith}
 use lib.ListN.{length, length-append}
 use Rattle.rules.proofs.Bools.{clash, decide}
-use Rattle.lexicon.specs.declared.Head.{Head}
-use Rattle.lexicon.specs.declared.Kind.the-variants as Kind
 use Rattle.lexicon.specs.declared.Token as Token
 use Rattle.lexicon.specs.declared.Next.the-variants as Next
 use Rattle.lexicon.specs.Token.{Comes}
 use Rattle.grammar.specs.Tokens
-use Rattle.grammar.specs.Tokens.{Span, Mark, Tok, Class, classKind}
+use Rattle.grammar.specs.Tokens.{Span, Mark, classKind}
 use Rattle.grammar.specs.Tree
-use Rattle.grammar.specs.Tree.{Value, Plain, Names}
+use Rattle.grammar.specs.Tree.{Value}
 use Rattle.grammar.specs.Nodes as Nodes
-use Rattle.grammar.specs.Nodes.{Node, nodes, over, kindNumber, nodeWords}
-use Rattle.grammar.proofs.NodeLaws.{roled, relabel, same-size, some-node}
+use Rattle.grammar.specs.Nodes.{Node, nodes, over}
+use Rattle.grammar.proofs.NodeLaws.{roled, relabel, some-node}
 use Rattle.grammar.proofs.Frames as Frames
-use Rattle.grammar.proofs.Frames.{Config, Stack, want, have, namesOf, plainNameOf}
-use Rattle.grammar.proofs.Machine.{step, haveClass}
+use Rattle.grammar.proofs.Frames.{Config, Stack, want, have, namesOf}
 use Rattle.reading.specs.Sizes.{base}
 use Rattle.reading.specs.Tokens.{seen, openMark}
 use Rattle.reading.proofs.At.{At, opens, sign-on, literal-on, open-on, never-bad, mayBeBad, plain, kindOf, curly-known, sign-wrong, not-here, deep-here, class-kind}
@@ -34,12 +31,11 @@ use Rattle.moves.specs.declared.Shape.the-variants as Shape
 use Rattle.moves.specs.declared.Style.{Style}
 use Rattle.moves.specs.declared.Frame.{Frame}
 use Rattle.moves.specs.declared.Mode.{Mode}
-use Rattle.moves.specs.declared.Mode.the-variants as Mode
 use Rattle.moves.specs.declared.Move.{Move}
 use Rattle.moves.specs.declared.Move.the-variants as Move
-use Rattle.moves.proofs.Means.{levelOf, roleOf, given, nameShape, shapeOf, before, last, children, openOf, below}
-use Rattle.moves.proofs.Effects.{flat, counting, Signed, headBare, nested, opening, held, Leads, Closes, Counts, Groups, told, Does}
-use Rattle.table.specs.Over.{Written, Stored, Assigned, Put, Tells, entryWords}
+use Rattle.moves.proofs.Means.{levelOf, roleOf, shapeOf, before, last, children, openOf}
+use Rattle.moves.proofs.Effects.{flat, counting, opening, held, Leads, told, Does}
+use Rattle.table.specs.Over.{Written, Stored, Assigned, Put, entryWords}
 use Rattle.table.proofs.Words.{roled-length}
 use Rattle.table.proofs.Written.{told-put, written-more, written-node, written-front, written-role, written-first}
 use Rattle.tree.specs.declared.answer.Read.the-variants as Read
@@ -48,10 +44,10 @@ use Rattle.tree.specs.declared.bracket.Turn.{Turn}
 use Rattle.tree.specs.declared.bracket.Turn.the-variants as Turn
 use Rattle.tree.specs.Looks.{isClose}
 use Rattle.tree.specs.declared.leaf.Telling as Telling
-use Rattle.tree.specs.Tellings.{leafKind, leafDetail, LeafTold}
-use Rattle.tree.specs.Readers.{spanOf, opened, Ends, Taken, signs, Holds, IsValue, Outcome, Turns}
+use Rattle.tree.specs.Tellings.{leafDetail, LeafTold}
+use Rattle.tree.specs.Readers.{spanOf, Ends, Taken, signs, Holds, Turns}
 use Rattle.tree.proofs.Leaves.{atom-tells}
-use Rattle.tree.specs.Turning.{Narrow, Outer, behind, countEntry, closeEntry, Led, Tupled, Counted, Deepened, Shuts, Closed}
+use Rattle.tree.specs.Turning.{Narrow, Outer, countEntry, closeEntry, Led, Tupled, Counted, Deepened, Shuts, Closed}
 
 -- ---- roles of the value that was read last
 

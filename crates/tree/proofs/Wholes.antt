@@ -1,16 +1,13 @@
 -- A whole text: from the value's reading to the answer. Assumes nothing.
 use mathlib.Core.Path.{_≡_, refl, sym, ap, subst, _∙_}
-use mathlib.Core.Logic.{_⊎_, inl, inr}
 use mathlib.Core.List.{List, [], _∷_, _++_}
-use mathlib.Core.Option.{Option, none, some}
-use Prim.Native.Nat.{ℕ, _+_, _*_, _/_, min, _≤_, _<_}
+use mathlib.Core.Option.{none}
+use Prim.Native.Nat.{ℕ, _+_, _*_, _≤_, _<_}
 use native.Mathlib.Omega.{arith}
 use lib.ListN.{length, drop}
 use types.Run.{OneOf, miss}
 use denote.Enum.Declared.{tagOf}
 use Rattle.lexicon.proofs.Next as NextType
-use Rattle.lexicon.specs.declared.Kind.{Kind}
-use Rattle.lexicon.specs.declared.Kind.the-variants as Kind
 use Rattle.lexicon.specs.declared.Token as Token
 use Rattle.lexicon.specs.declared.Next.{Next}
 use Rattle.lexicon.specs.declared.Next.the-variants as Next
@@ -23,12 +20,11 @@ use Rattle.grammar.specs.Tokens
 use Rattle.grammar.specs.Tokens.{Span, Class, classKind}
 use Rattle.grammar.specs.Tree.{Value}
 use Rattle.grammar.specs.Level.{Level}
-use Rattle.grammar.specs.Nodes.{Node, table, tableWords, nodeWords}
-use Rattle.grammar.proofs.Frames.{Config, Stack, want, have, namesOf}
+use Rattle.grammar.specs.Nodes.{table, tableWords, nodeWords}
+use Rattle.grammar.proofs.Frames.{namesOf}
 use Rattle.grammar.proofs.Machine.{haveClass, namesGo}
 use Rattle.reading.specs.declared.Answer.{Answer}
 use Rattle.reading.specs.Sizes.{base, room}
-use Rattle.reading.specs.Tokens.{seen}
 use Rattle.reading.specs.Answers.{LevelOf, Accepted, Answers, answer, noLevel, tooLong, notUtf8, faulty, noRoom, accepted}
 use Rattle.reading.proofs.First.{all-or-fault}
 use Rattle.reading.proofs.Unique.{one-tree}
@@ -46,7 +42,7 @@ use Rattle.tree.specs.declared.answer.Got.the-variants as Got
 use Rattle.tree.specs.declared.level.Leveled.{Leveled}
 use Rattle.tree.specs.declared.level.Leveled.the-variants as Leveled
 use Rattle.tree.specs.Looks.{Gets, handedOn, LevelFound}
-use Rattle.tree.specs.Readers.{spanOf, Stands, Faulty, Stops, Fit, Asks, IsValue, Outcome, Reads}
+use Rattle.tree.specs.Readers.{spanOf, Faulty, Fit, IsValue, Outcome, Reads}
 use Rattle.tree.specs.Whole.{Behind, further, nothing, atEnd, Whole, JudgedAs, Judged, Told, beyondBy, refusal}
 use Rattle.tree.proofs.Bounds.{token-bounds}
 use Rattle.tree.proofs.Looking.{got-token}

@@ -12,7 +12,7 @@ use Rattle.lexicon.specs.declared.Next.the-variants as Next
 use Rattle.lexicon.specs.Token.{Comes}
 use mathlib.Core.Bool.{Bool, true, false}
 use Rattle.grammar.specs.Tokens
-use Rattle.grammar.specs.Tokens.{Class, Mark, classKind}
+use Rattle.grammar.specs.Tokens.{Class, Mark}
 use Rattle.grammar.specs.Tree
 use Rattle.grammar.specs.Yield.{collectionHead}
 use Rattle.grammar.specs.Level.{Level, hasHead, hasCollection}

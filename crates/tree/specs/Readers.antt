@@ -1,9 +1,8 @@
 -- What a reader of a value, and of a bracket's members, leaves behind. Assumes nothing.
 use mathlib.Core.Path.{_≡_}
-use mathlib.Core.Logic.{_⊎_}
 use mathlib.Core.Bool.{Bool, true, false}
 use mathlib.Core.List.{List, [], _∷_}
-use mathlib.Core.Option.{none, some}
+use mathlib.Core.Option.{none}
 use Prim.Native.Nat.{ℕ, suc, _+_, _≤_, _<_}
 use lib.ListN.{length}
 use Rattle.lexicon.specs.declared.Head.{Head}
@@ -17,7 +16,7 @@ use Rattle.grammar.specs.Tokens
 use Rattle.grammar.specs.Tokens.{Span, Mark, Class, classKind}
 use Rattle.grammar.specs.Tree.{Value}
 use Rattle.grammar.specs.Nodes as Nodes
-use Rattle.grammar.specs.Nodes.{Node, nodes}
+use Rattle.grammar.specs.Nodes.{nodes}
 use Rattle.grammar.proofs.Frames as Frames
 use Rattle.grammar.proofs.Frames.{Config, Stack, want, have, namesOf}
 use Rattle.grammar.proofs.Machine.{wantMark}

@@ -3,9 +3,6 @@ use borrow.Author.Needs.{needs}
 use Rattle.both.proofs.Both.{old-and-new}
 use Rattle.both.proofs.read_both.Statement.{statement}
 use Rattle.both.proofs.read_both.Tie as tie
-use Rattle.both.proofs.read_both.Reads as reads
-use Rattle.both.proofs.read_both.Lts as lts
-use Rattle.tree.proofs.read.read.Reads as read-reads
 
 read-requires : tie.Need-read-requires
 read-requires c κs = search needs

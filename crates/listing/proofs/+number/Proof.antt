@@ -1,5 +1,4 @@
 -- `listing::number` meets its contract; the number is the measure. Assumes nothing.
-use native.Mathlib.Omega.{arith}
 use borrow.Author.Needs.{needs}
 use Rattle.listing.proofs.Pieces.{number-one, number-more}
 use Prim.Native.Nat.{ℕ, _<_}

@@ -3,9 +3,6 @@ use Rattle.token_c.proofs.Shown.{well-formed, bad-at}
 use borrow.Author.Needs.{needs}
 use Rattle.token_c.proofs.muon_utf8.Statement.{statement}
 use Rattle.token_c.proofs.muon_utf8.Tie as tie
-use Rattle.token_c.proofs.muon_utf8.Reads as reads
-use Rattle.token_c.proofs.muon_utf8.Lts as lts
-use Rattle.text.proofs.utf8.utf8.Reads as utf8-reads
 
 utf8-requires : tie.Need-utf8-requires
 utf8-requires c κs = search needs

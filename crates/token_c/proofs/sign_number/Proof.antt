@@ -4,9 +4,6 @@ use Rattle.token_c.specs.Numbers.{signNumber}
 use borrow.Author.Needs.{needs}
 use Rattle.token_c.proofs.sign_number.Statement.{statement}
 use Rattle.token_c.proofs.sign_number.Tie as tie
-use Rattle.token_c.proofs.sign_number.Reads as reads
-use Rattle.token_c.proofs.sign_number.Lts as lts
-use Rattle.token_c.proofs.star_number.Reads as star-number-reads
 
 enum-told : tie.Need-enum-told
 enum-told c = search needs

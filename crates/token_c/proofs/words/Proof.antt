@@ -3,11 +3,6 @@ use Rattle.token_c.proofs.Shown.{token-words, end-words, none-words}
 use borrow.Author.Needs.{needs}
 use Rattle.token_c.proofs.words.Statement.{statement}
 use Rattle.token_c.proofs.words.Tie as tie
-use Rattle.token_c.proofs.words.Reads as reads
-use Rattle.token_c.proofs.words.Lts as lts
-use Rattle.token_c.proofs.bit_of.Reads as bit-of-reads
-use Rattle.token_c.proofs.detail_number.Reads as detail-number-reads
-use Rattle.token_c.proofs.kind_number.Reads as kind-number-reads
 
 enum-known-answer : tie.Need-enum-known-answer
 enum-known-answer c = search needs

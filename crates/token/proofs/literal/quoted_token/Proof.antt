@@ -1,13 +1,10 @@
 -- `token::literal::quoted_token` meets its contract. Assumes nothing.
 use Rattle.token.proofs.Dispatch.{quoted-none, quoted-is}
-use Rattle.lexicon.proofs.Answers.{judged-at, judged-none, found-at, found-none}
+use Rattle.lexicon.proofs.Answers.{judged-at, judged-none}
 use mathlib.Core.Path.{refl}
 use borrow.Author.Needs.{needs}
 use Rattle.token.proofs.literal.quoted_token.Statement.{statement}
 use Rattle.token.proofs.literal.quoted_token.Tie as tie
-use Rattle.token.proofs.literal.quoted_token.Reads as reads
-use Rattle.token.proofs.literal.quoted_token.Lts as lts
-use Rattle.string.proofs.quoted.quoted.Reads as quoted-reads
 
 quoted-requires : tie.Need-quoted-requires
 quoted-requires c κs = search needs

@@ -1,14 +1,10 @@
 -- `token::literal::word_token` meets its contract. Assumes nothing.
 use Rattle.token.proofs.Dispatch.{word-none, word-is}
-use Rattle.lexicon.proofs.Answers.{judged-at, judged-none, found-at, found-none}
+use Rattle.lexicon.proofs.Answers.{found-at, found-none}
 use mathlib.Core.Path.{refl}
 use borrow.Author.Needs.{needs}
 use Rattle.token.proofs.literal.word_token.Statement.{statement}
 use Rattle.token.proofs.literal.word_token.Tie as tie
-use Rattle.token.proofs.literal.word_token.Reads as reads
-use Rattle.token.proofs.literal.word_token.Lts as lts
-use Rattle.word.proofs.word.form.Reads as form-reads
-use Rattle.word.proofs.word.word.Reads as word-reads
 
 word-requires : tie.Need-word-requires
 word-requires c κs = search needs

@@ -3,10 +3,6 @@ use Rattle.token.proofs.Dispatch.{comes}
 use borrow.Author.Needs.{needs}
 use Rattle.token.proofs.next.next.Statement.{statement}
 use Rattle.token.proofs.next.next.Tie as tie
-use Rattle.token.proofs.next.next.Reads as reads
-use Rattle.token.proofs.next.next.Lts as lts
-use Rattle.text.proofs.space.space.Reads as space-reads
-use Rattle.token.proofs.next.starting.Reads as starting-reads
 
 space-requires : tie.Need-space-requires
 space-requires c κs = search needs

@@ -5,10 +5,6 @@ use Rattle.token.proofs.Bytes.{read-at}
 use borrow.Author.Needs.{needs}
 use Rattle.token.proofs.next.punctuation.Statement.{statement}
 use Rattle.token.proofs.next.punctuation.Tie as tie
-use Rattle.token.proofs.next.punctuation.Reads as reads
-use Rattle.token.proofs.next.punctuation.Lts as lts
-use Rattle.token.proofs.literal.number_token.Reads as number-token-reads
-use Rattle.token.proofs.symbol.symbol_at.Reads as symbol-at-reads
 
 symbol-at-requires : tie.Need-symbol-at-requires
 symbol-at-requires c κs = search needs

@@ -5,14 +5,6 @@ use Rattle.token.proofs.Bytes.{read-at, by-class}
 use borrow.Author.Needs.{needs}
 use Rattle.token.proofs.next.starting.Statement.{statement}
 use Rattle.token.proofs.next.starting.Tie as tie
-use Rattle.token.proofs.next.starting.Reads as reads
-use Rattle.token.proofs.next.starting.Lts as lts
-use Rattle.token.proofs.literal.number_token.Reads as number-token-reads
-use Rattle.token.proofs.literal.quoted_token.Reads as quoted-token-reads
-use Rattle.token.proofs.literal.word_token.Reads as word-token-reads
-use Rattle.token.proofs.next.punctuation.Reads as punctuation-reads
-use Rattle.token.proofs.symbol.colons.Reads as colons-reads
-use Rattle.token.proofs.zero.zero.Reads as zero-reads
 
 shared-slice-read-b : tie.Need-shared-slice-read-b
 shared-slice-read-b c = search needs

@@ -4,9 +4,6 @@ use Rattle.token.proofs.Symbols.{right-arrow, dash-none}
 use borrow.Author.Needs.{needs}
 use Rattle.token.proofs.symbol.arrow.Statement.{statement}
 use Rattle.token.proofs.symbol.arrow.Tie as tie
-use Rattle.token.proofs.symbol.arrow.Reads as reads
-use Rattle.token.proofs.symbol.arrow.Lts as lts
-use Rattle.text.proofs.byte.stands.Reads as stands-reads
 
 add-stands : tie.Need-add-stands
 add-stands c = search needs

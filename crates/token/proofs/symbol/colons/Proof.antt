@@ -6,10 +6,6 @@ use Rattle.token.proofs.Starts.{colon-answer, one-colon, two-colons, th
 use borrow.Author.Needs.{needs}
 use Rattle.token.proofs.symbol.colons.Statement.{statement}
 use Rattle.token.proofs.symbol.colons.Tie as tie
-use Rattle.token.proofs.symbol.colons.Reads as reads
-use Rattle.token.proofs.symbol.colons.Lts as lts
-use Rattle.text.proofs.byte.stands.Reads as stands-reads
-use Rattle.token.proofs.symbol.colon.Reads as colon-reads
 
 add-stands : tie.Need-add-stands
 add-stands c = search needs

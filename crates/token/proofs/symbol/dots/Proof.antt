@@ -4,9 +4,6 @@ use Rattle.token.proofs.Symbols.{two-dots, dot-none}
 use borrow.Author.Needs.{needs}
 use Rattle.token.proofs.symbol.dots.Statement.{statement}
 use Rattle.token.proofs.symbol.dots.Tie as tie
-use Rattle.token.proofs.symbol.dots.Reads as reads
-use Rattle.token.proofs.symbol.dots.Lts as lts
-use Rattle.text.proofs.byte.stands.Reads as stands-reads
 
 add-stands : tie.Need-add-stands
 add-stands c = search needs

@@ -8,10 +8,6 @@ use Rattle.token.proofs.Symbols.{left-arrow, less-none}
 use borrow.Author.Needs.{needs}
 use Rattle.token.proofs.symbol.less.Statement.{statement}
 use Rattle.token.proofs.symbol.less.Tie as tie
-use Rattle.token.proofs.symbol.less.Reads as reads
-use Rattle.token.proofs.symbol.less.Lts as lts
-use Rattle.text.proofs.byte.stands.Reads as stands-reads
-use Rattle.token.proofs.symbol.star.Reads as star-reads
 
 add-stands : tie.Need-add-stands
 add-stands c = search needs

@@ -5,9 +5,6 @@ use Rattle.token.proofs.Symbols.{open-star, less-star, lessEqual-star}
 use borrow.Author.Needs.{needs}
 use Rattle.token.proofs.symbol.star.Statement.{statement}
 use Rattle.token.proofs.symbol.star.Tie as tie
-use Rattle.token.proofs.symbol.star.Reads as reads
-use Rattle.token.proofs.symbol.star.Lts as lts
-use Rattle.text.proofs.byte.stands.Reads as stands-reads
 
 add-stands : tie.Need-add-stands
 add-stands c = search needs

@@ -6,12 +6,6 @@ use Rattle.token.proofs.Symbols.{round-open, round-close, curly-open, c
 use borrow.Author.Needs.{needs}
 use Rattle.token.proofs.symbol.symbol_at.Statement.{statement}
 use Rattle.token.proofs.symbol.symbol_at.Tie as tie
-use Rattle.token.proofs.symbol.symbol_at.Reads as reads
-use Rattle.token.proofs.symbol.symbol_at.Lts as lts
-use Rattle.token.proofs.symbol.arrow.Reads as arrow-reads
-use Rattle.token.proofs.symbol.dots.Reads as dots-reads
-use Rattle.token.proofs.symbol.less.Reads as less-reads
-use Rattle.token.proofs.symbol.star.Reads as star-reads
 
 add-end : tie.Need-add-end
 add-end c = search needs

@@ -5,12 +5,6 @@ use mathlib.Core.Path.{refl}
 use borrow.Author.Needs.{needs}
 use Rattle.token.proofs.zero.marked.Statement.{statement}
 use Rattle.token.proofs.zero.marked.Tie as tie
-use Rattle.token.proofs.zero.marked.Reads as reads
-use Rattle.token.proofs.zero.marked.Lts as lts
-use Rattle.number.proofs.blob.bits.Reads as bits-reads
-use Rattle.number.proofs.blob.blob.Reads as blob-reads
-use Rattle.string.proofs.code_point.code_point.Reads as code-point-reads
-use Rattle.token.proofs.literal.number_token.Reads as number-token-reads
 
 bits-requires : tie.Need-bits-requires
 bits-requires c κs = search needs

@@ -4,10 +4,6 @@ use mathlib.Core.Path.{refl}
 use borrow.Author.Needs.{needs}
 use Rattle.token.proofs.zero.zero.Statement.{statement}
 use Rattle.token.proofs.zero.zero.Tie as tie
-use Rattle.token.proofs.zero.zero.Reads as reads
-use Rattle.token.proofs.zero.zero.Lts as lts
-use Rattle.token.proofs.zero.fixed_at.Reads as fixed-at-reads
-use Rattle.token.proofs.zero.marked.Reads as marked-reads
 
 fixed-at-requires : tie.Need-fixed-at-requires
 fixed-at-requires c κs = search needs

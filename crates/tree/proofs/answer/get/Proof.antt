@@ -5,9 +5,6 @@ use Rattle.tree.proofs.Looking.{comes-so}
 use borrow.Author.Needs.{needs}
 use Rattle.tree.proofs.answer.get.Statement.{statement}
 use Rattle.tree.proofs.answer.get.Tie as tie
-use Rattle.tree.proofs.answer.get.Reads as reads
-use Rattle.tree.proofs.answer.get.Lts as lts
-use Rattle.token.proofs.next.next.Reads as next-reads
 
 next-requires : tie.Need-next-requires
 next-requires c κs = search needs

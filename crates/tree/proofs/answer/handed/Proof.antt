@@ -4,8 +4,6 @@ use mathlib.Core.Path.{sym, ap}
 use Rattle.tree.specs.Looks.{handedOn}
 use Rattle.tree.proofs.answer.handed.Statement.{statement}
 use Rattle.tree.proofs.answer.handed.Tie as tie
-use Rattle.tree.proofs.answer.handed.Reads as reads
-use Rattle.tree.proofs.answer.handed.Lts as lts
 
 enum-known-got : tie.Need-enum-known-got
 enum-known-got c = search needs

@@ -4,10 +4,6 @@ use Rattle.tree.proofs.Beginning.{literal-begins, later-begins, wrong-b
 use borrow.Author.Needs.{needs}
 use Rattle.tree.proofs.begin.begins.Statement.{statement}
 use Rattle.tree.proofs.begin.begins.Tie as tie
-use Rattle.tree.proofs.begin.begins.Reads as reads
-use Rattle.tree.proofs.begin.begins.Lts as lts
-use Rattle.tree.proofs.begin.sign_begins.Reads as sign-begins-reads
-use Rattle.tree.proofs.begin.wrong.Reads as wrong-reads
 
 enum-told : tie.Need-enum-told
 enum-told c = search needs

@@ -4,8 +4,6 @@ use mathlib.Core.Logic.{inl, inr}
 use borrow.Author.Needs.{needs}
 use Rattle.tree.proofs.begin.deeper.Statement.{statement}
 use Rattle.tree.proofs.begin.deeper.Tie as tie
-use Rattle.tree.proofs.begin.deeper.Reads as reads
-use Rattle.tree.proofs.begin.deeper.Lts as lts
 
 returns : tie.Need-returns
 returns c = inl (search needs, refl)

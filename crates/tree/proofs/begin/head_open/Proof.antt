@@ -4,10 +4,6 @@ use Rattle.tree.proofs.Looking.{collects, lacks}
 use borrow.Author.Needs.{needs}
 use Rattle.tree.proofs.begin.head_open.Statement.{statement}
 use Rattle.tree.proofs.begin.head_open.Tie as tie
-use Rattle.tree.proofs.begin.head_open.Reads as reads
-use Rattle.tree.proofs.begin.head_open.Lts as lts
-use Rattle.tree.proofs.begin.deeper.Reads as deeper-reads
-use Rattle.tree.proofs.level.collection_of.Reads as collection-of-reads
 
 collection-of-requires : tie.Need-collection-of-requires
 collection-of-requires c κs = search needs

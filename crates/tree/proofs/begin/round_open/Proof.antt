@@ -4,11 +4,6 @@ use Rattle.tree.proofs.Looking.{headed-at, headed-other}
 use borrow.Author.Needs.{needs}
 use Rattle.tree.proofs.begin.round_open.Statement.{statement}
 use Rattle.tree.proofs.begin.round_open.Tie as tie
-use Rattle.tree.proofs.begin.round_open.Reads as reads
-use Rattle.tree.proofs.begin.round_open.Lts as lts
-use Rattle.tree.proofs.begin.deeper.Reads as deeper-reads
-use Rattle.tree.proofs.begin.head_open.Reads as head-open-reads
-use Rattle.tree.proofs.head.head_at.Reads as head-at-reads
 
 head-at-requires : tie.Need-head-at-requires
 head-at-requires c κs = search needs

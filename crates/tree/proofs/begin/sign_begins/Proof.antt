@@ -5,12 +5,6 @@ use Rattle.tree.proofs.Beginning.{wrong-begins}
 use borrow.Author.Needs.{needs}
 use Rattle.tree.proofs.begin.sign_begins.Statement.{statement}
 use Rattle.tree.proofs.begin.sign_begins.Tie as tie
-use Rattle.tree.proofs.begin.sign_begins.Reads as reads
-use Rattle.tree.proofs.begin.sign_begins.Lts as lts
-use Rattle.tree.proofs.begin.curly_open.Reads as curly-open-reads
-use Rattle.tree.proofs.begin.round_open.Reads as round-open-reads
-use Rattle.tree.proofs.begin.square_open.Reads as square-open-reads
-use Rattle.tree.proofs.begin.wrong.Reads as wrong-reads
 
 enum-told : tie.Need-enum-told
 enum-told c = search needs

@@ -3,9 +3,6 @@ use Rattle.tree.proofs.Beginning.{square-begins, square-newer}
 use borrow.Author.Needs.{needs}
 use Rattle.tree.proofs.begin.square_open.Statement.{statement}
 use Rattle.tree.proofs.begin.square_open.Tie as tie
-use Rattle.tree.proofs.begin.square_open.Reads as reads
-use Rattle.tree.proofs.begin.square_open.Lts as lts
-use Rattle.tree.proofs.begin.deeper.Reads as deeper-reads
 
 deeper-requires : tie.Need-deeper-requires
 deeper-requires c κs = search needs

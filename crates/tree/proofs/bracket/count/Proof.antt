@@ -4,10 +4,6 @@ use mathlib.Core.Path.{refl}
 use Rattle.tree.proofs.Turns.{count-stored}
 use Rattle.tree.proofs.bracket.count.Statement.{statement}
 use Rattle.tree.proofs.bracket.count.Tie as tie
-use Rattle.tree.proofs.bracket.count.Reads as reads
-use Rattle.tree.proofs.bracket.count.Lts as lts
-use Rattle.table.proofs.put.Reads as put-reads
-use Rattle.tree.proofs.leaf.told.Reads as told-reads
 
 told-requires : tie.Need-told-requires
 told-requires c κs = search needs

@@ -5,8 +5,6 @@ use mathlib.Core.Logic.{inl, inr}
 use native.Mathlib.Omega.{arith}
 use Rattle.tree.proofs.bracket.deeper.Statement.{statement}
 use Rattle.tree.proofs.bracket.deeper.Tie as tie
-use Rattle.tree.proofs.bracket.deeper.Reads as reads
-use Rattle.tree.proofs.bracket.deeper.Lts as lts
 
 returns : tie.Need-returns
 returns c = inl (c .if1 .taken, refl)

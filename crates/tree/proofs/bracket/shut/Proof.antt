@@ -7,10 +7,6 @@ use Rattle.tree.specs.declared.bracket.Turn.the-variants as Turn
 use Rattle.tree.specs.Turning.{behind}
 use Rattle.tree.proofs.bracket.shut.Statement.{statement}
 use Rattle.tree.proofs.bracket.shut.Tie as tie
-use Rattle.tree.proofs.bracket.shut.Reads as reads
-use Rattle.tree.proofs.bracket.shut.Lts as lts
-use Rattle.table.proofs.assign.Reads as assign-reads
-use Rattle.tree.proofs.bracket.less.Reads as less-reads
 
 assign-requires : tie.Need-assign-requires
 assign-requires c κs = search needs

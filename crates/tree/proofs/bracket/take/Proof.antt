@@ -1,18 +1,8 @@
 -- `tree::bracket::take` meets its contract: one law for each move. Assumes nothing.
 use borrow.Author.Needs.{needs}
-use mathlib.Core.Path.{refl}
 use Rattle.tree.proofs.Turns.{take-value, take-led, take-tuple, take-count, take-deeper, take-shut, take-close, take-group, take-wrong}
 use Rattle.tree.proofs.bracket.take.Statement.{statement}
 use Rattle.tree.proofs.bracket.take.Tie as tie
-use Rattle.tree.proofs.bracket.take.Reads as reads
-use Rattle.tree.proofs.bracket.take.Lts as lts
-use Rattle.tree.proofs.bracket.close.Reads as close-reads
-use Rattle.tree.proofs.bracket.count.Reads as count-reads
-use Rattle.tree.proofs.bracket.deeper.Reads as deeper-reads
-use Rattle.tree.proofs.bracket.lead_on.Reads as lead-on-reads
-use Rattle.tree.proofs.bracket.shut.Reads as shut-reads
-use Rattle.tree.proofs.bracket.tuple.Reads as tuple-reads
-use Rattle.tree.proofs.bracket.wrong.Reads as wrong-reads
 
 enum-told : tie.Need-enum-told
 enum-told c = search needs

@@ -4,11 +4,6 @@ use Rattle.tree.proofs.Looking.{got-token, got-none, headless, no-word,
 use borrow.Author.Needs.{needs}
 use Rattle.tree.proofs.head.head_at.Statement.{statement}
 use Rattle.tree.proofs.head.head_at.Tie as tie
-use Rattle.tree.proofs.head.head_at.Reads as reads
-use Rattle.tree.proofs.head.head_at.Lts as lts
-use Rattle.tree.proofs.answer.get.Reads as get-reads
-use Rattle.tree.proofs.head.head_word.Reads as head-word-reads
-use Rattle.tree.proofs.head.is_colon.Reads as is-colon-reads
 
 get-requires : tie.Need-get-requires
 get-requires c κs = search needs

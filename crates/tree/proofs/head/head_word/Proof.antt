@@ -5,8 +5,6 @@ use Rattle.tree.proofs.Looking.{not-bare}
 use borrow.Author.Needs.{needs}
 use Rattle.tree.proofs.head.head_word.Statement.{statement}
 use Rattle.tree.proofs.head.head_word.Tie as tie
-use Rattle.tree.proofs.head.head_word.Reads as reads
-use Rattle.tree.proofs.head.head_word.Lts as lts
 
 enum-told : tie.Need-enum-told
 enum-told c = search needs

@@ -4,8 +4,6 @@ use Rattle.tree.proofs.Looking.{not-colon, is-colon}
 use borrow.Author.Needs.{needs}
 use Rattle.tree.proofs.head.is_colon.Statement.{statement}
 use Rattle.tree.proofs.head.is_colon.Tie as tie
-use Rattle.tree.proofs.head.is_colon.Reads as reads
-use Rattle.tree.proofs.head.is_colon.Lts as lts
 
 enum-told : tie.Need-enum-told
 enum-told c = search needs

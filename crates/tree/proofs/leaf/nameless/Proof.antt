@@ -4,8 +4,6 @@ use mathlib.Core.Path.{sym, ap}
 use Rattle.tree.specs.Tellings.{namelessBy}
 use Rattle.tree.proofs.leaf.nameless.Statement.{statement}
 use Rattle.tree.proofs.leaf.nameless.Tie as tie
-use Rattle.tree.proofs.leaf.nameless.Reads as reads
-use Rattle.tree.proofs.leaf.nameless.Lts as lts
 
 enum-known-named : tie.Need-enum-known-named
 enum-known-named c = search needs

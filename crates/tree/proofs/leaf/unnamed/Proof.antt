@@ -4,8 +4,6 @@ use mathlib.Core.Path.{sym, ap}
 use Rattle.tree.specs.Tellings.{unnamedBy}
 use Rattle.tree.proofs.leaf.unnamed.Statement.{statement}
 use Rattle.tree.proofs.leaf.unnamed.Tie as tie
-use Rattle.tree.proofs.leaf.unnamed.Reads as reads
-use Rattle.tree.proofs.leaf.unnamed.Lts as lts
 
 enum-known-got : tie.Need-enum-known-got
 enum-known-got c = search needs

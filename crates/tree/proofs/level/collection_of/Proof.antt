@@ -4,8 +4,6 @@ use Rattle.grammar.specs.Tree as Tree
 use borrow.Author.Needs.{needs}
 use Rattle.tree.proofs.level.collection_of.Statement.{statement}
 use Rattle.tree.proofs.level.collection_of.Tie as tie
-use Rattle.tree.proofs.level.collection_of.Reads as reads
-use Rattle.tree.proofs.level.collection_of.Lts as lts
 
 enum-told : tie.Need-enum-told
 enum-told c = search needs

@@ -2,8 +2,6 @@
 use Rattle.tree.proofs.Looking.{first-level, second-level, no-level}
 use Rattle.tree.proofs.level.level_of.Statement.{statement}
 use Rattle.tree.proofs.level.level_of.Tie as tie
-use Rattle.tree.proofs.level.level_of.Reads as reads
-use Rattle.tree.proofs.level.level_of.Lts as lts
 
 returns : tie.Need-returns
 returns c = first-level (c .if1 .taken)

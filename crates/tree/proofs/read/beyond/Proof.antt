@@ -4,8 +4,6 @@ use mathlib.Core.Path.{sym, ap}
 use Rattle.tree.specs.Whole.{beyondBy}
 use Rattle.tree.proofs.read.beyond.Statement.{statement}
 use Rattle.tree.proofs.read.beyond.Tie as tie
-use Rattle.tree.proofs.read.beyond.Reads as reads
-use Rattle.tree.proofs.read.beyond.Lts as lts
 
 enum-known-then : tie.Need-enum-known-then
 enum-known-then c = search needs

@@ -3,10 +3,6 @@ use borrow.Author.Needs.{needs}
 use Rattle.tree.proofs.Wholes.{behind-beyond, behind-end}
 use Rattle.tree.proofs.read.ended.Statement.{statement}
 use Rattle.tree.proofs.read.ended.Tie as tie
-use Rattle.tree.proofs.read.ended.Reads as reads
-use Rattle.tree.proofs.read.ended.Lts as lts
-use Rattle.token.proofs.next.next.Reads as next-reads
-use Rattle.tree.proofs.read.beyond.Reads as beyond-reads
 
 next-requires : tie.Need-next-requires
 next-requires c κs = search needs

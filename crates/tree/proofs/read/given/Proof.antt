@@ -4,9 +4,6 @@ use mathlib.Core.Path.{sym, ap, _∙_}
 use Rattle.tree.specs.Whole.{refusal}
 use Rattle.tree.proofs.read.given.Statement.{statement}
 use Rattle.tree.proofs.read.given.Tie as tie
-use Rattle.tree.proofs.read.given.Reads as reads
-use Rattle.tree.proofs.read.given.Lts as lts
-use Rattle.tree.proofs.read.refused.Reads as refused-reads
 
 enum-known-read : tie.Need-enum-known-read
 enum-known-read c = search needs

@@ -4,12 +4,6 @@ use Rattle.tree.proofs.Wholes.{read-no-level, read-long, read-bad, read
 use native.Mathlib.Omega.{arith}
 use Rattle.tree.proofs.read.read.Statement.{statement}
 use Rattle.tree.proofs.read.read.Tie as tie
-use Rattle.tree.proofs.read.read.Reads as reads
-use Rattle.tree.proofs.read.read.Lts as lts
-use Rattle.text.proofs.utf8.utf8.Reads as utf8-reads
-use Rattle.tree.proofs.level.level_of.Reads as level-of-reads
-use Rattle.tree.proofs.read.refused.Reads as refused-reads
-use Rattle.tree.proofs.read.tokens.Reads as tokens-reads
 
 level-of-requires : tie.Need-level-of-requires
 level-of-requires c κs = search needs

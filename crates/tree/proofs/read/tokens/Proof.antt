@@ -3,11 +3,6 @@ use borrow.Author.Needs.{needs}
 use Rattle.tree.proofs.Wholes.{told-refused, told-full, told-written}
 use Rattle.tree.proofs.read.tokens.Statement.{statement}
 use Rattle.tree.proofs.read.tokens.Tie as tie
-use Rattle.tree.proofs.read.tokens.Reads as reads
-use Rattle.tree.proofs.read.tokens.Lts as lts
-use Rattle.tree.proofs.read.given.Reads as given-reads
-use Rattle.tree.proofs.read.room.Reads as room-reads
-use Rattle.tree.proofs.read.whole.Reads as whole-reads
 
 slice-aggregate-whole : tie.Need-slice-aggregate-whole
 slice-aggregate-whole c = search needs

@@ -4,13 +4,6 @@ use Rattle.tree.proofs.Wholes.{whole-fit, whole-missing, whole-refused,
 use Rattle.tree.proofs.Looking.{got-token}
 use Rattle.tree.proofs.read.whole.Statement.{statement}
 use Rattle.tree.proofs.read.whole.Tie as tie
-use Rattle.tree.proofs.read.whole.Reads as reads
-use Rattle.tree.proofs.read.whole.Lts as lts
-use Rattle.text.proofs.front.front.Reads as front-reads
-use Rattle.tree.proofs.answer.get.Reads as get-reads
-use Rattle.tree.proofs.answer.handed.Reads as handed-reads
-use Rattle.tree.proofs.read.ended.Reads as ended-reads
-use Rattle.tree.proofs.value.value.Reads as value-reads
 
 front-requires : tie.Need-front-requires
 front-requires c κs = search needs

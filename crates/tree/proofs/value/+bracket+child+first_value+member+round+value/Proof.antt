@@ -2,10 +2,9 @@
 -- A cycle of calls has one proof. The laws are in Readings.antt; here each need is given the facts that it stands on. Assumes nothing.
 use Prim.Native.Nat.{ℕ, _-_, _<_}
 use lib.ListN.{length}
-use mathlib.Core.Path.{refl, sym, _∙_}
+use mathlib.Core.Path.{sym, _∙_}
 use native.Mathlib.Omega.{arith}
 use borrow.Author.Needs.{needs}
-use Rattle.rules.proofs.Bools.{not-true}
 use Rattle.tree.proofs.Bounds.{token-bounds}
 use Rattle.tree.proofs.Looking.{got-token}
 use Rattle.tree.proofs.Readings.{leftAt, rank-falls, byte-falls, inner-fit, fit-slim, enters-at, start-inner, first-inner, begin-from, begin-got, turn-narrow, turn-outer, child-fit, signs-told, value-sized, value-leaf, value-names, value-round, value-bracket, value-refused, round-missing, round-bracket, first-refused, first-open, first-group, first-bracket, child-refused, child-on, member-missing, member-taken, member-child, Going, going-starts, going-less, going-on, going-ends}
