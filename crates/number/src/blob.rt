@@ -40,7 +40,7 @@ fn marked(text: &[u8], at: usize, second: u8, third: u8) -> bool
 
 // The digits behind a mark. Dividing space that leads to none is not taken.
 fn tail_at(text: &[u8], at: usize, set: Set, width: usize) -> Tail
-    requires { ⌜ (at ≤ length (now text)) × (1 ≤ width) × (width ≤ 8) × Clear (members set) ⌝ }
+    requires { ⌜ (at ≤ length (now text)) × (1 ≤ width) × Clear (members set) ⌝ }
     ensures { λ r. ⌜ TailOf (now (text .entry)) set width at (r .end) (r .sum) ⌝ }
 {
     let from = space(text, at);

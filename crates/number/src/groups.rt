@@ -63,7 +63,7 @@ fn joint(text: &[u8], at: usize) -> usize
 
 // The longest row of units from a place. The table of classes is made once, for all of them.
 pub(crate) fn longest_row(text: &[u8], at: usize, set: Set, width: usize) -> Groups
-    requires { ⌜ (at ≤ length (now text)) × (1 ≤ width) × (width ≤ 8) × Clear (members set) ⌝ }
+    requires { ⌜ (at ≤ length (now text)) × (1 ≤ width) × Clear (members set) ⌝ }
     ensures { λ r. ⌜ Grouped (now (text .entry)) set width at r ⌝ }
 {
     let classes = classes();

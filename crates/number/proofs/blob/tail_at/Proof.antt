@@ -10,7 +10,7 @@ space-requires c κs = search needs
 
 longest-row-requires : tie.Need-longest-row-requires
 longest-row-requires c κs =
-    (skip-within _ (c .space .ensures) (search needs), search needs, search needs, search needs)
+    (skip-within _ (c .space .ensures) (search needs), search needs, search needs)
 
 enum-known-end : tie.Need-enum-known-end
 enum-known-end c = search needs

@@ -10,7 +10,7 @@ digit-set-requires : tie.Need-digit-set-requires
 digit-set-requires c κs = search needs
 
 longest-row-requires : tie.Need-longest-row-requires
-longest-row-requires c κs = (search needs, omega arith, omega arith, clear-set (c .before .before .args .base) (c .digit-set .result) (c .digit-set .ensures))
+longest-row-requires c κs = (search needs, omega arith, clear-set (c .before .before .args .base) (c .digit-set .result) (c .digit-set .ensures))
 
 enum-known-end : tie.Need-enum-known-end
 enum-known-end c = search needs
