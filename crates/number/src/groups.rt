@@ -1,5 +1,6 @@
 // Digit groups: units of so many bytes of a set, side by side or joined by one `_` or one stretch of dividing space.
-// A function with a `requires` is this crate's own: its place is within the text by its caller's search, so that sums of places fit.
+// A function with a `requires` is this crate's own: its place is within the text by its caller's search, so that sums of places fit;
+// the table that it is lent is the classes', made by its caller.
 use crate::tally::tally_run;
 use lexicon::Set;
 use text::byte::stands;

@@ -1,6 +1,7 @@
 // What a literal's digits add up to, as far as the tokens need it: of a number its value, up to the limit; of base-64 characters,
 // how `=` stands among them. `tally_run` is this crate's own, and its caller has found the run.
 use lexicon::Set;
+use text::digit::LIMIT;
 use text::digit::limited;
 use text::digit::radix;
 ghost use mathlib.Core.Path.{_≡_};
@@ -11,9 +12,6 @@ ghost use Rattle.lexicon.specs.Bytes.{size};
 ghost use Rattle.lexicon.specs.Values.{read};
 ghost use Rattle.lexicon.specs.Limited.{limit};
 ghost use Rattle.number.specs.Tally.{paddedOf, tallyOf, tallies};
-
-// Where `limited` stops counting.
-const LIMIT: u32 = 0x11_0000;
 
 // 0 before the first `=`, 1 behind it, 2 once another character stands behind one.
 fn padded(sum: u32, b: u8) -> u32

@@ -2,8 +2,7 @@
 // 2 octal digit, 4 decimal digit, 8 one of 0-9A-F, 16 base-64 character, 32 may begin a word, 64 may continue one, 128 dividing.
 use lexicon::Set;
 ghost use mathlib.Core.Path.{_≡_};
-ghost use Rattle.rules.specs.Class.{has};
-ghost use Rattle.lexicon.specs.Bytes.{classOf, members};
+ghost use Rattle.lexicon.specs.Bytes.{classOf};
 ghost use Rattle.text.specs.Classes.{IsTable, inSum};
 
 const CLASSES: [u8; 256] = [
@@ -272,6 +271,7 @@ pub fn classes() -> [u8; 256]
     CLASSES
 }
 
+// The class of one byte.
 pub fn class(b: u8) -> u8
     ensures { λ r. ⌜ r ≡ classOf b ⌝ }
 {
@@ -294,11 +294,4 @@ pub fn holds(class: u8, set: Set) -> bool
         Set::WordRest => class / 64 % 2 == 1,
         Set::Dividing => class / 128 % 2 == 1,
     }
-}
-
-// Whether the byte is in the set: the set's bit of the byte's class.
-pub fn in_set(b: u8, set: Set) -> bool
-    ensures { λ r. ⌜ r ≡ has (members set) b ⌝ }
-{
-    holds(class(b), set)
 }

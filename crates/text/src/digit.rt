@@ -9,7 +9,7 @@ ghost use Rattle.lexicon.specs.Limited.{limited as limitedOf};
 ghost use Rattle.text.specs.Letters.{Letters};
 
 // From it on a number is no code point, no denominator 0 and no radix below 2.
-const LIMIT: u32 = 0x11_0000;
+pub const LIMIT: u32 = 0x11_0000;
 
 // The base of a letter, if it has one.
 pub enum Lettered {
