@@ -13,4 +13,4 @@ pub record OldAndNew (text old new : List ℕ) (r : Answers) (oldLeft newLeft : 
   pub first-level : Reading.Answers base text old 1 (r .old) oldLeft
   pub second-level : Reading.Answers base text new 2 (r .new) newLeft
   -- with equal tables
-  pub agree : old ≡ new → Agree base level1 text (r .old) oldLeft (r .new) newLeft
+  pub agree : old ≡ new → Agree (base .limits) level1 text (r .old) oldLeft (r .new) newLeft

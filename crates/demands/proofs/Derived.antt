@@ -4,6 +4,7 @@ use mathlib.Core.Path.{_≡_, refl, sym, ap, subst, _∙_}
 use mathlib.Core.Bool.{true}
 use mathlib.Core.Logic.{_⊎_, inl, inr, _↔_}
 use mathlib.Core.List.{List, [], _∷_, _++_, append-assoc, append-nil}
+use mathlib.Core.Option.{Option, some}
 use Prim.Native.Nat.{ℕ, _≤_, _<_}
 use native.Mathlib.Omega.{arith}
 use lib.ListN.{length, length-append}
@@ -20,14 +21,16 @@ use Rattle.grammar.specs.Place.{Begins, Wrong}
 use Rattle.grammar.specs.Nodes.{table}
 use Rattle.grammar.proofs.NewerForms.{newerBegins}
 use Rattle.reading.specs.declared.Answer.{Answer}
-use Rattle.reading.specs.Sizes.{Sizes, room}
+use Rattle.reading.specs.declared.Limits.{Limits}
+use Rattle.reading.specs.declared.Rules.{Rules}
+use Rattle.reading.specs.Sizes.{room}
 use Rattle.reading.specs.Tokens.{seen, Follow, nothing, next, opened}
 use Rattle.reading.specs.Faults.{NewerAt, TooDeep, Fault, noToken, wrong, wrongEnd, newer, badValue, tooDeep, Passed, begun, passed, AllPassed}
-use Rattle.reading.specs.Answers.{LevelOf, Accepted, Answers, noLevel, tooLong, notUtf8, faulty, noRoom, accepted}
+use Rattle.reading.specs.Answers.{LevelOf, Accepted, Reading, Answers, noLevel, tooLong, notUtf8, faulty, noRoom, accepted}
 use Rattle.reading.proofs.Rows.{Order, equal, less, more, order, pick, no-end, append, one-row}
 use Rattle.reading.proofs.First.{follows, start, went}
 use Rattle.reading.proofs.Decide.{faultless}
-use Rattle.reading.proofs.Unique.{one-level, one-tree, one-reading}
+use Rattle.reading.proofs.Unique.{one-level, one-tree, one-reading, one-answer}
 use Rattle.demands.specs.Derived.{Derived, Acceptable, Shows, Decides}
 
 -- ---- rows
@@ -42,15 +45,15 @@ module _ (bytes : List ℕ) where
       let o = within f (subst (λ (x : Token.Token). Follow bytes (x .end) ts q) same g) e in
       (o .0, λ i. seen (sym same i) ∷ o .1 i)
 
-module _ (sizes : Sizes) (l : Level) (bytes : List ℕ) (v : Value) where
+module _ (limits : Limits) (l : Level) (bytes : List ℕ) (v : Value) where
   -- ---- a derived text is accepted
 
-  module _ (d : Derived sizes l bytes v) where
+  module _ (d : Derived limits l bytes v) where
     -- no token of a derived text is faulty
     unfaulted : {p q n : ℕ} {ts : List Tok} {t : Token.Token} (xs : List Tok) → Follow bytes (d .start) xs p → Comes bytes p (Next.Token t) →
-        Follow bytes (t .end) ts q → Comes bytes q (Next.End n) → xs ++ (seen t ∷ ts) ≡ yieldValue v [] → (m x : ℕ) → Fault sizes l bytes xs p m x → ⊥
+        Follow bytes (t .end) ts q → Comes bytes q (Next.End n) → xs ++ (seen t ∷ ts) ≡ yieldValue v [] → (m x : ℕ) → Fault limits l bytes xs p m x → ⊥
     unfaulted {ts = ts} {t = t} xs f c g z e =
-        faultless bytes sizes l c not-newer not-wrong (λ b. d .sound f c (c .3 .true-holds b)) not-deep
+        faultless bytes limits l c not-newer not-wrong (λ b. d .sound f c (c .3 .true-holds b)) not-deep
       where
         begins : (us rest : List Tok) → us ++ rest ≡ ts → Begins l (xs ++ (seen t ∷ us))
         begins us rest h =
@@ -64,7 +67,7 @@ module _ (sizes : Sizes) (l : Level) (bytes : List ℕ) (v : Value) where
                   };
             }
 
-        not-newer : NewerAt sizes l bytes xs t → ⊥
+        not-newer : NewerAt limits l bytes xs t → ⊥
         not-newer n =
             let o = within bytes (n .follow) g z in
             newerBegins l xs (seen t) (n .ahead) (n .newer) (begins (n .ahead) (o .0) (o .1))
@@ -72,16 +75,16 @@ module _ (sizes : Sizes) (l : Level) (bytes : List ℕ) (v : Value) where
         not-wrong : Wrong l xs (seen t) → ⊥
         not-wrong w = w .none (begins [] ts refl)
 
-        not-deep : TooDeep sizes l bytes xs t → ⊥
+        not-deep : TooDeep limits l bytes xs t → ⊥
         not-deep h = omega (arith, h .beyond, d .shallow (xs ++ (seen t ∷ [])) ts (append-assoc xs (seen t ∷ []) ts ∙ e))
 
-    onward : {p q n : ℕ} {ts : List Tok} (xs : List Tok) → Follow bytes (d .start) xs p → Passed sizes l bytes xs p → Follow bytes p ts q →
-        Comes bytes q (Next.End n) → xs ++ ts ≡ yieldValue v [] → Passed sizes l bytes (yieldValue v []) q
-    onward {p} xs f a nothing z e = subst (λ (r : List Tok). Passed sizes l bytes r p) (sym (append-nil xs) ∙ e) a
+    onward : {p q n : ℕ} {ts : List Tok} (xs : List Tok) → Follow bytes (d .start) xs p → Passed limits l bytes xs p → Follow bytes p ts q →
+        Comes bytes q (Next.End n) → xs ++ ts ≡ yieldValue v [] → Passed limits l bytes (yieldValue v []) q
+    onward {p} xs f a nothing z e = subst (λ (r : List Tok). Passed limits l bytes r p) (sym (append-nil xs) ∙ e) a
     onward xs f a (next {t = t} {ts = ts} c g) z e =
         onward (xs ++ (seen t ∷ [])) (append bytes f (next c nothing)) (passed a c (unfaulted xs f c g z e)) g z (append-assoc xs (seen t ∷ []) ts ∙ e)
 
-    derived-passed : AllPassed sizes l bytes (yieldValue v [])
+    derived-passed : AllPassed limits l bytes (yieldValue v [])
     derived-passed =
         record {
           from = d .end;
@@ -92,17 +95,17 @@ module _ (sizes : Sizes) (l : Level) (bytes : List ℕ) (v : Value) where
 
   -- ---- an accepted text is derived
 
-  module _ (a : AllPassed sizes l bytes (yieldValue v [])) where
+  module _ (a : AllPassed limits l bytes (yieldValue v [])) where
     at : (s : ℕ) × Front bytes s
-    at = start bytes sizes l (a .good)
+    at = start bytes limits l (a .good)
 
     whole : Follow bytes (at .0) (yieldValue v []) (a .from)
-    whole = follows bytes sizes l (at .1) (a .good)
+    whole = follows bytes limits l (at .1) (a .good)
 
     -- the tests that a token without a fault has passed
     record Clean (ts : List Tok) (t : Token.Token) : Type 0 where
       sound : t .bad ≡ true → ⊥
-      shallow : TooDeep sizes l bytes ts t → ⊥
+      shallow : TooDeep limits l bytes ts t → ⊥
 
     clean : {p : ℕ} {ts : List Tok} {t : Token.Token} → Follow bytes (at .0) ts p → Comes bytes p (Next.Token t) → Clean ts t
     clean {p} {ts} {t} f c = by (within bytes f whole (a .at-end))
@@ -117,20 +120,20 @@ module _ (sizes : Sizes) (l : Level) (bytes : List ℕ) (v : Value) where
               shallow = λ h. none 11 (t .first) (tooDeep c not-newer not-wrong (λ b. none 5 (t .first) (badValue c not-newer not-wrong b)) h);
             }
           where
-            none : (n q : ℕ) → Fault sizes l bytes ts p n q → ⊥
-            none = went bytes sizes l (at .1) f (a .good) (omega (arith, ap (λ (r : List Tok). length r) e, length-append ts (r ∷ rest))) .sound
+            none : (n q : ℕ) → Fault limits l bytes ts p n q → ⊥
+            none = went bytes limits l (at .1) f (a .good) (omega (arith, ap (λ (r : List Tok). length r) e, length-append ts (r ∷ rest))) .sound
 
-            not-newer : NewerAt sizes l bytes ts t → ⊥
+            not-newer : NewerAt limits l bytes ts t → ⊥
             not-newer n = none 7 (t .first) (newer c n)
 
             not-wrong : Wrong l ts (seen t) → ⊥
             not-wrong w = none 6 (t .first) (wrong c not-newer w)
 
     -- one token more
-    deeper : (xs : List Tok) (t : Token.Token) → opened xs ≤ sizes .depth → (TooDeep sizes l bytes xs t → ⊥) → opened (xs ++ (seen t ∷ [])) ≤ sizes .depth
-    deeper xs t h k = by (order (opened xs) (opened (xs ++ (seen t ∷ [])))) (order (sizes .depth) (opened (xs ++ (seen t ∷ []))))
+    deeper : (xs : List Tok) (t : Token.Token) → opened xs ≤ limits .depth → (TooDeep limits l bytes xs t → ⊥) → opened (xs ++ (seen t ∷ [])) ≤ limits .depth
+    deeper xs t h k = by (order (opened xs) (opened (xs ++ (seen t ∷ [])))) (order (limits .depth) (opened (xs ++ (seen t ∷ []))))
       where
-        by : Order (opened xs) (opened (xs ++ (seen t ∷ []))) → Order (sizes .depth) (opened (xs ++ (seen t ∷ []))) → opened (xs ++ (seen t ∷ [])) ≤ sizes .depth
+        by : Order (opened xs) (opened (xs ++ (seen t ∷ []))) → Order (limits .depth) (opened (xs ++ (seen t ∷ []))) → opened (xs ++ (seen t ∷ [])) ≤ limits .depth
         by (equal e) o = omega (arith, e, h)
         by (less g) (equal e) = omega (arith, e)
         by (less g) (less b) = absurd (k (record { deeper = g; beyond = b }))
@@ -138,13 +141,13 @@ module _ (sizes : Sizes) (l : Level) (bytes : List ℕ) (v : Value) where
         by (more g) o = omega (arith, g, h)
 
     deep : {p q : ℕ} (xs before behind : List Tok) → Follow bytes (at .0) xs p → Follow bytes p (before ++ behind) q →
-        opened xs ≤ sizes .depth → opened (xs ++ before) ≤ sizes .depth
-    deep xs [] behind f g h = subst (λ (r : List Tok). opened r ≤ sizes .depth) (sym (append-nil xs)) h
+        opened xs ≤ limits .depth → opened (xs ++ before) ≤ limits .depth
+    deep xs [] behind f g h = subst (λ (r : List Tok). opened r ≤ limits .depth) (sym (append-nil xs)) h
     deep xs (b ∷ before) behind f (next {t = t} c g) h =
-        subst (λ (r : List Tok). opened r ≤ sizes .depth) (append-assoc xs (seen t ∷ []) before)
+        subst (λ (r : List Tok). opened r ≤ limits .depth) (append-assoc xs (seen t ∷ []) before)
         (deep (xs ++ (seen t ∷ [])) before behind (append bytes f (next c nothing)) g (deeper xs t h (clean f c .shallow)))
 
-    passed-derived : keeps l v ≡ true → Derived sizes l bytes v
+    passed-derived : keeps l v ≡ true → Derived limits l bytes v
     passed-derived k =
         record {
           of-level = k;
@@ -157,16 +160,16 @@ module _ (sizes : Sizes) (l : Level) (bytes : List ℕ) (v : Value) where
           shallow = λ before behind e. deep [] before behind nothing (subst (λ (r : List Tok). Follow bytes (at .0) r (a .from)) (sym e) whole) (omega arith);
         }
 
-module _ (sizes : Sizes) (bytes lent : List ℕ) {l : Level} {v : Value} where
-  pub derived-accepted : Derived sizes l bytes v → Accepted sizes bytes lent l v
-  derived-accepted d = record { of-level = d .of-level; passed = derived-passed sizes l bytes v d }
+module _ (limits : Limits) (bytes : List ℕ) {l : Level} {v : Value} where
+  pub derived-accepted : Derived limits l bytes v → Accepted limits bytes l v
+  derived-accepted d = record { of-level = d .of-level; passed = derived-passed limits l bytes v d }
 
-  pub accepted-derived : Accepted sizes bytes lent l v → Derived sizes l bytes v
-  accepted-derived a = passed-derived sizes l bytes v (a .passed) (a .of-level)
+  pub accepted-derived : Accepted limits bytes l v → Derived limits l bytes v
+  accepted-derived a = passed-derived limits l bytes v (a .passed) (a .of-level)
 
 -- a text has one derivation
-pub one-derivation : (sizes : Sizes) (bytes : List ℕ) {l : Level} {v w : Value} → Derived sizes l bytes v → Derived sizes l bytes w → v ≡ w
-one-derivation sizes bytes d e = one-tree sizes bytes [] refl (derived-accepted sizes bytes [] d) (derived-accepted sizes bytes [] e)
+pub one-derivation : (limits : Limits) (bytes : List ℕ) {l : Level} {v w : Value} → Derived limits l bytes v → Derived limits l bytes w → v ≡ w
+one-derivation limits bytes d e = one-tree limits bytes refl (derived-accepted limits bytes d) (derived-accepted limits bytes e)
 
 -- ---- the answers
 
@@ -178,9 +181,9 @@ no-pass : {n : ℕ} → (n ≡ 0 → ⊥) → (n ≡ 8 → ⊥) → Passes n →
 no-pass f g (inl e) = f e
 no-pass f g (inr e) = g e
 
-module _ (sizes : Sizes) (bytes lent : List ℕ) where
+module _ (rules : Rules) (bytes lent : List ℕ) where
   -- no fault has one of them
-  fault-number : {l : Level} {ts : List Tok} {p n q : ℕ} → Fault sizes l bytes ts p n q → Passes n → ⊥
+  fault-number : {l : Level} {ts : List Tok} {p n q : ℕ} → Fault (rules .limits) l bytes ts p n q → Passes n → ⊥
   fault-number (noToken c) = no-pass (λ e. omega (arith, e)) (λ e. omega (arith, e))
   fault-number (wrong c k w) = no-pass (λ e. omega (arith, e)) (λ e. omega (arith, e))
   fault-number (wrongEnd c w) = no-pass (λ e. omega (arith, e)) (λ e. omega (arith, e))
@@ -193,14 +196,14 @@ module _ (sizes : Sizes) (bytes lent : List ℕ) where
     record Found (r : Answer) : Type 0 where
       level : Level
       level-is : LevelOf number level
-      short : length bytes ≤ sizes .text
+      short : length bytes ≤ rules .text
       formed : WellFormed bytes
       tree : Value
-      derived : Derived sizes level bytes tree
-      fits : r .number ≡ 0 → length (table tree) ≤ room sizes (length lent)
-      lacks : r .number ≡ 8 → room sizes (length lent) < length (table tree)
+      derived : Derived (rules .limits) level bytes tree
+      fits : r .number ≡ 0 → length (table tree) ≤ room rules (length lent)
+      lacks : r .number ≡ 8 → room rules (length lent) < length (table tree)
 
-    found : {r : Answer} {t : List ℕ} → Answers sizes bytes lent number r t → Passes (r .number) → Found r
+    found : {r : Answer} {t : Option Value} → Reading rules bytes (room rules (length lent)) number r t → Passes (r .number) → Found r
     found (noLevel f) e = absurd (no-pass (λ e. omega (arith, e)) (λ e. omega (arith, e)) e)
     found (tooLong l h) e = absurd (no-pass (λ e. omega (arith, e)) (λ e. omega (arith, e)) e)
     found (notUtf8 l h b) e = absurd (no-pass (λ e. omega (arith, e)) (λ e. omega (arith, e)) e)
@@ -212,7 +215,7 @@ module _ (sizes : Sizes) (bytes lent : List ℕ) where
           short = h;
           formed = w;
           tree = v;
-          derived = accepted-derived sizes bytes lent a;
+          derived = accepted-derived (rules .limits) bytes a;
           fits = λ z. absurd (omega (arith, z));
           lacks = λ z. m;
         }
@@ -223,21 +226,21 @@ module _ (sizes : Sizes) (bytes lent : List ℕ) where
           short = h;
           formed = w;
           tree = v;
-          derived = accepted-derived sizes bytes lent a;
+          derived = accepted-derived (rules .limits) bytes a;
           fits = λ z. m;
           lacks = λ z. absurd (omega (arith, z));
         }
 
     -- demand 2, for every level number, text and lent table
-    pub decides : {r : Answer} {t : List ℕ} → Answers sizes bytes lent number r t → Decides sizes bytes lent number r t
-    decides {r} {t} a = record { only = λ e. only (found a (inl e)) e; whenever = whenever }
+    pub decides : {r : Answer} {t : List ℕ} → Answers rules bytes lent number r t → Decides rules bytes lent number r t
+    decides {r} {t} a = record { only = λ e. only (found (a .reading) (inl e)) e; whenever = whenever }
       where
-        only : Found r → r .number ≡ 0 → (v : Value) × Acceptable sizes bytes lent number v
+        only : Found r → r .number ≡ 0 → (v : Value) × Acceptable rules bytes lent number v
         only f e = (f .tree, record { level = f .level; level-is = f .level-is; short = f .short; formed = f .formed; derived = f .derived; fits = f .fits e })
 
-        whenever : {v : Value} → Acceptable sizes bytes lent number v → Shows sizes bytes lent v r t
+        whenever : {v : Value} → Acceptable rules bytes lent number v → Shows rules bytes lent v r t
         whenever {v} c =
-            let o = one-reading sizes bytes lent a (accepted (c .level-is) (c .short) (c .formed) (derived-accepted sizes bytes lent (c .derived)) (c .fits)) in
+            let o = one-answer rules bytes lent a (record { tree = some v; reading = accepted (c .level-is) (c .short) (c .formed) (derived-accepted (rules .limits) bytes (c .derived)) (c .fits); left-is = refl }) in
             record {
               number-is = ap (λ (x : Answer). x .number) (o .0);
               place-is = ap (λ (x : Answer). x .place) (o .0);
@@ -247,29 +250,29 @@ module _ (sizes : Sizes) (bytes lent : List ℕ) where
 
     -- at a level, of a text that is UTF-8 and not too long
     module _ {l : Level} {r : Answer} {t : List ℕ}
-        (o : LevelOf number l) (h : length bytes ≤ sizes .text) (w : WellFormed bytes) (a : Answers sizes bytes lent number r t) where
-      at-level : (f : Found r) → Derived sizes l bytes (f .tree)
-      at-level f = subst (λ (x : Level). Derived sizes x bytes (f .tree)) (one-level (f .level-is) o) (f .derived)
+        (o : LevelOf number l) (h : length bytes ≤ rules .text) (w : WellFormed bytes) (a : Answers rules bytes lent number r t) where
+      at-level : (f : Found r) → Derived (rules .limits) l bytes (f .tree)
+      at-level f = subst (λ (x : Level). Derived (rules .limits) x bytes (f .tree)) (one-level (f .level-is) o) (f .derived)
 
-      roomy : {v : Value} → Derived sizes l bytes v → length (table v) ≤ room sizes (length lent) → r .number ≡ 0
-      roomy d m = ap (λ (x : Answer). x .number) (one-reading sizes bytes lent a (accepted o h w (derived-accepted sizes bytes lent d) m) .0)
+      roomy : {v : Value} → Derived (rules .limits) l bytes v → length (table v) ≤ room rules (length lent) → r .number ≡ 0
+      roomy d m = ap (λ (x : Answer). x .number) (one-reading rules bytes (a .reading) (accepted o h w (derived-accepted (rules .limits) bytes d) m) .0)
 
-      crammed : {v : Value} → Derived sizes l bytes v → room sizes (length lent) < length (table v) → r .number ≡ 8
-      crammed d m = ap (λ (x : Answer). x .number) (one-reading sizes bytes lent a (noRoom o h w (derived-accepted sizes bytes lent d) m) .0)
+      crammed : {v : Value} → Derived (rules .limits) l bytes v → room rules (length lent) < length (table v) → r .number ≡ 8
+      crammed d m = ap (λ (x : Answer). x .number) (one-reading rules bytes (a .reading) (noRoom o h w (derived-accepted (rules .limits) bytes d) m) .0)
 
       -- the answer's number is 0 or 8 exactly when the text has a derivation
-      pub derivable : ((r .number ≡ 0) ⊎ (r .number ≡ 8)) ↔ ((v : Value) × Derived sizes l bytes v)
-      derivable = (λ e. let f = found a e in (f .tree, at-level f), λ d. by (d .1) (order (room sizes (length lent)) (length (table (d .0)))))
+      pub derivable : ((r .number ≡ 0) ⊎ (r .number ≡ 8)) ↔ ((v : Value) × Derived (rules .limits) l bytes v)
+      derivable = (λ e. let f = found (a .reading) e in (f .tree, at-level f), λ d. by (d .1) (order (room rules (length lent)) (length (table (d .0)))))
         where
-          by : {v : Value} → Derived sizes l bytes v → Order (room sizes (length lent)) (length (table v)) → (r .number ≡ 0) ⊎ (r .number ≡ 8)
+          by : {v : Value} → Derived (rules .limits) l bytes v → Order (room rules (length lent)) (length (table v)) → (r .number ≡ 0) ⊎ (r .number ≡ 8)
           by d (equal e) = inl (roomy d (omega (arith, e)))
           by d (less m) = inr (crammed d m)
           by d (more m) = inl (roomy d (omega (arith, m)))
 
       -- 0 exactly when moreover its nodes have room
-      pub acceptable : (r .number ≡ 0) ↔ ((v : Value) × Derived sizes l bytes v × (length (table v) ≤ room sizes (length lent)))
-      acceptable = (λ e. let f = found a (inl e) in (f .tree, at-level f, f .fits e), λ d. roomy (d .1) (d .2))
+      pub acceptable : (r .number ≡ 0) ↔ ((v : Value) × Derived (rules .limits) l bytes v × (length (table v) ≤ room rules (length lent)))
+      acceptable = (λ e. let f = found (a .reading) (inl e) in (f .tree, at-level f, f .fits e), λ d. roomy (d .1) (d .2))
 
       -- and 8 when they have none
-      pub roomless : (r .number ≡ 8) ↔ ((v : Value) × Derived sizes l bytes v × (room sizes (length lent) < length (table v)))
-      roomless = (λ e. let f = found a (inr e) in (f .tree, at-level f, f .lacks e), λ d. crammed (d .1) (d .2))
+      pub roomless : (r .number ≡ 8) ↔ ((v : Value) × Derived (rules .limits) l bytes v × (room rules (length lent) < length (table v)))
+      roomless = (λ e. let f = found (a .reading) (inr e) in (f .tree, at-level f, f .lacks e), λ d. crammed (d .1) (d .2))

@@ -17,12 +17,14 @@ use Rattle.grammar.specs.Yield.{yieldValue}
 use Rattle.grammar.specs.Level.{Level, keeps}
 use Rattle.grammar.specs.Nodes.{table, tableWords, nodeWords}
 use Rattle.reading.specs.declared.Answer.{Answer}
-use Rattle.reading.specs.Sizes.{Sizes, room}
+use Rattle.reading.specs.declared.Limits.{Limits}
+use Rattle.reading.specs.declared.Rules.{Rules}
+use Rattle.reading.specs.Sizes.{room}
 use Rattle.reading.specs.Tokens.{Follow, opened}
 use Rattle.reading.specs.Answers.{LevelOf}
 
 -- the tree derives the text at the level, no literal has a bad value, and never are too many brackets open
-pub record Derived (sizes : Sizes) (l : Level) (bytes : List ℕ) (v : Value) : Type 0 where
+pub record Derived (limits : Limits) (l : Level) (bytes : List ℕ) (v : Value) : Type 0 where
   -- the tree has forms of the level only
   pub of-level : keeps l v ≡ true
   -- from the front to the end the tokens of the text are those of the tree
@@ -35,17 +37,17 @@ pub record Derived (sizes : Sizes) (l : Level) (bytes : List ℕ) (v : Value) : 
   pub sound : {before : List Tok} {p : ℕ} {t : Token.Token} → Follow bytes start before p → Comes bytes p (Next.Token t) →
       Bad bytes (t .kind) (t .first) (t .end) → ⊥
   -- with whatever tokens the tree begins, no more brackets are open behind them than the size allows
-  pub shallow : (before behind : List Tok) → before ++ behind ≡ yieldValue v [] → opened before ≤ sizes .depth
+  pub shallow : (before behind : List Tok) → before ++ behind ≡ yieldValue v [] → opened before ≤ limits .depth
 
-module _ (sizes : Sizes) (bytes lent : List ℕ) where
+module _ (rules : Rules) (bytes lent : List ℕ) where
   -- all that acceptance asks: a level's number, a text that is UTF-8 and not too long, its derivation, and room for the nodes
   pub record Acceptable (number : ℕ) (v : Value) : Type 0 where
     pub level : Level
     pub level-is : LevelOf number level
-    pub short : length bytes ≤ sizes .text
+    pub short : length bytes ≤ rules .text
     pub formed : WellFormed bytes
-    pub derived : Derived sizes level bytes v
-    pub fits : length (table v) ≤ room sizes (length lent)
+    pub derived : Derived (rules .limits) level bytes v
+    pub fits : length (table v) ≤ room rules (length lent)
 
   -- the answer and the table at exit say: accepted, with the nodes of this derivation, and behind them the words that stood there
   pub record Shows (v : Value) (r : Answer) (t : List ℕ) : Type 0 where

@@ -21,7 +21,7 @@ use Rattle.grammar.proofs.Frames.{Config, want, have, wantText, wantCurly, want
 use Rattle.grammar.proofs.Machine.{step}
 use Rattle.grammar.proofs.Viable.{Final, final}
 use Rattle.grammar.proofs.FirstNewer.{headNext, isBeyond, isNewer, newerHolds, holdsNewer, beyondHolds, holdsBeyond}
-use Rattle.reading.specs.Sizes.{Sizes}
+use Rattle.reading.specs.declared.Limits.{Limits}
 use Rattle.reading.specs.Tokens.{seen, Follow, nothing, next, opened}
 use Rattle.reading.specs.Faults.{NewerAt, TooDeep, FirstFault}
 use Rattle.reading.specs.Answers.{first, Accepted}
@@ -59,7 +59,7 @@ value-have (wantClose c K) = tt
 not-final : {c : Config} → valueOf c ≡ none → Final c → ⊥
 not-final e (final v) = let z : _≡_ {A = ℕ} 0 1 = cc in omega arith
 
-module _ (bytes : List ℕ) (sizes : Sizes) (l : Level) where
+module _ (bytes : List ℕ) (limits : Limits) (l : Level) where
   -- ---- newer forms: behind `(` two tokens are seen, behind another token none need be
 
   abbrev second-seen : Token.Token → Next → List Tok
@@ -138,10 +138,10 @@ module _ (bytes : List ℕ) (sizes : Sizes) (l : Level) where
   ahead-is (mark m) p = none-needed p (λ ts s e. e)
   ahead-is later p = none-needed p (λ ts s e. e)
 
-  newer-at : {ts us : List Tok} {t : Token.Token} → Ahead (classKind (t .kind)) (t .end) us → isNewer l ts (seen t) us ≡ true → NewerAt sizes l bytes ts t
+  newer-at : {ts us : List Tok} {t : Token.Token} → Ahead (classKind (t .kind)) (t .end) us → isNewer l ts (seen t) us ≡ true → NewerAt limits l bytes ts t
   newer-at {ts} {us} {t} a e = record { ahead = us; end = a .end; follow = a .follow; newer = holdsNewer l ts (seen t) us e }
 
-  not-newer : {ts us : List Tok} {t : Token.Token} → Ahead (classKind (t .kind)) (t .end) us → isNewer l ts (seen t) us ≡ false → NewerAt sizes l bytes ts t → ⊥
+  not-newer : {ts us : List Tok} {t : Token.Token} → Ahead (classKind (t .kind)) (t .end) us → isNewer l ts (seen t) us ≡ false → NewerAt limits l bytes ts t → ⊥
   not-newer {ts} {us} {t} a e n =
       clash
       (newerHolds l ts (seen t) us
@@ -150,20 +150,20 @@ module _ (bytes : List ℕ) (sizes : Sizes) (l : Level) where
   -- ---- too many brackets
 
   abbrev deeper : List Tok → Token.Token → Bool
-  deeper ts t = ltb (opened ts) (opened (ts ++ (seen t ∷ []))) && ltb (sizes .depth) (opened (ts ++ (seen t ∷ [])))
+  deeper ts t = ltb (opened ts) (opened (ts ++ (seen t ∷ []))) && ltb (limits .depth) (opened (ts ++ (seen t ∷ [])))
 
-  is-deeper : (ts : List Tok) (t : Token.Token) → deeper ts t ≡ true → TooDeep sizes l bytes ts t
+  is-deeper : (ts : List Tok) (t : Token.Token) → deeper ts t ≡ true → TooDeep limits l bytes ts t
   is-deeper ts t e =
       let n = opened (ts ++ (seen t ∷ [])) in
       record {
-        deeper = ltb-true (opened ts) n (and-left (ltb (opened ts) n) (ltb (sizes .depth) n) e);
-        beyond = ltb-true (sizes .depth) n (and-right (ltb (opened ts) n) (ltb (sizes .depth) n) e);
+        deeper = ltb-true (opened ts) n (and-left (ltb (opened ts) n) (ltb (limits .depth) n) e);
+        beyond = ltb-true (limits .depth) n (and-right (ltb (opened ts) n) (ltb (limits .depth) n) e);
       }
 
-  not-deeper : (ts : List Tok) (t : Token.Token) → deeper ts t ≡ false → TooDeep sizes l bytes ts t → ⊥
+  not-deeper : (ts : List Tok) (t : Token.Token) → deeper ts t ≡ false → TooDeep limits l bytes ts t → ⊥
   not-deeper ts t e x =
       let n = opened (ts ++ (seen t ∷ [])) in
-      clash (and-both (ltb (opened ts) n) (ltb (sizes .depth) n) (lt-ltb (opened ts) n (x .deeper)) (lt-ltb (sizes .depth) n (x .beyond))) e
+      clash (and-both (ltb (opened ts) n) (ltb (limits .depth) n) (lt-ltb (opened ts) n (x .deeper)) (lt-ltb (limits .depth) n (x .beyond))) e
 
   -- ---- the tokens from left to right
 
@@ -196,33 +196,32 @@ module _ (bytes : List ℕ) (sizes : Sizes) (l : Level) where
 
   -- what a verdict says
   abbrev pub Right : Verdict → Type 0
-  Right (refused n q) = FirstFault sizes l bytes n q
-  Right (holds v) = (lent : List ℕ) → Accepted sizes bytes lent l v
+  Right (refused n q) = FirstFault limits l bytes n q
+  Right (holds v) = Accepted limits bytes l v
 
-  module _ (ts : List Tok) (p : ℕ) (c : Config) (s : Stands sizes l bytes ts p c) where
+  module _ (ts : List Tok) (p : ℕ) (c : Config) (s : Stands limits l bytes ts p c) where
     abbrev Again : (Token.Token → Config → Option Verdict) → Type 0
-    Again again = (t : Token.Token) (d : Config) → Stands sizes l bytes (ts ++ (seen t ∷ [])) (t .end) d → Sound Right (again t d)
+    Again again = (t : Token.Token) (d : Config) → Stands limits l bytes (ts ++ (seen t ∷ [])) (t .end) d → Sound Right (again t d)
 
     ended-is : (q : ℕ) → Comes bytes p (Next.End q) → (m : Option Value) → valueOf c ≡ m → Sound (λ (v : Value). c ≡ have v []) m → Right (ended q m)
-    ended-is q k none e x = wrong-end sizes l bytes s k (λ f. not-final e f)
+    ended-is q k none e x = wrong-end limits l bytes s k (λ f. not-final e f)
     ended-is q k (some v) e x =
-        λ lent.
-        accepted sizes l bytes lent
-        (record { tokens = ts; stands = subst (λ (y : Config). Stands sizes l bytes ts p y) x s; deep = refl }) q k .0
+        accepted limits l bytes
+        (record { tokens = ts; stands = subst (λ (y : Config). Stands limits l bytes ts p y) x s; deep = refl }) q k .0
 
     module _ (t : Token.Token) (k : Comes bytes p (Next.Token t)) (again : Token.Token → Config → Option Verdict) (go-on : Again again) where
-      valued-is : (d : Config) → (NewerAt sizes l bytes ts t → ⊥) → step l c (seen t) ≡ some d → (a b : Bool) → t .bad ≡ a → deeper ts t ≡ b →
+      valued-is : (d : Config) → (NewerAt limits l bytes ts t → ⊥) → step l c (seen t) ≡ some d → (a b : Bool) → t .bad ≡ a → deeper ts t ≡ b →
           Sound Right (valued t a b (λ u. again t d))
-      valued-is d n e true b x y = bad-value sizes l bytes s k n e x
-      valued-is d n e false true x y = too-deep sizes l bytes s k n e x (is-deeper ts t y)
-      valued-is d n e false false x y = go-on t d (goes-on sizes l bytes s k n e x (λ z. not-deeper ts t y z))
+      valued-is d n e true b x y = bad-value limits l bytes s k n e x
+      valued-is d n e false true x y = too-deep limits l bytes s k n e x (is-deeper ts t y)
+      valued-is d n e false false x y = go-on t d (goes-on limits l bytes s k n e x (λ z. not-deeper ts t y z))
 
-      stepped-is : (NewerAt sizes l bytes ts t → ⊥) → (m : Option Config) → step l c (seen t) ≡ m → Sound Right (stepped ts t m (again t))
-      stepped-is n none e = wrong-place sizes l bytes s k n e
+      stepped-is : (NewerAt limits l bytes ts t → ⊥) → (m : Option Config) → step l c (seen t) ≡ m → Sound Right (stepped ts t m (again t))
+      stepped-is n none e = wrong-place limits l bytes s k n e
       stepped-is n (some d) e = valued-is d n e (t .bad) (deeper ts t) refl refl
 
       placed-is : (us : List Tok) → Ahead (classKind (t .kind)) (t .end) us → (b : Bool) → isNewer l ts (seen t) us ≡ b → Sound Right (placed ts c t b (again t))
-      placed-is us a true e = newer-form sizes l bytes s k (newer-at a e)
+      placed-is us a true e = newer-form limits l bytes s k (newer-at a e)
       placed-is us a false e = stepped-is (λ n. not-newer a e n) (step l c (seen t)) refl
 
     judged-is : (r : Next) → Comes bytes p r → (again : Token.Token → Config → Option Verdict) → Again again → Sound Right (judged ts c r again)
@@ -230,9 +229,9 @@ module _ (bytes : List ℕ) (sizes : Sizes) (l : Level) where
         sound-then (Ahead (classKind (t .kind)) (t .end)) Right (aheadOf (classKind (t .kind)) (t .end)) (λ us. placed ts c t (isNewer l ts (seen t) us) (again t))
         (ahead-is (classKind (t .kind)) (t .end)) (λ us a. placed-is t k again g us a (isNewer l ts (seen t) us) refl)
     judged-is (Next.End q) k again g = ended-is q k (valueOf c) refl (value-have c)
-    judged-is (Next.NoToken q) k again g = no-token sizes l bytes s k
+    judged-is (Next.NoToken q) k again g = no-token limits l bytes s k
 
-  onward-is : (n : ℕ) (ts : List Tok) (p : ℕ) (c : Config) → Stands sizes l bytes ts p c → Sound Right (onward n ts p c)
+  onward-is : (n : ℕ) (ts : List Tok) (p : ℕ) (c : Config) → Stands limits l bytes ts p c → Sound Right (onward n ts p c)
   onward-is zero ts p c s = tt
   onward-is (suc n) ts p c s =
       sound-then (Comes bytes p) Right (comesOf bytes p) (λ r. judged ts c r (λ t d. onward n (ts ++ (seen t ∷ [])) (t .end) d)) (comes-is bytes p)
@@ -244,4 +243,4 @@ module _ (bytes : List ℕ) (sizes : Sizes) (l : Level) where
   verdict = onward (suc (length bytes)) [] (frontOf bytes) (want [])
 
   pub verdict-is : Sound Right verdict
-  verdict-is = onward-is (suc (length bytes)) [] (frontOf bytes) (want []) (at-front sizes l bytes (front-is bytes))
+  verdict-is = onward-is (suc (length bytes)) [] (frontOf bytes) (want []) (at-front limits l bytes (front-is bytes))

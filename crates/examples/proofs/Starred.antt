@@ -14,7 +14,7 @@ use Rattle.lexicon.specs.Utf8.{WellFormed}
 use Rattle.lexicon.specs.Values.{IntegerOf}
 use Rattle.grammar.specs.Level.{Level, level1, level2}
 use Rattle.grammar.specs.Nodes.{table, tableWords, nodeWords}
-use Rattle.reading.specs.Sizes.{base, room}
+use Rattle.reading.specs.Sizes.{baseLimits, base, room}
 use Rattle.reading.specs.Answers as Answers
 use Rattle.reading.specs.Answers.{LevelOf, answer, Answers, faulty}
 use Rattle.examples.specs.Starred.{Row, wordsOf, Outcome, Example, Ends, Means, Holds, AllHold, starred}
@@ -76,7 +76,7 @@ fits len (some (holds v)) n p ns = (eqb 0 n && eqb len p) && (eqb (length (table
 
 abbrev fitsAt : List ℕ → Option Level → Outcome → Bool
 fitsAt bytes none o = false
-fitsAt bytes (some l) o = (leb (length bytes) (base .text) && formed bytes) && fits (length bytes) (verdict bytes base l) (o .number) (o .place) (o .nodes)
+fitsAt bytes (some l) o = (leb (length bytes) (base .text) && formed bytes) && fits (length bytes) (verdict bytes baseLimits l) (o .number) (o .place) (o .nodes)
 
 abbrev means : List ℕ → Option ℤ → List Row → Bool
 means bytes none ns = true
@@ -94,13 +94,13 @@ allAgree (e ∷ es) = agrees e && allAgree es
 
 module _ (bytes : List ℕ) (number : ℕ) where
   module _ (l : Level) (o : LevelOf number l) (short : length bytes ≤ base .text) (well : WellFormed bytes) where
-    fits-ends : (m : Option Verdict) (n p : ℕ) (ns : List Row) → Sound (Right bytes base l) m → fits (length bytes) m n p ns ≡ true → Ends bytes number n p ns
+    fits-ends : (m : Option Verdict) (n p : ℕ) (ns : List Row) → Sound (Right bytes baseLimits l) m → fits (length bytes) m n p ns ≡ true → Ends bytes number n p ns
     fits-ends none n p ns s e = absurd (false≢true e)
     fits-ends (some (refused m q)) n p [] s e =
         let both = and-left (eqb m n && eqb q p) true e in
         λ lent h.
         subst (λ (x : ℕ). Answers base bytes lent number (answer x p 0) lent) (eqb-true m n (and-left (eqb m n) (eqb q p) both))
-        (subst (λ (x : ℕ). Answers base bytes lent number (answer m x 0) lent) (eqb-true q p (and-right (eqb m n) (eqb q p) both)) (faulty o short well s))
+        (subst (λ (x : ℕ). Answers base bytes lent number (answer m x 0) lent) (eqb-true q p (and-right (eqb m n) (eqb q p) both)) (record { tree = none; reading = faulty o short well s; left-is = refl }))
     fits-ends (some (refused m q)) n p (r ∷ ns) s e = absurd (false≢true (and-right (eqb m n && eqb q p) false e))
     fits-ends (some (holds v)) n p ns s e =
         let size = eqb (length (table v)) (length ns) in
@@ -116,16 +116,16 @@ module _ (bytes : List ℕ) (number : ℕ) where
         (subst (λ (x : ℕ). Answers base bytes lent number (answer 0 x (length ns)) (wordsOf ns ++ drop (nodeWords * length ns) lent)) is-end
         (subst (λ (x : List ℕ). Answers base bytes lent number (answer 0 (length bytes) (length ns)) (x ++ drop (nodeWords * length ns) lent)) alike
         (subst (λ (x : ℕ). Answers base bytes lent number (answer 0 (length bytes) x) (tableWords (table v) ++ drop (nodeWords * x) lent)) as-many
-        (Answers.accepted o short well (s lent) (subst (λ (x : ℕ). x ≤ room base (length lent)) (sym as-many) h)))))
+        (record { tree = some v; reading = Answers.accepted o short well s (subst (λ (x : ℕ). x ≤ room base (length lent)) (sym as-many) h); left-is = refl }))))
 
   ends-at : (m : Option Level) (o : Outcome) → Sound (LevelOf number) m → fitsAt bytes m o ≡ true → Ends bytes number (o .number) (o .place) (o .nodes)
   ends-at none o s e = absurd (false≢true e)
   ends-at (some l) o s e =
-      let test = fits (length bytes) (verdict bytes base l) (o .number) (o .place) (o .nodes) in
+      let test = fits (length bytes) (verdict bytes baseLimits l) (o .number) (o .place) (o .nodes) in
       let front = and-left (leb (length bytes) (base .text) && formed bytes) test e in
       fits-ends l s (leb-true (length bytes) (base .text) (and-left (leb (length bytes) (base .text)) (formed bytes) front))
-      (formed-is bytes (and-right (leb (length bytes) (base .text)) (formed bytes) front)) (verdict bytes base l) (o .number) (o .place) (o .nodes)
-      (verdict-is bytes base l) (and-right (leb (length bytes) (base .text) && formed bytes) test e)
+      (formed-is bytes (and-right (leb (length bytes) (base .text)) (formed bytes) front)) (verdict bytes baseLimits l) (o .number) (o .place) (o .nodes)
+      (verdict-is bytes baseLimits l) (and-right (leb (length bytes) (base .text) && formed bytes) test e)
 
 means-so : (bytes : List ℕ) (m : Option ℤ) (ns : List Row) → means bytes m ns ≡ true → Means bytes m ns
 means-so bytes none ns e = tt

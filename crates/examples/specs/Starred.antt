@@ -62,7 +62,7 @@ atBoth s o = atLevel 1 s o ++ atLevel 2 s o
 -- ---- the statement
 
 -- with every lent table that has room for the nodes: number, place, count, and every word of the table at exit. Under a refusal there
--- are no nodes, so every table has room for them, and it stays as it was. No other answer holds: reading's law `one-reading`.
+-- are no nodes, so every table has room for them, and it stays as it was. No other answer holds: reading's law `one-answer`.
 abbrev pub Ends : List ℕ → ℕ → ℕ → ℕ → List Row → Type 0
 Ends bytes level number place nodes =
     (lent : List ℕ) → length nodes ≤ room base (length lent) →

@@ -17,7 +17,7 @@ use Rattle.lexicon.specs.Token.{Here, anInteger}
 use Rattle.lexicon.proofs.Determined.{formed-or-bad, one-bad}
 use Rattle.lexicon.proofs.Integers.{start-same, start-of}
 use Rattle.lexicon.proofs.Numbers.{numeral, numeral-at, number-same, of-nonsigned, to-nonsigned, to-base, valued}
-use Rattle.reading.specs.Sizes.{Sizes}
+use Rattle.reading.specs.declared.Rules.{Rules}
 use Rattle.integer_value.specs.declared.integer.IntegerAnswer.{IntegerAnswer}
 use Rattle.integer_value.specs.Answers.{Within, Exactly, answer, refusal, IntegerAnswers, tooLong, notUtf8, notInteger, outside, accepted}
 
@@ -48,8 +48,8 @@ exactly-token piece t = record { takes = t; most = λ m u. inside u (omega arith
 
 -- ---- the answer
 
-module _ (sizes : Sizes) (piece : List ℕ) where
-  pub one-answer : {a b : IntegerAnswer} → IntegerAnswers sizes piece a → IntegerAnswers sizes piece b → a ≡ b
+module _ (rules : Rules) (piece : List ℕ) where
+  pub one-answer : {a b : IntegerAnswer} → IntegerAnswers rules piece a → IntegerAnswers rules piece b → a ≡ b
   one-answer (tooLong h) (tooLong g) = refl
   one-answer (tooLong h) (notUtf8 g b) = absurd (omega arith)
   one-answer (tooLong h) (notInteger g w n) = absurd (omega arith)

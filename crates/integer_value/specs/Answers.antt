@@ -8,7 +8,7 @@ use Rattle.rules.specs.Rule.{Takes}
 use Rattle.lexicon.specs.Utf8.{WellFormed, BadAt}
 use Rattle.lexicon.specs.Literals.{integer}
 use Rattle.lexicon.specs.Values.{IntegerOf}
-use Rattle.reading.specs.Sizes.{Sizes}
+use Rattle.reading.specs.declared.Rules.{Rules}
 use Rattle.integer_value.specs.declared.integer.IntegerAnswer.{IntegerAnswer}
 
 -- −2^63 to 2^63 − 1, where `negsuc n` is −(n + 1)
@@ -28,10 +28,10 @@ refusal n p = answer n p (pos 0)
 abbrev pub Exactly : List ℕ → Type 0
 Exactly piece = Takes piece integer 0 (length piece)
 
-module _ (sizes : Sizes) (piece : List ℕ) where
+module _ (rules : Rules) (piece : List ℕ) where
   pub data IntegerAnswers : IntegerAnswer → Type 0 where
-    tooLong : sizes .text < length piece → IntegerAnswers (refusal 2 0)
-    notUtf8 : {p : ℕ} → length piece ≤ sizes .text → BadAt piece p → IntegerAnswers (refusal 3 p)
-    notInteger : length piece ≤ sizes .text → WellFormed piece → (Exactly piece → ⊥) → IntegerAnswers (refusal 9 0)
-    outside : {z : ℤ} → length piece ≤ sizes .text → WellFormed piece → Exactly piece → IntegerOf piece 0 (length piece) z → (Within z → ⊥) → IntegerAnswers (refusal 10 0)
-    accepted : {z : ℤ} → length piece ≤ sizes .text → WellFormed piece → Exactly piece → IntegerOf piece 0 (length piece) z → Within z → IntegerAnswers (answer 0 (length piece) z)
+    tooLong : rules .text < length piece → IntegerAnswers (refusal 2 0)
+    notUtf8 : {p : ℕ} → length piece ≤ rules .text → BadAt piece p → IntegerAnswers (refusal 3 p)
+    notInteger : length piece ≤ rules .text → WellFormed piece → (Exactly piece → ⊥) → IntegerAnswers (refusal 9 0)
+    outside : {z : ℤ} → length piece ≤ rules .text → WellFormed piece → Exactly piece → IntegerOf piece 0 (length piece) z → (Within z → ⊥) → IntegerAnswers (refusal 10 0)
+    accepted : {z : ℤ} → length piece ≤ rules .text → WellFormed piece → Exactly piece → IntegerOf piece 0 (length piece) z → Within z → IntegerAnswers (answer 0 (length piece) z)

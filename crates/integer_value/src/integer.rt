@@ -13,7 +13,7 @@ ghost use Prim.Native.Nat.{_≤_, _^_};
 ghost use lib.IntN.{pos, negℤ};
 ghost use lib.ListN.{length};
 ghost use Rattle.rules.specs.Test.{Says};
-ghost use Rattle.reading.specs.Sizes.{base as sizes};
+ghost use Rattle.reading.specs.Sizes.{base as rules};
 ghost use Rattle.integer_value.specs.Answers.{refusal, Exactly, IntegerAnswers};
 ghost use Rattle.integer_value.specs.Parts.{SignedOf, Valued};
 
@@ -106,7 +106,7 @@ fn literal(piece: &[u8]) -> IntegerAnswer
 
 // The integer of a piece that is exactly one Integer literal.
 pub fn integer(piece: &[u8]) -> IntegerAnswer
-    ensures { λ r. ⌜ IntegerAnswers sizes (now (piece .entry)) r ⌝ }
+    ensures { λ r. ⌜ IntegerAnswers rules (now (piece .entry)) r ⌝ }
 {
     if piece.len() > LONGEST {
         return refused(2, 0);

@@ -1,15 +1,17 @@
 -- The lines of a listing, put together, and how long they are. Assumes nothing.
 use mathlib.Core.Path.{_≡_, refl, sym, ap, _∙_, subst}
 use mathlib.Core.List.{List, [], _++_}
+use mathlib.Core.Option.{Option}
 use Prim.Native.Nat.{ℕ, zero, suc, _+_, _*_, _^_, _≤_, _<_}
 use native.Mathlib.Numerals.{add-one}
 use native.Mathlib.Omega.{arith}
 use lib.ListN.{length, getD, length-append}
 use Rattle.rules.proofs.Over.{over-start}
+use Rattle.grammar.specs.Tree.{Value}
 use Rattle.grammar.specs.Nodes.{nodeWords}
 use Rattle.reading.specs.declared.Answer.{Answer}
 use Rattle.reading.specs.Sizes.{base, room}
-use Rattle.reading.specs.Answers.{Answers, noLevel, tooLong, notUtf8, faulty, noRoom, accepted}
+use Rattle.reading.specs.Answers.{Reading, Answers, noLevel, tooLong, notUtf8, faulty, noRoom, accepted}
 use Rattle.listing.specs.Listing.{decimal, headLine, nodeLine, nodeLines, listed, listing}
 use Rattle.listing.specs.Written.{Wrote, Listed}
 use Rattle.listing.proofs.Digits.{decimal-short}
@@ -70,14 +72,18 @@ listing-refused level a t h = go (a .number) h
 pub listing-accepted : (level : ℕ) (a : Answer) (t : List ℕ) → a .number ≡ 0 → listing level a t ≡ headLine 111 107 level (a .count) ++ nodeLines t (a .count)
 listing-accepted level a t e = ap (λ (n : ℕ). listed n level a t) e
 
--- an answer 0 counts no more nodes than the table has room for
+-- an answer 0 counts no more nodes than there is room for
+within-room : {text : List ℕ} {n level : ℕ} {a : Answer} {v : Option Value} → Reading base text n level a v → a .number ≡ 0 → a .count ≤ n
+within-room (noLevel _) e = omega arith
+within-room (tooLong _ _) e = omega arith
+within-room (notUtf8 _ _ _) e = omega arith
+within-room (faulty _ _ _ _) e = omega arith
+within-room (noRoom _ _ _ _ _) e = absurd (omega arith)
+within-room (accepted _ _ _ _ h) e = h
+
+-- nor than the table has room for
 pub counted : {text t t' : List ℕ} {level : ℕ} {a : Answer} → Answers base text t level a t' → a .number ≡ 0 → a .count ≤ room base (length t)
-counted (noLevel _) e = omega arith
-counted (tooLong _ _) e = omega arith
-counted (notUtf8 _ _ _) e = omega arith
-counted (faulty _ _ _ _) e = omega arith
-counted (noRoom _ _ _ _ _) e = absurd (omega arith)
-counted (accepted _ _ _ _ h) e = h
+counted x e = within-room (x .reading) e
 
 -- a listing that fits stands whole
 whole : {o o' : List ℕ} {r level : ℕ} {text t t' : List ℕ} (a : Answer) → Answers base text t level a t' →

@@ -3,6 +3,7 @@ use mathlib.Core.Path.{_≡_, refl, sym, ap, subst}
 use mathlib.Core.Bool.{true}
 use mathlib.Core.Logic.{_⊎_, inl, inr}
 use mathlib.Core.List.{List, [], _∷_, _++_}
+use mathlib.Core.Option.{Option}
 use Prim.Native.Nat.{ℕ, _≤_, _<_}
 use native.Mathlib.Omega.{arith}
 use lib.ListN.{length, length-append}
@@ -22,20 +23,21 @@ use Rattle.grammar.specs.Place.{Newer}
 use Rattle.grammar.proofs.OneTree.{oneTree}
 use Rattle.grammar.proofs.Levels.{Known, sentenceAlike, sentenceAlikeBack, wrongAlike, newerBelow, oneWithinTwo}
 use Rattle.reading.specs.declared.Answer.{Answer}
-use Rattle.reading.specs.Sizes.{Sizes}
+use Rattle.reading.specs.declared.Limits.{Limits}
+use Rattle.reading.specs.declared.Rules.{Rules}
 use Rattle.reading.specs.Tokens.{seen, Follow, nothing, next}
 use Rattle.reading.specs.Faults.{NewerAt, Fault, noToken, wrong, wrongEnd, newer, badValue, tooDeep, Passed, begun, passed, FirstFault, AllPassed}
-use Rattle.reading.specs.Answers.{LevelOf, first, second, Accepted, Answers, noLevel, tooLong, notUtf8, faulty, noRoom, accepted}
+use Rattle.reading.specs.Answers.{LevelOf, first, second, Accepted, Reading, Answers, noLevel, tooLong, notUtf8, faulty, noRoom, accepted}
 use Rattle.reading.specs.Agree.{NewerFrom, FirstNewer, Agree}
 use Rattle.reading.proofs.Rows.{Order, equal, less, more, order, pick, no-end, no-none, comes-forward, one-row, row-beyond, append, split}
 use Rattle.reading.proofs.First.{follows, start, went}
-use Rattle.reading.proofs.Unique.{one-level, one-reading}
+use Rattle.reading.proofs.Unique.{one-level, one-answer}
 
-module _ (bytes : List ℕ) (sizes : Sizes) (a b : Level) (within : a Within b) (arrows : a leftArrows ≡ b leftArrows) where
+module _ (bytes : List ℕ) (limits : Limits) (a b : Level) (within : a Within b) (arrows : a leftArrows ≡ b leftArrows) where
   -- ---- tokens that pass at the lower level hold none of its newer forms
 
   known : {s p : ℕ} {ts : List Tok} → Follow bytes s ts p →
-      ((xs : List Tok) (m : ℕ) (u : Token.Token) → Follow bytes s xs m → Comes bytes m (Next.Token u) → length xs < length ts → NewerAt sizes a bytes xs u → ⊥) →
+      ((xs : List Tok) (m : ℕ) (u : Token.Token) → Follow bytes s xs m → Comes bytes m (Next.Token u) → length xs < length ts → NewerAt limits a bytes xs u → ⊥) →
       Known a ts []
   known {s} {p} {ts} f k =
       record {
@@ -45,48 +47,48 @@ module _ (bytes : List ℕ) (sizes : Sizes) (a b : Level) (within : a Within b) 
             (record { ahead = ys ++ []; end = p; follow = append bytes (x .behind) nothing; newer = subst (λ (w : Tok). Newer a xs w (ys ++ [])) (sym (x .is)) n });
       }
 
-  known-passed : {s p : ℕ} {ts : List Tok} → Front bytes s → Passed sizes a bytes ts p → Known a ts []
-  known-passed f g = known (follows bytes sizes a f g) (λ xs m u x c h n. went bytes sizes a f x g h .sound 7 (u .first) (newer c n))
+  known-passed : {s p : ℕ} {ts : List Tok} → Front bytes s → Passed limits a bytes ts p → Known a ts []
+  known-passed f g = known (follows bytes limits a f g) (λ xs m u x c h n. went bytes limits a f x g h .sound 7 (u .first) (newer c n))
 
-  known-next : {s p : ℕ} {ts : List Tok} {t : Token.Token} → Front bytes s → Passed sizes a bytes ts p → Comes bytes p (Next.Token t) →
-      (NewerAt sizes a bytes ts t → ⊥) → Known a (ts ++ (seen t ∷ [])) []
+  known-next : {s p : ℕ} {ts : List Tok} {t : Token.Token} → Front bytes s → Passed limits a bytes ts p → Comes bytes p (Next.Token t) →
+      (NewerAt limits a bytes ts t → ⊥) → Known a (ts ++ (seen t ∷ [])) []
   known-next {s} {p} {ts} {t} f g c v =
-      known (append bytes (follows bytes sizes a f g) (next c nothing)) (λ xs m u x d h n. by xs m u x d h n (order (length xs) (length ts)))
+      known (append bytes (follows bytes limits a f g) (next c nothing)) (λ xs m u x d h n. by xs m u x d h n (order (length xs) (length ts)))
     where
-      by : (xs : List Tok) (m : ℕ) (u : Token.Token) → Follow bytes s xs m → Comes bytes m (Next.Token u) → length xs < length (ts ++ (seen t ∷ [])) → NewerAt sizes a bytes xs u → Order (length xs) (length ts) → ⊥
+      by : (xs : List Tok) (m : ℕ) (u : Token.Token) → Follow bytes s xs m → Comes bytes m (Next.Token u) → length xs < length (ts ++ (seen t ∷ [])) → NewerAt limits a bytes xs u → Order (length xs) (length ts) → ⊥
       by xs m u x d h n (equal e) =
-          let o = one-row bytes x (follows bytes sizes a f g) e in
+          let o = one-row bytes x (follows bytes limits a f g) e in
           let same : u ≡ t = pick bytes (subst (λ (q : ℕ). Comes bytes q (Next.Token u)) (o .1) d) c in
-          v (subst (NewerAt sizes a bytes ts) same (subst (λ (r : List Tok). NewerAt sizes a bytes r u) (o .0) n))
-      by xs m u x d h n (less k) = went bytes sizes a f x g k .sound 7 (u .first) (newer d n)
+          v (subst (NewerAt limits a bytes ts) same (subst (λ (r : List Tok). NewerAt limits a bytes r u) (o .0) n))
+      by xs m u x d h n (less k) = went bytes limits a f x g k .sound 7 (u .first) (newer d n)
       by xs m u x d h n (more k) = omega (arith, k, h, length-append ts (seen t ∷ []))
 
-  newer-below : {ts : List Tok} {t : Token.Token} → Known a ts [] → NewerAt sizes b bytes ts t → NewerAt sizes a bytes ts t
+  newer-below : {ts : List Tok} {t : Token.Token} → Known a ts [] → NewerAt limits b bytes ts t → NewerAt limits a bytes ts t
   newer-below {ts} {t} k n = record { ahead = n .ahead; end = n .end; follow = n .follow; newer = newerBelow a b within arrows ts (seen t) (n .ahead) [] k (n .newer) }
 
   -- ---- so they pass at the higher level
 
-  higher : {s p : ℕ} {ts : List Tok} → Front bytes s → Passed sizes a bytes ts p → ((n q : ℕ) → Fault sizes a bytes ts p n q → ⊥) → (n q : ℕ) → Fault sizes b bytes ts p n q → ⊥
+  higher : {s p : ℕ} {ts : List Tok} → Front bytes s → Passed limits a bytes ts p → ((n q : ℕ) → Fault limits a bytes ts p n q → ⊥) → (n q : ℕ) → Fault limits b bytes ts p n q → ⊥
   higher f g k n q (noToken d) = k 4 q (noToken d)
   higher {ts = ts} f g k n q (wrong {t = t} d v w) =
-      let v′ : NewerAt sizes a bytes ts t → ⊥ = λ x. k 7 (t .first) (newer d x) in
+      let v′ : NewerAt limits a bytes ts t → ⊥ = λ x. k 7 (t .first) (newer d x) in
       k 6 q (wrong d v′ (wrongAlike a b within arrows ts (seen t) [] (known-next f g d v′) .1 w))
   higher {ts = ts} f g k n q (wrongEnd d w) = k 6 q (wrongEnd d (record { none = λ s. w .none (sentenceAlike a b within arrows ts [] (known-passed f g) s) }))
   higher f g k n q (newer d x) = k 7 q (newer d (newer-below (known-passed f g) x))
   higher {ts = ts} f g k n q (badValue {t = t} d v w e) =
-      let v′ : NewerAt sizes a bytes ts t → ⊥ = λ x. k 7 (t .first) (newer d x) in
+      let v′ : NewerAt limits a bytes ts t → ⊥ = λ x. k 7 (t .first) (newer d x) in
       k 5 q (badValue d v′ (λ x. w (wrongAlike a b within arrows ts (seen t) [] (known-next f g d v′) .0 x)) e)
   higher {ts = ts} f g k n q (tooDeep {t = t} d v w e h) =
-      let v′ : NewerAt sizes a bytes ts t → ⊥ = λ x. k 7 (t .first) (newer d x) in
+      let v′ : NewerAt limits a bytes ts t → ⊥ = λ x. k 7 (t .first) (newer d x) in
       k 11 q (tooDeep d v′ (λ x. w (wrongAlike a b within arrows ts (seen t) [] (known-next f g d v′) .0 x)) e (record { deeper = h .deeper; beyond = h .beyond }))
 
-  pub passed-too : {p : ℕ} {ts : List Tok} → Passed sizes a bytes ts p → Passed sizes b bytes ts p
+  pub passed-too : {p : ℕ} {ts : List Tok} → Passed limits a bytes ts p → Passed limits b bytes ts p
   passed-too (begun f) = begun f
-  passed-too (passed g c k) = passed (passed-too g) c (higher (start bytes sizes a g .1) g k)
+  passed-too (passed g c k) = passed (passed-too g) c (higher (start bytes limits a g .1) g k)
 
   -- ---- and a fault that is no newer form is the higher level's
 
-  fault-too : {s p n q : ℕ} {ts : List Tok} → Front bytes s → Passed sizes a bytes ts p → (n ≡ 7 → ⊥) → Fault sizes a bytes ts p n q → Fault sizes b bytes ts p n q
+  fault-too : {s p n q : ℕ} {ts : List Tok} → Front bytes s → Passed limits a bytes ts p → (n ≡ 7 → ⊥) → Fault limits a bytes ts p n q → Fault limits b bytes ts p n q
   fault-too f g h (noToken d) = noToken d
   fault-too {ts = ts} f g h (wrong {t = t} d v w) =
       wrong d (λ x. v (newer-below (known-passed f g) x)) (wrongAlike a b within arrows ts (seen t) [] (known-next f g d v) .0 w)
@@ -97,13 +99,13 @@ module _ (bytes : List ℕ) (sizes : Sizes) (a b : Level) (within : a Within b) 
   fault-too {ts = ts} f g h (tooDeep {t = t} d v w e k) =
       tooDeep d (λ x. v (newer-below (known-passed f g) x)) (λ x. w (wrongAlike a b within arrows ts (seen t) [] (known-next f g d v) .1 x)) e (record { deeper = k .deeper; beyond = k .beyond })
 
-  pub first-too : {n q : ℕ} → (n ≡ 7 → ⊥) → FirstFault sizes a bytes n q → FirstFault sizes b bytes n q
+  pub first-too : {n q : ℕ} → (n ≡ 7 → ⊥) → FirstFault limits a bytes n q → FirstFault limits b bytes n q
   first-too h f =
-      record { before = f .before; from = f .from; good = passed-too (f .good); fault = fault-too (start bytes sizes a (f .good) .1) (f .good) h (f .fault) }
+      record { before = f .before; from = f .from; good = passed-too (f .good); fault = fault-too (start bytes limits a (f .good) .1) (f .good) h (f .fault) }
 
-  pub all-too : {ts : List Tok} → AllPassed sizes a bytes ts → AllPassed sizes b bytes ts
+  pub all-too : {ts : List Tok} → AllPassed limits a bytes ts → AllPassed limits b bytes ts
   all-too {ts} x =
-      let k = known-passed (start bytes sizes a (x .good) .1) (x .good) in
+      let k = known-passed (start bytes limits a (x .good) .1) (x .good) in
       record {
         from = x .from;
         good = passed-too (x .good);
@@ -111,9 +113,9 @@ module _ (bytes : List ℕ) (sizes : Sizes) (a b : Level) (within : a Within b) 
         at-end = x .at-end;
       }
 
-  accepted-too : {lent : List ℕ} {v : Value} → Accepted sizes bytes lent a v → Accepted sizes bytes lent b v
-  accepted-too {lent} {v} x =
-      let k = known-passed (start bytes sizes a (x .passed .good) .1) (x .passed .good) in
+  accepted-too : {v : Value} → Accepted limits bytes a v → Accepted limits bytes b v
+  accepted-too {v} x =
+      let k = known-passed (start bytes limits a (x .passed .good) .1) (x .passed .good) in
       let s = sentenceAlike a b within arrows (yieldValue v []) [] k (record { tree = v; of-level = x .of-level; yields = refl }) in
       record { of-level = subst (λ (w : Value). keeps b w ≡ true) (oneTree (s .tree) v (s .yields)) (s .of-level); passed = all-too (x .passed) }
 
@@ -123,10 +125,10 @@ module _ (bytes : List ℕ) (sizes : Sizes) (a b : Level) (within : a Within b) 
   record NewerFault (ts : List Tok) (p q : ℕ) : Type 0 where
     token : Token.Token
     comes : Comes bytes p (Next.Token token)
-    newer : NewerAt sizes a bytes ts token
+    newer : NewerAt limits a bytes ts token
     place-is : q ≡ token .first
 
-  newer-fault : {ts : List Tok} {p n q : ℕ} → n ≡ 7 → Fault sizes a bytes ts p n q → NewerFault ts p q
+  newer-fault : {ts : List Tok} {p n q : ℕ} → n ≡ 7 → Fault limits a bytes ts p n q → NewerFault ts p q
   newer-fault e (noToken d) = absurd (omega (arith, e))
   newer-fault e (wrong d v w) = absurd (omega (arith, e))
   newer-fault e (wrongEnd d w) = absurd (omega (arith, e))
@@ -134,7 +136,7 @@ module _ (bytes : List ℕ) (sizes : Sizes) (a b : Level) (within : a Within b) 
   newer-fault e (badValue d v w x) = absurd (omega (arith, e))
   newer-fault e (tooDeep d v w x h) = absurd (omega (arith, e))
 
-  pub first-newer : {n q : ℕ} → n ≡ 7 → FirstFault sizes a bytes n q → FirstNewer sizes a bytes q
+  pub first-newer : {n q : ℕ} → n ≡ 7 → FirstFault limits a bytes n q → FirstNewer limits a bytes q
   first-newer {n} {q} e f =
       record {
         here = record { start = at .0; front = at .1; before = f .before; from = f .from; row = row; token = x .token; comes = x .comes; newer = x .newer; place-is = x .place-is };
@@ -142,20 +144,20 @@ module _ (bytes : List ℕ) (sizes : Sizes) (a b : Level) (within : a Within b) 
       }
     where
       at : (s : ℕ) × Front bytes s
-      at = start bytes sizes a (f .good)
+      at = start bytes limits a (f .good)
 
       row : Follow bytes (at .0) (f .before) (f .from)
-      row = follows bytes sizes a (at .1) (f .good)
+      row = follows bytes limits a (at .1) (f .good)
 
       x : NewerFault (f .before) (f .from) q
       x = newer-fault e (f .fault)
 
-      least : {r : ℕ} (y : NewerFrom sizes a bytes r) → Order (length (y .before)) (length (f .before)) → q ≤ r
+      least : {r : ℕ} (y : NewerFrom limits a bytes r) → Order (length (y .before)) (length (f .before)) → q ≤ r
       least y (equal h) =
-          let o = one-row bytes (y .row) (follows bytes sizes a (y .front) (f .good)) h in
+          let o = one-row bytes (y .row) (follows bytes limits a (y .front) (f .good)) h in
           let same : y .token ≡ x .token = pick bytes (subst (λ (p : ℕ). Comes bytes p (Next.Token (y .token))) (o .1) (y .comes)) (x .comes) in
           omega (arith, x .place-is, y .place-is, ap (λ (t : Token.Token). t .first) same)
-      least y (less h) = absurd (went bytes sizes a (y .front) (y .row) (f .good) h .sound 7 (y .token .first) (newer (y .comes) (y .newer)))
+      least y (less h) = absurd (went bytes limits a (y .front) (y .row) (f .good) h .sound 7 (y .token .first) (newer (y .comes) (y .newer)))
       least y (more h) =
           omega (
             arith,
@@ -163,13 +165,13 @@ module _ (bytes : List ℕ) (sizes : Sizes) (a b : Level) (within : a Within b) 
             y .place-is,
             token-forward bytes (x .comes .2),
             comes-forward bytes (y .comes),
-            row-beyond bytes (follows bytes sizes a (y .front) (f .good)) (x .comes) (y .row) h,
+            row-beyond bytes (follows bytes limits a (y .front) (f .good)) (x .comes) (y .row) h,
           )
 
   -- ---- behind it
 
   -- a fault is not before the place from which its token is looked for
-  fault-later : {ts : List Tok} {x p n q : ℕ} → x ≤ p → x ≤ length bytes → Fault sizes b bytes ts p n q → x ≤ q
+  fault-later : {ts : List Tok} {x p n q : ℕ} → x ≤ p → x ≤ length bytes → Fault limits b bytes ts p n q → x ≤ q
   fault-later h g (noToken d) = omega (arith, h, forward (d .0 .takes))
   fault-later h g (wrong d v w) = omega (arith, h, comes-forward bytes d)
   fault-later h g (wrongEnd d w) = omega (arith, g, d .0)
@@ -178,7 +180,7 @@ module _ (bytes : List ℕ) (sizes : Sizes) (a b : Level) (within : a Within b) 
   fault-later h g (tooDeep d v w e k) = omega (arith, h, comes-forward bytes d)
 
   -- where a token comes, a fault is at its first byte
-  fault-there : {ts : List Tok} {p n q : ℕ} {t : Token.Token} → Comes bytes p (Next.Token t) → Fault sizes b bytes ts p n q → t .first ≤ q
+  fault-there : {ts : List Tok} {p n q : ℕ} {t : Token.Token} → Comes bytes p (Next.Token t) → Fault limits b bytes ts p n q → t .first ≤ q
   fault-there {p = p} c (noToken d) = absurd (no-none bytes p c d)
   fault-there c (wrong d v w) = omega (arith, ap (λ (t : Token.Token). t .first) (pick bytes c d))
   fault-there {p = p} c (wrongEnd d w) = absurd (no-end bytes p c d)
@@ -186,77 +188,78 @@ module _ (bytes : List ℕ) (sizes : Sizes) (a b : Level) (within : a Within b) 
   fault-there c (badValue d v w e) = omega (arith, ap (λ (t : Token.Token). t .first) (pick bytes c d))
   fault-there c (tooDeep d v w e k) = omega (arith, ap (λ (t : Token.Token). t .first) (pick bytes c d))
 
-  pub there-or-later : {n m p q : ℕ} → n ≡ 7 → FirstFault sizes a bytes n p → FirstFault sizes b bytes m q → p ≤ q
+  pub there-or-later : {n m p q : ℕ} → n ≡ 7 → FirstFault limits a bytes n p → FirstFault limits b bytes m q → p ≤ q
   there-or-later {n} {m} {p} {q} e f g = by (order (length (g .before)) (length (f .before)))
     where
       at : (s : ℕ) × Front bytes s
-      at = start bytes sizes a (f .good)
+      at = start bytes limits a (f .good)
 
       x : NewerFault (f .before) (f .from) p
       x = newer-fault e (f .fault)
 
       old : Follow bytes (at .0) (f .before) (f .from)
-      old = follows bytes sizes a (at .1) (f .good)
+      old = follows bytes limits a (at .1) (f .good)
 
       new : Follow bytes (at .0) (g .before) (g .from)
-      new = follows bytes sizes b (at .1) (g .good)
+      new = follows bytes limits b (at .1) (g .good)
 
       by : Order (length (g .before)) (length (f .before)) → p ≤ q
       by (equal h) =
           let o = one-row bytes new old h in
-          omega (arith, x .place-is, fault-there (x .comes) (subst (λ (r : ℕ). Fault sizes b bytes (g .before) r m q) (o .1) (g .fault)))
-      by (less h) = absurd (went bytes sizes b (at .1) new (passed-too (f .good)) h .sound m q (g .fault))
+          omega (arith, x .place-is, fault-there (x .comes) (subst (λ (r : ℕ). Fault limits b bytes (g .before) r m q) (o .1) (g .fault)))
+      by (less h) = absurd (went bytes limits b (at .1) new (passed-too (f .good)) h .sound m q (g .fault))
       by (more h) =
           fault-later (omega (arith, x .place-is, token-forward bytes (x .comes .2), row-beyond bytes old (x .comes) new h))
           (omega (arith, x .place-is, x .comes .1)) (g .fault)
 
-  -- ---- the answers
+-- ---- the answers
 
-  module _ (lent : List ℕ) {n m : ℕ} (low : LevelOf n a) (high : LevelOf m b) where
+module _ (bytes : List ℕ) (rules : Rules) (a b : Level) (within : a Within b) (arrows : a leftArrows ≡ b leftArrows) where
+  module _ {n m : ℕ} (low : LevelOf n a) (high : LevelOf m b) where
     -- an answer other than 7 is the higher level's too
-    answer-too : {r : Answer} {t : List ℕ} → Answers sizes bytes lent n r t → (r .number ≡ 7 → ⊥) → Answers sizes bytes lent m r t
+    answer-too : {room : ℕ} {r : Answer} {t : Option Value} → Reading rules bytes room n r t → (r .number ≡ 7 → ⊥) → Reading rules bytes room m r t
     answer-too (noLevel f) h = absurd (f a low)
     answer-too (tooLong l g) h = tooLong high g
     answer-too (notUtf8 l g w) h = notUtf8 high g w
-    answer-too (faulty {n = k} {p = p} l g w d) h = faulty high g w (first-too h (subst (λ (x : Level). FirstFault sizes x bytes k p) (one-level l low) d))
-    answer-too (noRoom {v = v} l g w x k) h = noRoom high g w (accepted-too (subst (λ (y : Level). Accepted sizes bytes lent y v) (one-level l low) x)) k
-    answer-too (accepted {v = v} l g w x k) h = accepted high g w (accepted-too (subst (λ (y : Level). Accepted sizes bytes lent y v) (one-level l low) x)) k
+    answer-too (faulty {n = k} {p = p} l g w d) h = faulty high g w (first-too bytes (rules .limits) a b within arrows h (subst (λ (x : Level). FirstFault (rules .limits) x bytes k p) (one-level l low) d))
+    answer-too (noRoom {v = v} l g w x k) h = noRoom high g w (accepted-too bytes (rules .limits) a b within arrows (subst (λ (y : Level). Accepted (rules .limits) bytes y v) (one-level l low) x)) k
+    answer-too (accepted {v = v} l g w x k) h = accepted high g w (accepted-too bytes (rules .limits) a b within arrows (subst (λ (y : Level). Accepted (rules .limits) bytes y v) (one-level l low) x)) k
 
     -- behind answer 7 stands a text that came as far as its tokens
     record Behind (r : Answer) : Type 0 where
-      fits : length bytes ≤ sizes .text
+      fits : length bytes ≤ rules .text
       formed : WellFormed bytes
-      fault : FirstFault sizes a bytes (r .number) (r .place)
+      fault : FirstFault (rules .limits) a bytes (r .number) (r .place)
 
-    behind : {r : Answer} {t : List ℕ} → Answers sizes bytes lent n r t → r .number ≡ 7 → Behind r
+    behind : {room : ℕ} {r : Answer} {t : Option Value} → Reading rules bytes room n r t → r .number ≡ 7 → Behind r
     behind (noLevel f) h = absurd (omega (arith, h))
     behind (tooLong l g) h = absurd (omega (arith, h))
     behind (notUtf8 l g w) h = absurd (omega (arith, h))
-    behind (faulty {n = k} {p = p} l g w d) h = record { fits = g; formed = w; fault = subst (λ (x : Level). FirstFault sizes x bytes k p) (one-level l low) d }
+    behind (faulty {n = k} {p = p} l g w d) h = record { fits = g; formed = w; fault = subst (λ (x : Level). FirstFault (rules .limits) x bytes k p) (one-level l low) d }
     behind (noRoom l g w x k) h = absurd (omega (arith, h))
     behind (accepted l g w x k) h = absurd (omega (arith, h))
 
-    outcome : {r s : Answer} {u : List ℕ} → r .number ≡ 7 → Behind r → Answers sizes bytes lent m s u → (s .number ≡ 0) ⊎ (r .place ≤ s .place)
+    outcome : {room : ℕ} {r s : Answer} {u : Option Value} → r .number ≡ 7 → Behind r → Reading rules bytes room m s u → (s .number ≡ 0) ⊎ (r .place ≤ s .place)
     outcome e x (noLevel f) = absurd (f b high)
     outcome e x (tooLong l g) = absurd (omega (arith, g, x .fits))
     outcome e x (notUtf8 l g w) = absurd (formed-or-bad bytes (x .formed) w)
     outcome e x (faulty {n = k} {p = p} l g w d) =
-        inr (there-or-later e (x .fault) (subst (λ (y : Level). FirstFault sizes y bytes k p) (one-level l high) d))
+        inr (there-or-later bytes (rules .limits) a b within arrows e (x .fault) (subst (λ (y : Level). FirstFault (rules .limits) y bytes k p) (one-level l high) d))
     outcome e x (noRoom l g w y k) =
-        let f = newer-fault e (x .fault .fault) in
+        let f = newer-fault bytes (rules .limits) a b within arrows e (x .fault .fault) in
         inr (omega (arith, f .place-is, f .comes .1))
     outcome e x (accepted l g w y k) = inl refl
 
     -- two readings of one text at the two levels, with the same words lent
-    pub agree : {r s : Answer} {t u : List ℕ} → Answers sizes bytes lent n r t → Answers sizes bytes lent m s u → Agree sizes a bytes r t s u
-    agree x y =
+    pub agree : (lent : List ℕ) {r s : Answer} {t u : List ℕ} → Answers rules bytes lent n r t → Answers rules bytes lent m s u → Agree (rules .limits) a bytes r t s u
+    agree lent x y =
         record {
-          alike = λ h. one-reading sizes bytes lent (answer-too x h) y;
-          first-newer = λ e. first-newer e (behind x e .fault);
-          there-or-later = λ e. outcome e (behind x e) y;
+          alike = λ h. one-answer rules bytes lent (record { tree = x .tree; reading = answer-too (x .reading) h; left-is = x .left-is }) y;
+          first-newer = λ e. first-newer bytes (rules .limits) a b within arrows e (behind (x .reading) e .fault);
+          there-or-later = λ e. outcome e (behind (x .reading) e) (y .reading);
         }
 
 -- 01's levels 1 and 2
-pub levels-agree : (sizes : Sizes) (bytes lent : List ℕ) {r s : Answer} {t u : List ℕ} →
-    Answers sizes bytes lent 1 r t → Answers sizes bytes lent 2 s u → Agree sizes level1 bytes r t s u
-levels-agree sizes bytes lent x y = agree bytes sizes level1 level2 oneWithinTwo refl lent first second x y
+pub levels-agree : (rules : Rules) (bytes lent : List ℕ) {r s : Answer} {t u : List ℕ} →
+    Answers rules bytes lent 1 r t → Answers rules bytes lent 2 s u → Agree (rules .limits) level1 bytes r t s u
+levels-agree rules bytes lent x y = agree bytes rules level1 level2 oneWithinTwo refl first second lent x y

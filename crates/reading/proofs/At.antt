@@ -27,7 +27,7 @@ use Rattle.grammar.proofs.Machine.{step}
 use Rattle.grammar.proofs.Accepts.{reached, accepts}
 use Rattle.grammar.proofs.Viable.{Wants, wants, wantsValue}
 use Rattle.grammar.proofs.FirstNewer.{wanting, isBeyond, beyondHolds}
-use Rattle.reading.specs.Sizes.{Sizes}
+use Rattle.reading.specs.declared.Limits.{Limits}
 use Rattle.reading.specs.Tokens.{seen, Follow, nothing, next, openMark, openBehind, openFrom, opened}
 use Rattle.reading.specs.Faults.{NewerAt, TooDeep, FirstFault, AllPassed}
 use Rattle.reading.specs.Answers.{Accepted}
@@ -235,14 +235,14 @@ wants-stack h (wants K) = h K refl
 pub not-wanting : {c : Config} → wanting (some c) ≡ false → (K : Stack) → c ≡ want K → ⊥
 not-wanting {c} e K h = clash (ap (λ (x : Config). wanting (some x)) h) e
 
-module _ (sizes : Sizes) (l : Level) (bytes : List ℕ) where
+module _ (limits : Limits) (l : Level) (bytes : List ℕ) where
   pub record At (d p : ℕ) (c : Config) : Type 0 where
     pub tokens : List Tok
-    pub stands : Stands sizes l bytes tokens p c
+    pub stands : Stands limits l bytes tokens p c
     pub deep : opened tokens ≡ d
 
   pub at-start : {p : ℕ} → Front bytes p → At 0 p (want [])
-  at-start f = record { tokens = []; stands = at-front sizes l bytes f; deep = refl }
+  at-start f = record { tokens = []; stands = at-front limits l bytes f; deep = refl }
 
   pub never-bad : {p : ℕ} (t : Token.Token) → Comes bytes p (Next.Token t) → mayBeBad (t .kind) ≡ false → t .bad ≡ false
   never-bad t k e = by (t .bad) refl
@@ -253,17 +253,17 @@ module _ (sizes : Sizes) (l : Level) (bytes : List ℕ) where
 
   -- ---- no newer form
 
-  pub curly-known : {d p : ℕ} {c : Config} (a : At d p c) (t : Token.Token) → classKind (t .kind) ≡ curly → NewerAt sizes l bytes (a .tokens) t → ⊥
-  curly-known a t e n = not-by-class sizes l bytes t (ap mayBegin e) n
+  pub curly-known : {d p : ℕ} {c : Config} (a : At d p c) (t : Token.Token) → classKind (t .kind) ≡ curly → NewerAt limits l bytes (a .tokens) t → ⊥
+  curly-known a t e n = not-by-class limits l bytes t (ap mayBegin e) n
 
   -- what the class tells of a newer form
-  beyond-of : {ts : List Tok} {t : Token.Token} {k : Class} → classKind (t .kind) ≡ k → (n : NewerAt sizes l bytes ts t) →
+  beyond-of : {ts : List Tok} {t : Token.Token} {k : Class} → classKind (t .kind) ≡ k → (n : NewerAt limits l bytes ts t) →
       isBeyond l (tok k (record { first = t .first; end = t .end }) ∷ n .ahead) ≡ true
   beyond-of {ts} {t} e n =
       subst (λ (k : Class). isBeyond l (tok k (record { first = t .first; end = t .end }) ∷ n .ahead) ≡ true) e (beyondHolds l (n .newer .beyond))
 
   pub square-known : {d p : ℕ} {c : Config} (a : At d p c) (t : Token.Token) → classKind (t .kind) ≡ square → l intervals ≡ true →
-      NewerAt sizes l bytes (a .tokens) t → ⊥
+      NewerAt limits l bytes (a .tokens) t → ⊥
   square-known a t e h n = not-both (l intervals) h (beyond-of {t = t} e n)
 
   -- a head that the level lacks, and its `:`
@@ -281,7 +281,7 @@ module _ (sizes : Sizes) (l : Level) (bytes : List ℕ) where
   pub round-known : {d p : ℕ} {c : Config} (a : At d p c) (t : Token.Token) → classKind (t .kind) ≡ round →
       ((u w : Token.Token) (h : Head) → Comes bytes (t .end) (Next.Token u) → u .kind ≡ Kind.Text (Form.HeadWord h) →
       Comes bytes (u .end) (Next.Token w) → w .kind ≡ Kind.Colon → hasHead l h ≡ true) →
-      NewerAt sizes l bytes (a .tokens) t → ⊥
+      NewerAt limits l bytes (a .tokens) t → ⊥
   round-known a t e h n = by (n .follow) (n .newer .beyond) (beyond-of {t = t} e n)
     where
       by : {ts : List Tok} {q : ℕ} → Follow bytes (t .end) ts q → Beyond l (seen t ∷ ts) → isBeyond l (tok round (seen t .at) ∷ ts) ≡ true → ⊥
@@ -293,30 +293,30 @@ module _ (sizes : Sizes) (l : Level) (bytes : List ℕ) where
 
   -- ---- on
 
-  on : {d p n : ℕ} {c c' : Config} (a : At d p c) (t : Token.Token) → Comes bytes p (Next.Token t) → (NewerAt sizes l bytes (a .tokens) t → ⊥) →
-      step l c (seen t) ≡ some c' → t .bad ≡ false → (TooDeep sizes l bytes (a .tokens) t → ⊥) → openBehind (classKind (t .kind)) d ≡ n → At n (t .end) c'
+  on : {d p n : ℕ} {c c' : Config} (a : At d p c) (t : Token.Token) → Comes bytes p (Next.Token t) → (NewerAt limits l bytes (a .tokens) t → ⊥) →
+      step l c (seen t) ≡ some c' → t .bad ≡ false → (TooDeep limits l bytes (a .tokens) t → ⊥) → openBehind (classKind (t .kind)) d ≡ n → At n (t .end) c'
   on {d} {p} {n} {c} {c'} a t k v e b h g =
       record {
         tokens = a .tokens ++ (seen t ∷ []);
-        stands = goes-on sizes l bytes (a .stands) k v e b h;
+        stands = goes-on limits l bytes (a .stands) k v e b h;
         deep = openFrom-one 0 (a .tokens) (seen t) ∙ ap (openBehind (classKind (t .kind))) (a .deep) ∙ g;
       }
 
   -- a token that opens no bracket is not too deep
-  not-deeper : {ts : List Tok} (t : Token.Token) → openBehind (classKind (t .kind)) (opened ts) ≤ opened ts → TooDeep sizes l bytes ts t → ⊥
+  not-deeper : {ts : List Tok} (t : Token.Token) → openBehind (classKind (t .kind)) (opened ts) ≤ opened ts → TooDeep limits l bytes ts t → ⊥
   not-deeper {ts} t h x = omega (arith, h, openFrom-one 0 ts (seen t), x .deeper)
 
   pub sign-on : {d p : ℕ} {c c' : Config} → At d p c → (t : Token.Token) → Comes bytes p (Next.Token t) → (m : Mark) → classKind (t .kind) ≡ mark m →
       step l c (seen t) ≡ some c' → At (openMark m d) (t .end) c'
   sign-on {d} a t k m e s =
-      on a t k (λ n. not-by-class sizes l bytes t (ap mayBegin e) n) s (never-bad t k (ap mayBeBad (class-kind (t .kind) e) ∙ mark-good m))
+      on a t k (λ n. not-by-class limits l bytes t (ap mayBegin e) n) s (never-bad t k (ap mayBeBad (class-kind (t .kind) e) ∙ mark-good m))
       (λ x. not-deeper t (subst (λ (y : Class). openBehind y (opened (a .tokens)) ≤ opened (a .tokens)) (sym e) (mark-less m (opened (a .tokens)))) x)
       (ap (λ (y : Class). openBehind y d) e)
 
   pub literal-on : {d p : ℕ} {c c' : Config} → At d p c → (t : Token.Token) → Comes bytes p (Next.Token t) → plain (classKind (t .kind)) ≡ true →
       t .bad ≡ false → step l c (seen t) ≡ some c' → At d (t .end) c'
   literal-on {d} a t k e b s =
-      on a t k (λ n. not-by-class sizes l bytes t (plain-known (classKind (t .kind)) e) n) s b
+      on a t k (λ n. not-by-class limits l bytes t (plain-known (classKind (t .kind)) e) n) s b
       (λ x. not-deeper t (omega (arith, plain-same (classKind (t .kind)) (opened (a .tokens)) e)) x)
       (plain-same (classKind (t .kind)) d e)
 
@@ -328,31 +328,31 @@ module _ (sizes : Sizes) (l : Level) (bytes : List ℕ) where
   one-more ts t e = openFrom-one 0 ts (seen t) ∙ opens-more (classKind (t .kind)) (opened ts) e
 
   pub open-on : {d p : ℕ} {c c' : Config} (a : At d p c) (t : Token.Token) → Comes bytes p (Next.Token t) → opens (classKind (t .kind)) ≡ true →
-      (NewerAt sizes l bytes (a .tokens) t → ⊥) → d < sizes .depth → step l c (seen t) ≡ some c' → At (suc d) (t .end) c'
+      (NewerAt limits l bytes (a .tokens) t → ⊥) → d < limits .depth → step l c (seen t) ≡ some c' → At (suc d) (t .end) c'
   open-on {d} a t k e v h s =
       on a t k v s (bracket-good t k e) (λ x. omega (arith, one-more (a .tokens) t e, a .deep, h, x .beyond)) (opens-more (classKind (t .kind)) d e)
 
   -- ---- the refusals
 
-  pub none-here : {d p : ℕ} {c : Config} → At d p c → (q : ℕ) → Comes bytes p (Next.NoToken q) → FirstFault sizes l bytes 4 q
-  none-here a q k = no-token sizes l bytes (a .stands) k
+  pub none-here : {d p : ℕ} {c : Config} → At d p c → (q : ℕ) → Comes bytes p (Next.NoToken q) → FirstFault limits l bytes 4 q
+  none-here a q k = no-token limits l bytes (a .stands) k
 
   pub sign-wrong : {d p : ℕ} {c : Config} → At d p c → (t : Token.Token) → Comes bytes p (Next.Token t) → (m : Mark) → classKind (t .kind) ≡ mark m →
-      step l c (seen t) ≡ none → FirstFault sizes l bytes 6 (t .first)
-  sign-wrong a t k m e s = wrong-place sizes l bytes (a .stands) k (λ n. not-by-class sizes l bytes t (ap mayBegin e) n) s
+      step l c (seen t) ≡ none → FirstFault limits l bytes 6 (t .first)
+  sign-wrong a t k m e s = wrong-place limits l bytes (a .stands) k (λ n. not-by-class limits l bytes t (ap mayBegin e) n) s
 
   pub not-here : {d p : ℕ} {c : Config} → At d p c → (t : Token.Token) → Comes bytes p (Next.Token t) → ((K : Stack) → c ≡ want K → ⊥) →
-      step l c (seen t) ≡ none → FirstFault sizes l bytes 6 (t .first)
-  not-here a t k h s = wrong-place sizes l bytes (a .stands) k (λ n. not-by-place sizes l bytes (a .stands) (λ w. wants-stack h w) t n) s
+      step l c (seen t) ≡ none → FirstFault limits l bytes 6 (t .first)
+  not-here a t k h s = wrong-place limits l bytes (a .stands) k (λ n. not-by-place limits l bytes (a .stands) (λ w. wants-stack h w) t n) s
 
-  pub end-here : {d p : ℕ} {c : Config} → At d p c → (q : ℕ) → Comes bytes p (Next.End q) → whole c ≡ false → FirstFault sizes l bytes 6 q
-  end-here a q k e = wrong-end sizes l bytes (a .stands) k (λ f. clash (final-whole f) e)
+  pub end-here : {d p : ℕ} {c : Config} → At d p c → (q : ℕ) → Comes bytes p (Next.End q) → whole c ≡ false → FirstFault limits l bytes 6 q
+  end-here a q k e = wrong-end limits l bytes (a .stands) k (λ f. clash (final-whole f) e)
 
   -- a newer form where a value is wanted
   newer-here : {d p q : ℕ} {c : Config} {K : Stack} {ts : List Tok} → At d p c → c ≡ want K → (t : Token.Token) → Comes bytes p (Next.Token t) →
-      Follow bytes (t .end) ts q → Beyond l (seen t ∷ ts) → FirstFault sizes l bytes 7 (t .first)
+      Follow bytes (t .end) ts q → Beyond l (seen t ∷ ts) → FirstFault limits l bytes 7 (t .first)
   newer-here {q = q} {c = c} {K} {ts} a e t k f b =
-      newer-form sizes l bytes (a .stands) k
+      newer-form limits l bytes (a .stands) k
       (record {
         ahead = ts;
         end = q;
@@ -361,16 +361,16 @@ module _ (sizes : Sizes) (l : Level) (bytes : List ℕ) where
       })
 
   pub later-here : {d p : ℕ} {c : Config} {K : Stack} → At d p c → c ≡ want K → (t : Token.Token) → Comes bytes p (Next.Token t) →
-      t .kind ≡ Kind.Later → FirstFault sizes l bytes 7 (t .first)
+      t .kind ≡ Kind.Later → FirstFault limits l bytes 7 (t .first)
   later-here a e t k h = newer-here a e t k nothing (subst (λ (x : Kind). Beyond l (tok (classKind x) (seen t .at) ∷ [])) (sym h) laterLiteral)
 
   pub bracket-newer : {d p : ℕ} {c : Config} {K : Stack} → At d p c → c ≡ want K → (t : Token.Token) → Comes bytes p (Next.Token t) →
-      classKind (t .kind) ≡ square → l intervals ≡ false → FirstFault sizes l bytes 7 (t .first)
+      classKind (t .kind) ≡ square → l intervals ≡ false → FirstFault limits l bytes 7 (t .first)
   bracket-newer a e t k h i = newer-here a e t k nothing (subst (λ (x : Class). Beyond l (tok x (seen t .at) ∷ [])) (sym h) (newerBracket i))
 
   pub head-newer : {d p : ℕ} {c : Config} {K : Stack} → At d p c → c ≡ want K → (t u w : Token.Token) (h : Head) →
       Comes bytes p (Next.Token t) → classKind (t .kind) ≡ round → Comes bytes (t .end) (Next.Token u) → u .kind ≡ Kind.Text (Form.HeadWord h) →
-      Comes bytes (u .end) (Next.Token w) → w .kind ≡ Kind.Colon → hasHead l h ≡ false → FirstFault sizes l bytes 7 (t .first)
+      Comes bytes (u .end) (Next.Token w) → w .kind ≡ Kind.Colon → hasHead l h ≡ false → FirstFault limits l bytes 7 (t .first)
   head-newer a e t u w h k x k' x' k'' x'' i =
       newer-here a e t k (next k' (next k'' nothing))
       (subst (λ (y : Class). Beyond l (tok y (seen t .at) ∷ seen u ∷ seen w ∷ [])) (sym x)
@@ -378,22 +378,22 @@ module _ (sizes : Sizes) (l : Level) (bytes : List ℕ) where
       (subst (λ (y : Kind). Beyond l (tok round (seen t .at) ∷ tok (text (headWord h)) (seen u .at) ∷ tok (classKind y) (seen w .at) ∷ [])) (sym x'') (newerHead i))))
 
   pub bad-here : {d p : ℕ} {c c' : Config} → At d p c → (t : Token.Token) → Comes bytes p (Next.Token t) → plain (classKind (t .kind)) ≡ true →
-      t .bad ≡ true → step l c (seen t) ≡ some c' → FirstFault sizes l bytes 5 (t .first)
-  bad-here a t k e b s = bad-value sizes l bytes (a .stands) k (λ n. not-by-class sizes l bytes t (plain-known (classKind (t .kind)) e) n) s b
+      t .bad ≡ true → step l c (seen t) ≡ some c' → FirstFault limits l bytes 5 (t .first)
+  bad-here a t k e b s = bad-value limits l bytes (a .stands) k (λ n. not-by-class limits l bytes t (plain-known (classKind (t .kind)) e) n) s b
 
   pub deep-here : {d p : ℕ} {c c' : Config} (a : At d p c) (t : Token.Token) → Comes bytes p (Next.Token t) → opens (classKind (t .kind)) ≡ true →
-      (NewerAt sizes l bytes (a .tokens) t → ⊥) → sizes .depth ≤ d → step l c (seen t) ≡ some c' → FirstFault sizes l bytes 11 (t .first)
+      (NewerAt limits l bytes (a .tokens) t → ⊥) → limits .depth ≤ d → step l c (seen t) ≡ some c' → FirstFault limits l bytes 11 (t .first)
   deep-here a t k e v h s =
       let more = one-more (a .tokens) t e in
-      too-deep sizes l bytes (a .stands) k v s (bracket-good t k e)
+      too-deep limits l bytes (a .stands) k v s (bracket-good t k e)
       (record { deeper = omega (arith, more); beyond = omega (arith, more, a .deep, h) })
 
   -- ---- the end of a whole value
 
-  pub accepted : {d p : ℕ} {v : Value} (lent : List ℕ) → At d p (have v []) → (q : ℕ) → Comes bytes p (Next.End q) →
-      Accepted sizes bytes lent l v × (q ≡ length bytes)
-  accepted {d} {p} {v} lent a q k =
+  pub accepted : {d p : ℕ} {v : Value} → At d p (have v []) → (q : ℕ) → Comes bytes p (Next.End q) →
+      Accepted limits bytes l v × (q ≡ length bytes)
+  accepted {d} {p} {v} a q k =
       let g = reached l (a .tokens) (have v []) (a .stands .reached) in
-      let all : AllPassed sizes l bytes (a .tokens) =
+      let all : AllPassed limits l bytes (a .tokens) =
       record { from = p; good = a .stands .good; at-end = (refl, k .1, k .2, k .3); ends = λ w. w .none (accepts l (a .tokens) v (a .stands .reached)) } in
-      (record { of-level = g .level; passed = subst (AllPassed sizes l bytes) (sym (g .reads [] ∙ append-nil (a .tokens))) all }, k .0)
+      (record { of-level = g .level; passed = subst (AllPassed limits l bytes) (sym (g .reads [] ∙ append-nil (a .tokens))) all }, k .0)

@@ -20,7 +20,7 @@ use Rattle.grammar.proofs.Machine.{step, runs}
 use Rattle.grammar.proofs.Viable as Viable
 use Rattle.grammar.proofs.Viable.{Final, final, oneMore, stuckWrong, wrongStuck, finalSentence}
 use Rattle.grammar.proofs.FirstNewer.{headNext, isNewer, newerHolds, holdsNewer, newerFurther}
-use Rattle.reading.specs.Sizes.{Sizes}
+use Rattle.reading.specs.declared.Limits.{Limits}
 use Rattle.reading.specs.Tokens.{seen, Follow, nothing, next, opened}
 use Rattle.reading.specs.Faults.{NewerAt, TooDeep, Fault, noToken, wrong, wrongEnd, newer, badValue, tooDeep}
 use Rattle.reading.proofs.Rows.{Order, equal, less, more, order, pick, no-end, no-none}
@@ -50,21 +50,21 @@ whole-final (wantCount c f v k K) e = absurd (false≢true e)
 whole-final (haveItem c f i K) e = absurd (false≢true e)
 whole-final (wantClose c K) e = absurd (false≢true e)
 
-module _ (bytes : List ℕ) (sizes : Sizes) (l : Level) where
+module _ (bytes : List ℕ) (limits : Limits) (l : Level) where
   -- a token that fails no test has no fault
-  pub faultless : {ts : List Tok} {p : ℕ} {t : Token.Token} → Comes bytes p (Next.Token t) → (NewerAt sizes l bytes ts t → ⊥) → (Wrong l ts (seen t) → ⊥) → (t .bad ≡ true → ⊥) → (TooDeep sizes l bytes ts t → ⊥) → (n q : ℕ) → Fault sizes l bytes ts p n q → ⊥
+  pub faultless : {ts : List Tok} {p : ℕ} {t : Token.Token} → Comes bytes p (Next.Token t) → (NewerAt limits l bytes ts t → ⊥) → (Wrong l ts (seen t) → ⊥) → (t .bad ≡ true → ⊥) → (TooDeep limits l bytes ts t → ⊥) → (n q : ℕ) → Fault limits l bytes ts p n q → ⊥
   faultless {ts} {p} {t} c v w b d n q (noToken a) = no-none bytes p c a
   faultless {ts} {p} {t} c v w b d n q (wrong a v' w') = w (subst (λ (x : Token.Token). Wrong l ts (seen x)) (pick bytes a c) w')
   faultless {ts} {p} {t} c v w b d n q (wrongEnd a w') = no-end bytes p c a
-  faultless {ts} {p} {t} c v w b d n q (newer a v') = v (subst (NewerAt sizes l bytes ts) (pick bytes a c) v')
+  faultless {ts} {p} {t} c v w b d n q (newer a v') = v (subst (NewerAt limits l bytes ts) (pick bytes a c) v')
   faultless {ts} {p} {t} c v w b d n q (badValue a v' w' b') = b (subst (λ (x : Token.Token). x .bad ≡ true) (pick bytes a c) b')
-  faultless {ts} {p} {t} c v w b d n q (tooDeep a v' w' b' d') = d (subst (TooDeep sizes l bytes ts) (pick bytes a c) d')
+  faultless {ts} {p} {t} c v w b d n q (tooDeep a v' w' b' d') = d (subst (TooDeep limits l bytes ts) (pick bytes a c) d')
 
 -- no step is no configuration
 pub no-step : (d : Config) → none ≡ some d → ⊥
 no-step d x = let z : _≡_ {A = ℕ} 0 1 = cc in omega arith
 
-module _ (bytes : List ℕ) (comes : (p : ℕ) → (r : Next) × Comes bytes p r) (sizes : Sizes) (l : Level) where
+module _ (bytes : List ℕ) (comes : (p : ℕ) → (r : Next) × Comes bytes p r) (limits : Limits) (l : Level) where
   -- ---- what stands behind a token: two tokens are enough to see a head
 
   record Ahead (p : ℕ) : Type 0 where
@@ -117,54 +117,54 @@ module _ (bytes : List ℕ) (comes : (p : ℕ) → (r : Next) × Comes bytes p r
 
   -- ---- the tests at one token
 
-  newer-or-not : (ts : List Tok) (t : Token.Token) → NewerAt sizes l bytes ts t ⊎ (NewerAt sizes l bytes ts t → ⊥)
+  newer-or-not : (ts : List Tok) (t : Token.Token) → NewerAt limits l bytes ts t ⊎ (NewerAt limits l bytes ts t → ⊥)
   newer-or-not ts t = go (ahead (t .end))
     where
-      go : Ahead (t .end) → NewerAt sizes l bytes ts t ⊎ (NewerAt sizes l bytes ts t → ⊥)
+      go : Ahead (t .end) → NewerAt limits l bytes ts t ⊎ (NewerAt limits l bytes ts t → ⊥)
       go a = by (isNewer l ts (seen t) (a .tokens)) refl
         where
-          by : (b : Bool) → isNewer l ts (seen t) (a .tokens) ≡ b → NewerAt sizes l bytes ts t ⊎ (NewerAt sizes l bytes ts t → ⊥)
+          by : (b : Bool) → isNewer l ts (seen t) (a .tokens) ≡ b → NewerAt limits l bytes ts t ⊎ (NewerAt limits l bytes ts t → ⊥)
           by true e = inl (record { ahead = a .tokens; end = a .end; follow = a .follow; newer = holdsNewer l ts (seen t) (a .tokens) e })
           by false e =
               inr λ n.
               clash (newerHolds l ts (seen t) (a .tokens) (newerFurther l ts (seen t) (n .ahead) (a .tokens) (λ h. a .most (n .follow) h) (n .newer))) e
 
-  deep-or-not : (ts : List Tok) (t : Token.Token) → TooDeep sizes l bytes ts t ⊎ (TooDeep sizes l bytes ts t → ⊥)
+  deep-or-not : (ts : List Tok) (t : Token.Token) → TooDeep limits l bytes ts t ⊎ (TooDeep limits l bytes ts t → ⊥)
   deep-or-not ts t = deeper (order (opened ts) (opened (ts ++ (seen t ∷ []))))
     where
-      beyond : opened ts < opened (ts ++ (seen t ∷ [])) → Order (sizes .depth) (opened (ts ++ (seen t ∷ []))) → TooDeep sizes l bytes ts t ⊎ (TooDeep sizes l bytes ts t → ⊥)
+      beyond : opened ts < opened (ts ++ (seen t ∷ [])) → Order (limits .depth) (opened (ts ++ (seen t ∷ []))) → TooDeep limits l bytes ts t ⊎ (TooDeep limits l bytes ts t → ⊥)
       beyond h (equal e) = inr λ d. omega (arith, e, d .beyond)
       beyond h (less g) = inl (record { deeper = h; beyond = g })
       beyond h (more g) = inr λ d. omega (arith, g, d .beyond)
 
-      deeper : Order (opened ts) (opened (ts ++ (seen t ∷ []))) → TooDeep sizes l bytes ts t ⊎ (TooDeep sizes l bytes ts t → ⊥)
+      deeper : Order (opened ts) (opened (ts ++ (seen t ∷ []))) → TooDeep limits l bytes ts t ⊎ (TooDeep limits l bytes ts t → ⊥)
       deeper (equal e) = inr λ d. omega (arith, e, d .deeper)
-      deeper (less h) = beyond h (order (sizes .depth) (opened (ts ++ (seen t ∷ []))))
+      deeper (less h) = beyond h (order (limits .depth) (opened (ts ++ (seen t ∷ []))))
       deeper (more h) = inr λ d. omega (arith, h, d .deeper)
 
   -- ---- the decision
 
   pub data Decided (ts : List Tok) (p : ℕ) : Type 0 where
-    stops : (n q : ℕ) → Fault sizes l bytes ts p n q → Decided ts p
+    stops : (n q : ℕ) → Fault limits l bytes ts p n q → Decided ts p
     ends : (q : ℕ) → Comes bytes p (Next.End q) → Sentence l ts → Decided ts p
-    goes : (t : Token.Token) (d : Config) → Comes bytes p (Next.Token t) → ((n q : ℕ) → Fault sizes l bytes ts p n q → ⊥) → runs l (ts ++ (seen t ∷ [])) ≡ some d → Decided ts p
+    goes : (t : Token.Token) (d : Config) → Comes bytes p (Next.Token t) → ((n q : ℕ) → Fault limits l bytes ts p n q → ⊥) → runs l (ts ++ (seen t ∷ [])) ≡ some d → Decided ts p
 
   pub decided : (ts : List Tok) (p : ℕ) (c : Config) → runs l ts ≡ some c → Decided ts p
   decided ts p c e = go (comes p .0) (comes p .1)
     where
-      shallow : (t : Token.Token) (d : Config) → Comes bytes p (Next.Token t) → (NewerAt sizes l bytes ts t → ⊥) → step l c (seen t) ≡ some d → (Wrong l ts (seen t) → ⊥) → (t .bad ≡ true → ⊥) → TooDeep sizes l bytes ts t ⊎ (TooDeep sizes l bytes ts t → ⊥) → Decided ts p
+      shallow : (t : Token.Token) (d : Config) → Comes bytes p (Next.Token t) → (NewerAt limits l bytes ts t → ⊥) → step l c (seen t) ≡ some d → (Wrong l ts (seen t) → ⊥) → (t .bad ≡ true → ⊥) → TooDeep limits l bytes ts t ⊎ (TooDeep limits l bytes ts t → ⊥) → Decided ts p
       shallow t d a v s w b (inl x) = stops 11 (t .first) (tooDeep a v w b x)
-      shallow t d a v s w b (inr x) = goes t d a (λ n q f. faultless bytes sizes l a v w b x n q f) (oneMore l ts c (seen t) e ∙ s)
+      shallow t d a v s w b (inr x) = goes t d a (λ n q f. faultless bytes limits l a v w b x n q f) (oneMore l ts c (seen t) e ∙ s)
 
-      valued : (t : Token.Token) (d : Config) → Comes bytes p (Next.Token t) → (NewerAt sizes l bytes ts t → ⊥) → step l c (seen t) ≡ some d → (Wrong l ts (seen t) → ⊥) → (b : Bool) → t .bad ≡ b → Decided ts p
+      valued : (t : Token.Token) (d : Config) → Comes bytes p (Next.Token t) → (NewerAt limits l bytes ts t → ⊥) → step l c (seen t) ≡ some d → (Wrong l ts (seen t) → ⊥) → (b : Bool) → t .bad ≡ b → Decided ts p
       valued t d a v s w true b = stops 5 (t .first) (badValue a v w b)
       valued t d a v s w false b = shallow t d a v s w (λ x. clash x b) (deep-or-not ts t)
 
-      stepped : (t : Token.Token) → Comes bytes p (Next.Token t) → (NewerAt sizes l bytes ts t → ⊥) → (m : Option Config) → step l c (seen t) ≡ m → Decided ts p
+      stepped : (t : Token.Token) → Comes bytes p (Next.Token t) → (NewerAt limits l bytes ts t → ⊥) → (m : Option Config) → step l c (seen t) ≡ m → Decided ts p
       stepped t a v none s = stops 6 (t .first) (wrong a v (stuckWrong l ts c (seen t) e s))
       stepped t a v (some d) s = valued t d a v s (λ w. no-step d (sym (wrongStuck l ts c (seen t) e w) ∙ s)) (t .bad) refl
 
-      placed : (t : Token.Token) → Comes bytes p (Next.Token t) → NewerAt sizes l bytes ts t ⊎ (NewerAt sizes l bytes ts t → ⊥) → Decided ts p
+      placed : (t : Token.Token) → Comes bytes p (Next.Token t) → NewerAt limits l bytes ts t ⊎ (NewerAt limits l bytes ts t → ⊥) → Decided ts p
       placed t a (inl v) = stops 7 (t .first) (newer a v)
       placed t a (inr v) = stepped t a v (step l c (seen t)) refl
 

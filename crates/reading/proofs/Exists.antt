@@ -3,7 +3,7 @@
 use mathlib.Core.Path.{_≡_, refl, sym, subst}
 use mathlib.Core.Logic.{_⊎_, inl, inr}
 use mathlib.Core.List.{List, [], _∷_, _++_}
-use mathlib.Core.Option.{some}
+use mathlib.Core.Option.{Option, some}
 use Prim.Native.Nat.{ℕ, zero, suc, _+_, _≤_, _<_}
 use native.Mathlib.Omega.{arith}
 use lib.ListN.{length}
@@ -25,12 +25,14 @@ use Rattle.grammar.specs.Nodes.{table}
 use Rattle.grammar.proofs.Frames.{Config, want}
 use Rattle.grammar.proofs.Machine.{runs}
 use Rattle.reading.specs.declared.Answer.{Answer}
-use Rattle.reading.specs.Sizes.{Sizes, room}
+use Rattle.reading.specs.declared.Limits.{Limits}
+use Rattle.reading.specs.declared.Rules.{Rules}
+use Rattle.reading.specs.Sizes.{room}
 use Rattle.reading.specs.Tokens.{seen}
 use Rattle.reading.specs.Faults.{Passed, begun, passed, FirstFault, AllPassed}
-use Rattle.reading.specs.Answers.{LevelOf, first, second, Accepted, Answers, noLevel, tooLong, notUtf8, faulty, noRoom, accepted}
+use Rattle.reading.specs.Answers.{LevelOf, first, second, Accepted, Reading, Answers, noLevel, tooLong, notUtf8, faulty, noRoom, accepted}
 use Rattle.reading.proofs.Rows.{Order, equal, less, more, order, comes-forward}
-use Rattle.reading.proofs.Unique.{one-reading}
+use Rattle.reading.proofs.Unique.{one-answer}
 use Rattle.reading.proofs.Decide.{Decided, stops, ends, goes, decided}
 
 -- ---- the level of a number
@@ -55,23 +57,23 @@ level-or-not (suc (suc (suc n))) = inr λ l o. none (a-level o)
 
 -- ---- the tokens, from left to right
 
-module _ (sizes : Sizes) (bytes : List ℕ) (comes : (p : ℕ) → (r : Next) × Comes bytes p r) (l : Level) where
+module _ (limits : Limits) (bytes : List ℕ) (comes : (p : ℕ) → (r : Next) × Comes bytes p r) (l : Level) where
   data Outcome : Type 0 where
-    stopped : (n q : ℕ) → FirstFault sizes l bytes n q → Outcome
-    finished : {ts : List Tok} → Sentence l ts → AllPassed sizes l bytes ts → Outcome
+    stopped : (n q : ℕ) → FirstFault limits l bytes n q → Outcome
+    finished : {ts : List Tok} → Sentence l ts → AllPassed limits l bytes ts → Outcome
 
   -- one token, and then what follows it
-  one-more : (ts : List Tok) (p : ℕ) (c : Config) → Passed sizes l bytes ts p → runs l ts ≡ some c →
-      ((t : Token.Token) (d : Config) → Comes bytes p (Next.Token t) → Passed sizes l bytes (ts ++ (seen t ∷ [])) (t .end) → runs l (ts ++ (seen t ∷ [])) ≡ some d → Outcome) → Outcome
-  one-more ts p c a e again = go (decided bytes comes sizes l ts p c e)
+  one-more : (ts : List Tok) (p : ℕ) (c : Config) → Passed limits l bytes ts p → runs l ts ≡ some c →
+      ((t : Token.Token) (d : Config) → Comes bytes p (Next.Token t) → Passed limits l bytes (ts ++ (seen t ∷ [])) (t .end) → runs l (ts ++ (seen t ∷ [])) ≡ some d → Outcome) → Outcome
+  one-more ts p c a e again = go (decided bytes comes limits l ts p c e)
     where
-      go : Decided bytes comes sizes l ts p → Outcome
+      go : Decided bytes comes limits l ts p → Outcome
       go (stops n q f) = stopped n q (record { before = ts; from = p; good = a; fault = f })
       go (ends q b s) = finished s (record { from = p; good = a; ends = λ w. w .none s; at-end = (refl, b .1, b .2, b .3) })
       go (goes t d b f r) = again t d b (passed a b f) r
 
   -- each token takes a byte at least, so the bytes left are tokens enough
-  onward : (left : ℕ) (ts : List Tok) (p : ℕ) (c : Config) → length bytes ≤ p + left → Passed sizes l bytes ts p → runs l ts ≡ some c → Outcome
+  onward : (left : ℕ) (ts : List Tok) (p : ℕ) (c : Config) → length bytes ≤ p + left → Passed limits l bytes ts p → runs l ts ≡ some c → Outcome
   onward zero ts p c h a e = one-more ts p c a e (λ t d b g r. absurd (omega (arith, h, comes-forward bytes b, b .1)))
   onward (suc left) ts p c h a e =
       one-more ts p c a e (λ t d b g r. onward left (ts ++ (seen t ∷ [])) (t .end) d (omega (arith, h, comes-forward bytes b, token-forward bytes (b .2))) g r)
@@ -90,40 +92,43 @@ everywhere bytes f p = go (order p (length bytes))
 
 -- ---- the answer
 
-module _ (sizes : Sizes) (bytes lent : List ℕ) where
+module _ (rules : Rules) (bytes lent : List ℕ) where
   -- some answer
   abbrev pub Answered : ℕ → Type 0
-  Answered number = (r : Answer) × (t : List ℕ) × Answers sizes bytes lent number r t
+  Answered number = (r : Answer) × (t : List ℕ) × Answers rules bytes lent number r t
 
   module _ (comes : (p : ℕ) → (r : Next) × Comes bytes p r) (encoded : (r : Encoding) × Encoded bytes r) (front : (p : ℕ) × Front bytes p) where
     pub some-reading : (number : ℕ) → Answered number
     some-reading number = level (level-or-not number)
       where
-        roomy : {l : Level} → LevelOf number l → length bytes ≤ sizes .text → WellFormed bytes → (v : Value) → Accepted sizes bytes lent l v → Order (room sizes (length lent)) (length (table v)) → Answered number
-        roomy o h w v a (equal e) = (_, _, accepted o h w a (omega (arith, e)))
-        roomy o h w v a (less g) = (_, _, noRoom o h w a g)
-        roomy o h w v a (more g) = (_, _, accepted o h w a (omega (arith, g)))
+        given : {r : Answer} {t : Option Value} → Reading rules bytes (room rules (length lent)) number r t → Answered number
+        given x = (_, _, record { tree = _; reading = x; left-is = refl })
 
-        judged : {l : Level} → LevelOf number l → length bytes ≤ sizes .text → WellFormed bytes → Outcome sizes bytes comes l → Answered number
-        judged o h w (stopped n q f) = (_, _, faulty o h w f)
+        roomy : {l : Level} → LevelOf number l → length bytes ≤ rules .text → WellFormed bytes → (v : Value) → Accepted (rules .limits) bytes l v → Order (room rules (length lent)) (length (table v)) → Answered number
+        roomy o h w v a (equal e) = given (accepted o h w a (omega (arith, e)))
+        roomy o h w v a (less g) = given (noRoom o h w a g)
+        roomy o h w v a (more g) = given (accepted o h w a (omega (arith, g)))
+
+        judged : {l : Level} → LevelOf number l → length bytes ≤ rules .text → WellFormed bytes → Outcome (rules .limits) bytes comes l → Answered number
+        judged o h w (stopped n q f) = given (faulty o h w f)
         judged {l} o h w (finished {ts} s a) =
-            roomy o h w (s .tree) (record { of-level = s .of-level; passed = subst (AllPassed sizes l bytes) (sym (s .yields)) a }) (order (room sizes (length lent)) (length (table (s .tree))))
+            roomy o h w (s .tree) (record { of-level = s .of-level; passed = subst (AllPassed (rules .limits) l bytes) (sym (s .yields)) a }) (order (room rules (length lent)) (length (table (s .tree))))
 
-        formed : {l : Level} → LevelOf number l → length bytes ≤ sizes .text → (r : Encoding) → Encoded bytes r → Answered number
-        formed {l} o h Encoding.WellFormed w = judged o h w (outcome sizes bytes comes l (front .0) (front .1))
-        formed o h (Encoding.BadAt p) b = (_, _, notUtf8 o h b)
+        formed : {l : Level} → LevelOf number l → length bytes ≤ rules .text → (r : Encoding) → Encoded bytes r → Answered number
+        formed {l} o h Encoding.WellFormed w = judged o h w (outcome (rules .limits) bytes comes l (front .0) (front .1))
+        formed o h (Encoding.BadAt p) b = given (notUtf8 o h b)
 
-        long : {l : Level} → LevelOf number l → Order (sizes .text) (length bytes) → Answered number
+        long : {l : Level} → LevelOf number l → Order (rules .text) (length bytes) → Answered number
         long o (equal e) = formed o (omega (arith, e)) (encoded .0) (encoded .1)
-        long o (less h) = (_, _, tooLong o h)
+        long o (less h) = given (tooLong o h)
         long o (more h) = formed o (omega (arith, h)) (encoded .0) (encoded .1)
 
         level : ((l : Level) × LevelOf number l) ⊎ ((l : Level) → LevelOf number l → ⊥) → Answered number
-        level (inl x) = long (x .1) (order (sizes .text) (length bytes))
-        level (inr f) = (_, _, noLevel f)
+        level (inl x) = long (x .1) (order (rules .text) (length bytes))
+        level (inr f) = given (noLevel f)
 
     -- and it is the one
-    pub exactly-one : (number : ℕ) → (r : Answer) × (t : List ℕ) × Answers sizes bytes lent number r t × ((s : Answer) (u : List ℕ) → Answers sizes bytes lent number s u → (r ≡ s) × (t ≡ u))
+    pub exactly-one : (number : ℕ) → (r : Answer) × (t : List ℕ) × Answers rules bytes lent number r t × ((s : Answer) (u : List ℕ) → Answers rules bytes lent number s u → (r ≡ s) × (t ≡ u))
     exactly-one number =
         let x = some-reading number in
-        (x .0, x .1, x .2, λ s u a. one-reading sizes bytes lent (x .2) a)
+        (x .0, x .1, x .2, λ s u a. one-answer rules bytes lent (x .2) a)

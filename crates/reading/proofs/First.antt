@@ -14,16 +14,16 @@ use Rattle.lexicon.proofs.Determined.{one-front}
 use Rattle.grammar.specs.Tokens.{Tok}
 use Rattle.grammar.specs.Level.{Level}
 use Rattle.grammar.specs.Place.{Wrong, WrongEnd}
-use Rattle.reading.specs.Sizes.{Sizes}
+use Rattle.reading.specs.declared.Limits.{Limits}
 use Rattle.reading.specs.Tokens.{seen, Follow, nothing, next}
 use Rattle.reading.specs.Faults.{NewerAt, Fault, noToken, wrong, wrongEnd, newer, badValue, tooDeep, Passed, begun, passed, FirstFault, AllPassed}
 use Rattle.reading.proofs.Rows.{Order, equal, less, more, order, pick, same-place, no-end, no-none, none-end, one-row, append}
 
 module _ (bytes : List ℕ) where
-  module _ (sizes : Sizes) (l : Level) where
+  module _ (limits : Limits) (l : Level) where
     -- ---- at one token there is one fault at most
 
-    pub one-fault : {ts : List Tok} {p m n x y : ℕ} → Fault sizes l bytes ts p m x → Fault sizes l bytes ts p n y → (m ≡ n) × (x ≡ y)
+    pub one-fault : {ts : List Tok} {p m n x y : ℕ} → Fault limits l bytes ts p m x → Fault limits l bytes ts p n y → (m ≡ n) × (x ≡ y)
     one-fault {ts} {p} (noToken {q} c) (noToken {q = r} d) = (refl, same-place bytes p (Next.NoToken q) (Next.NoToken r) c d)
     one-fault {ts} {p} (noToken c) (wrong d v w) = absurd (no-none bytes p d c)
     one-fault {ts} {p} (noToken c) (wrongEnd d w) = absurd (none-end bytes p c d)
@@ -33,7 +33,7 @@ module _ (bytes : List ℕ) where
     one-fault {ts} {p} (wrong c v w) (noToken d) = absurd (no-none bytes p c d)
     one-fault {ts} {p} (wrong c v w) (wrong d v' w') = (refl, ap (λ (t : Token.Token). t .first) (pick bytes c d))
     one-fault {ts} {p} (wrong c v w) (wrongEnd d e) = absurd (no-end bytes p c d)
-    one-fault {ts} {p} (wrong c v w) (newer d n) = absurd (v (subst (NewerAt sizes l bytes ts) (pick bytes d c) n))
+    one-fault {ts} {p} (wrong c v w) (newer d n) = absurd (v (subst (NewerAt limits l bytes ts) (pick bytes d c) n))
     one-fault {ts} {p} (wrong c v w) (badValue d v' k b) = absurd (k (subst (λ (t : Token.Token). Wrong l ts (seen t)) (pick bytes c d) w))
     one-fault {ts} {p} (wrong c v w) (tooDeep d v' k b e) = absurd (k (subst (λ (t : Token.Token). Wrong l ts (seen t)) (pick bytes c d) w))
     one-fault {ts} {p} (wrongEnd c e) (noToken d) = absurd (none-end bytes p d c)
@@ -43,31 +43,31 @@ module _ (bytes : List ℕ) where
     one-fault {ts} {p} (wrongEnd c e) (badValue d v w b) = absurd (no-end bytes p d c)
     one-fault {ts} {p} (wrongEnd c e) (tooDeep d v w b x) = absurd (no-end bytes p d c)
     one-fault {ts} {p} (newer c n) (noToken d) = absurd (no-none bytes p c d)
-    one-fault {ts} {p} (newer c n) (wrong d v w) = absurd (v (subst (NewerAt sizes l bytes ts) (pick bytes c d) n))
+    one-fault {ts} {p} (newer c n) (wrong d v w) = absurd (v (subst (NewerAt limits l bytes ts) (pick bytes c d) n))
     one-fault {ts} {p} (newer c n) (wrongEnd d e) = absurd (no-end bytes p c d)
     one-fault {ts} {p} (newer c n) (newer d n') = (refl, ap (λ (t : Token.Token). t .first) (pick bytes c d))
-    one-fault {ts} {p} (newer c n) (badValue d v w b) = absurd (v (subst (NewerAt sizes l bytes ts) (pick bytes c d) n))
-    one-fault {ts} {p} (newer c n) (tooDeep d v w b e) = absurd (v (subst (NewerAt sizes l bytes ts) (pick bytes c d) n))
+    one-fault {ts} {p} (newer c n) (badValue d v w b) = absurd (v (subst (NewerAt limits l bytes ts) (pick bytes c d) n))
+    one-fault {ts} {p} (newer c n) (tooDeep d v w b e) = absurd (v (subst (NewerAt limits l bytes ts) (pick bytes c d) n))
     one-fault {ts} {p} (badValue c v w b) (noToken d) = absurd (no-none bytes p c d)
     one-fault {ts} {p} (badValue c v w b) (wrong d v' k) = absurd (w (subst (λ (t : Token.Token). Wrong l ts (seen t)) (pick bytes d c) k))
     one-fault {ts} {p} (badValue c v w b) (wrongEnd d e) = absurd (no-end bytes p c d)
-    one-fault {ts} {p} (badValue c v w b) (newer d n) = absurd (v (subst (NewerAt sizes l bytes ts) (pick bytes d c) n))
+    one-fault {ts} {p} (badValue c v w b) (newer d n) = absurd (v (subst (NewerAt limits l bytes ts) (pick bytes d c) n))
     one-fault {ts} {p} (badValue c v w b) (badValue d v' w' b') = (refl, ap (λ (t : Token.Token). t .first) (pick bytes c d))
     one-fault {ts} {p} (badValue c v w b) (tooDeep d v' w' k e) = absurd (k (subst (λ (t : Token.Token). t .bad ≡ true) (pick bytes c d) b))
     one-fault {ts} {p} (tooDeep c v w b e) (noToken d) = absurd (no-none bytes p c d)
     one-fault {ts} {p} (tooDeep c v w b e) (wrong d v' k) = absurd (w (subst (λ (t : Token.Token). Wrong l ts (seen t)) (pick bytes d c) k))
     one-fault {ts} {p} (tooDeep c v w b e) (wrongEnd d x) = absurd (no-end bytes p c d)
-    one-fault {ts} {p} (tooDeep c v w b e) (newer d n) = absurd (v (subst (NewerAt sizes l bytes ts) (pick bytes d c) n))
+    one-fault {ts} {p} (tooDeep c v w b e) (newer d n) = absurd (v (subst (NewerAt limits l bytes ts) (pick bytes d c) n))
     one-fault {ts} {p} (tooDeep c v w b e) (badValue d v' w' k) = absurd (b (subst (λ (t : Token.Token). t .bad ≡ true) (pick bytes d c) k))
     one-fault {ts} {p} (tooDeep c v w b e) (tooDeep d v' w' b' e') = (refl, ap (λ (t : Token.Token). t .first) (pick bytes c d))
 
     -- ---- the tokens that pass
 
-    pub follows : {ts : List Tok} {s p : ℕ} → Front bytes s → Passed sizes l bytes ts p → Follow bytes s ts p
+    pub follows : {ts : List Tok} {s p : ℕ} → Front bytes s → Passed limits l bytes ts p → Follow bytes s ts p
     follows {ts} {s} f (begun {p = p} g) = subst (Follow bytes s []) (one-front bytes f g) nothing
     follows f (passed a c n) = append bytes (follows f a) (next c nothing)
 
-    pub start : {ts : List Tok} {p : ℕ} → Passed sizes l bytes ts p → (s : ℕ) × Front bytes s
+    pub start : {ts : List Tok} {p : ℕ} → Passed limits l bytes ts p → (s : ℕ) × Front bytes s
     start (begun {p = p} f) = (p, f)
     start (passed a c n) = start a
 
@@ -75,10 +75,10 @@ module _ (bytes : List ℕ) where
     pub record Went (ts : List Tok) (p : ℕ) : Type 0 where
       pub token : Token.Token
       pub comes : Comes bytes p (Next.Token token)
-      pub sound : (n q : ℕ) → Fault sizes l bytes ts p n q → ⊥
+      pub sound : (n q : ℕ) → Fault limits l bytes ts p n q → ⊥
 
     -- so it is behind a shorter row
-    pub went : {s p q : ℕ} {ts us : List Tok} → Front bytes s → Follow bytes s ts p → Passed sizes l bytes us q → length ts < length us → Went ts p
+    pub went : {s p q : ℕ} {ts us : List Tok} → Front bytes s → Follow bytes s ts p → Passed limits l bytes us q → length ts < length us → Went ts p
     went f a (begun g) h = absurd (omega (arith, h))
     went {s} {p} {q} {ts} {us} f a (passed {p = q'} {ts = us'} {t = u} b d m) h = by (λ g. went f a b g) (order (length ts) (length us'))
       where
@@ -88,14 +88,14 @@ module _ (bytes : List ℕ) where
             record {
               token = u;
               comes = subst (λ (x : ℕ). Comes bytes x (Next.Token u)) (sym (o .1)) d;
-              sound = λ n y z. m n y (subst (λ (x : ℕ). Fault sizes l bytes us' x n y) (o .1) (subst (λ (x : List Tok). Fault sizes l bytes x p n y) (o .0) z));
+              sound = λ n y z. m n y (subst (λ (x : ℕ). Fault limits l bytes us' x n y) (o .1) (subst (λ (x : List Tok). Fault limits l bytes x p n y) (o .0) z));
             }
         by again (less g) = again g
         by again (more g) = absurd (omega (arith, g, h, length-append us' (seen u ∷ [])))
 
     -- ---- no text has two first faults
 
-    pub one-first : {m n x y : ℕ} → FirstFault sizes l bytes m x → FirstFault sizes l bytes n y → (m ≡ n) × (x ≡ y)
+    pub one-first : {m n x y : ℕ} → FirstFault limits l bytes m x → FirstFault limits l bytes n y → (m ≡ n) × (x ≡ y)
     one-first {m} {n} {x} {y} f g = by (order (length (f .before)) (length (g .before)))
       where
         at : (s : ℕ) × Front bytes s
@@ -110,12 +110,12 @@ module _ (bytes : List ℕ) where
         by : Order (length (f .before)) (length (g .before)) → (m ≡ n) × (x ≡ y)
         by (equal e) =
             let o = one-row bytes fs gs e in
-            one-fault (subst (λ (p : ℕ). Fault sizes l bytes (g .before) p m x) (o .1) (subst (λ (ts : List Tok). Fault sizes l bytes ts (f .from) m x) (o .0) (f .fault))) (g .fault)
+            one-fault (subst (λ (p : ℕ). Fault limits l bytes (g .before) p m x) (o .1) (subst (λ (ts : List Tok). Fault limits l bytes ts (f .from) m x) (o .0) (f .fault))) (g .fault)
         by (less h) = absurd (went (at .1) fs (g .good) h .sound m x (f .fault))
         by (more h) = absurd (went (at .1) gs (f .good) h .sound n y (g .fault))
 
     -- and none if all pass
-    end-fault : {ts : List Tok} {p q n x : ℕ} → Comes bytes p (Next.End q) → (WrongEnd l ts → ⊥) → Fault sizes l bytes ts p n x → ⊥
+    end-fault : {ts : List Tok} {p q n x : ℕ} → Comes bytes p (Next.End q) → (WrongEnd l ts → ⊥) → Fault limits l bytes ts p n x → ⊥
     end-fault {ts} {p} c k (noToken d) = none-end bytes p d c
     end-fault {ts} {p} c k (wrong d v w) = no-end bytes p d c
     end-fault {ts} {p} c k (wrongEnd d w) = k w
@@ -123,7 +123,7 @@ module _ (bytes : List ℕ) where
     end-fault {ts} {p} c k (badValue d v w b) = no-end bytes p d c
     end-fault {ts} {p} c k (tooDeep d v w b e) = no-end bytes p d c
 
-    pub all-or-fault : {ts : List Tok} {n x : ℕ} → AllPassed sizes l bytes ts → FirstFault sizes l bytes n x → ⊥
+    pub all-or-fault : {ts : List Tok} {n x : ℕ} → AllPassed limits l bytes ts → FirstFault limits l bytes n x → ⊥
     all-or-fault {ts} {n} {x} a f = by (order (length ts) (length (f .before)))
       where
         at : (s : ℕ) × Front bytes s
@@ -138,12 +138,12 @@ module _ (bytes : List ℕ) where
         by : Order (length ts) (length (f .before)) → ⊥
         by (equal e) =
             let o = one-row bytes fs all (sym e) in
-            end-fault (a .at-end) (a .ends) (subst (λ (p : ℕ). Fault sizes l bytes ts p n x) (o .1) (subst (λ (us : List Tok). Fault sizes l bytes us (f .from) n x) (o .0) (f .fault)))
+            end-fault (a .at-end) (a .ends) (subst (λ (p : ℕ). Fault limits l bytes ts p n x) (o .1) (subst (λ (us : List Tok). Fault limits l bytes us (f .from) n x) (o .0) (f .fault)))
         by (less h) = let w = went (at .1) all (f .good) h in no-end bytes (a .from) (w .comes) (a .at-end)
         by (more h) = went (at .1) fs (a .good) h .sound n x (f .fault)
 
     -- texts that pass have the same tokens
-    pub one-passing : {ts us : List Tok} → AllPassed sizes l bytes ts → AllPassed sizes l bytes us → ts ≡ us
+    pub one-passing : {ts us : List Tok} → AllPassed limits l bytes ts → AllPassed limits l bytes us → ts ≡ us
     one-passing {ts} {us} a b = by (order (length ts) (length us))
       where
         at : (s : ℕ) × Front bytes s

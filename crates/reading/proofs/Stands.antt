@@ -17,7 +17,7 @@ use Rattle.grammar.proofs.Frames.{Config, want}
 use Rattle.grammar.proofs.Machine.{step, runs}
 use Rattle.grammar.proofs.Viable as Viable
 use Rattle.grammar.proofs.Viable.{Final, oneMore, stuckWrong, wrongStuck, Wants, valueWants}
-use Rattle.reading.specs.Sizes.{Sizes}
+use Rattle.reading.specs.declared.Limits.{Limits}
 use Rattle.reading.specs.Tokens.{seen}
 use Rattle.reading.specs.Faults.{NewerAt, TooDeep, Fault, noToken, wrong, wrongEnd, newer, badValue, tooDeep, Passed, begun, passed, FirstFault}
 use Rattle.reading.proofs.Decide.{faultless, no-step}
@@ -33,9 +33,9 @@ mayBegin square = true
 mayBegin (mark m) = false
 mayBegin later = true
 
-module _ (sizes : Sizes) (l : Level) (bytes : List ℕ) where
+module _ (limits : Limits) (l : Level) (bytes : List ℕ) where
   pub record Stands (ts : List Tok) (p : ℕ) (c : Config) : Type 0 where
-    pub good : Passed sizes l bytes ts p
+    pub good : Passed limits l bytes ts p
     pub reached : runs l ts ≡ some c
 
   pub at-front : {p : ℕ} → Front bytes p → Stands [] p (want [])
@@ -48,45 +48,45 @@ module _ (sizes : Sizes) (l : Level) (bytes : List ℕ) where
   beyond-class (newerBracket e) = refl
   beyond-class laterLiteral = refl
 
-  pub not-by-class : {ts : List Tok} (t : Token.Token) → mayBegin (classKind (t .kind)) ≡ false → NewerAt sizes l bytes ts t → ⊥
+  pub not-by-class : {ts : List Tok} (t : Token.Token) → mayBegin (classKind (t .kind)) ≡ false → NewerAt limits l bytes ts t → ⊥
   not-by-class t e n = clash (beyond-class (n .newer .beyond)) e
 
-  pub not-by-place : {ts : List Tok} {p : ℕ} {c : Config} → Stands ts p c → (Wants c → ⊥) → (t : Token.Token) → NewerAt sizes l bytes ts t → ⊥
+  pub not-by-place : {ts : List Tok} {p : ℕ} {c : Config} → Stands ts p c → (Wants c → ⊥) → (t : Token.Token) → NewerAt limits l bytes ts t → ⊥
   not-by-place {ts} {p} {c} s h t n = h (valueWants l ts c (s .reached) (seen t .at) (n .newer .place))
 
   -- ---- on
 
   pub goes-on : {ts : List Tok} {p : ℕ} {c d : Config} {t : Token.Token} → Stands ts p c → Comes bytes p (Next.Token t) →
-      (NewerAt sizes l bytes ts t → ⊥) → step l c (seen t) ≡ some d → t .bad ≡ false → (TooDeep sizes l bytes ts t → ⊥) → Stands (ts ++ (seen t ∷ [])) (t .end) d
+      (NewerAt limits l bytes ts t → ⊥) → step l c (seen t) ≡ some d → t .bad ≡ false → (TooDeep limits l bytes ts t → ⊥) → Stands (ts ++ (seen t ∷ [])) (t .end) d
   goes-on {ts} {p} {c} {d} {t} s k v e b h =
       record {
-        good = passed (s .good) k (λ n q f. faultless bytes sizes l k v (λ w. no-step d (sym (wrongStuck l ts c (seen t) (s .reached) w) ∙ e)) (λ x. clash x b) h n q f);
+        good = passed (s .good) k (λ n q f. faultless bytes limits l k v (λ w. no-step d (sym (wrongStuck l ts c (seen t) (s .reached) w) ∙ e)) (λ x. clash x b) h n q f);
         reached = oneMore l ts c (seen t) (s .reached) ∙ e;
       }
 
   -- ---- the refusals
 
-  stops : {ts : List Tok} {p n q : ℕ} {c : Config} → Stands ts p c → Fault sizes l bytes ts p n q → FirstFault sizes l bytes n q
+  stops : {ts : List Tok} {p n q : ℕ} {c : Config} → Stands ts p c → Fault limits l bytes ts p n q → FirstFault limits l bytes n q
   stops {ts} {p} s f = record { before = ts; from = p; good = s .good; fault = f }
 
-  pub no-token : {ts : List Tok} {p q : ℕ} {c : Config} → Stands ts p c → Comes bytes p (Next.NoToken q) → FirstFault sizes l bytes 4 q
+  pub no-token : {ts : List Tok} {p q : ℕ} {c : Config} → Stands ts p c → Comes bytes p (Next.NoToken q) → FirstFault limits l bytes 4 q
   no-token s k = stops s (noToken k)
 
   pub wrong-place : {ts : List Tok} {p : ℕ} {c : Config} {t : Token.Token} → Stands ts p c → Comes bytes p (Next.Token t) →
-      (NewerAt sizes l bytes ts t → ⊥) → step l c (seen t) ≡ none → FirstFault sizes l bytes 6 (t .first)
+      (NewerAt limits l bytes ts t → ⊥) → step l c (seen t) ≡ none → FirstFault limits l bytes 6 (t .first)
   wrong-place {ts} {p} {c} {t} s k v e = stops s (wrong k v (stuckWrong l ts c (seen t) (s .reached) e))
 
-  pub wrong-end : {ts : List Tok} {p q : ℕ} {c : Config} → Stands ts p c → Comes bytes p (Next.End q) → (Final c → ⊥) → FirstFault sizes l bytes 6 q
+  pub wrong-end : {ts : List Tok} {p q : ℕ} {c : Config} → Stands ts p c → Comes bytes p (Next.End q) → (Final c → ⊥) → FirstFault limits l bytes 6 q
   wrong-end {ts} {p} {q} {c} s k h = stops s (wrongEnd k (Viable.wrongEnd l ts c (s .reached) h))
 
-  pub newer-form : {ts : List Tok} {p : ℕ} {c : Config} {t : Token.Token} → Stands ts p c → Comes bytes p (Next.Token t) → NewerAt sizes l bytes ts t → FirstFault sizes l bytes 7 (t .first)
+  pub newer-form : {ts : List Tok} {p : ℕ} {c : Config} {t : Token.Token} → Stands ts p c → Comes bytes p (Next.Token t) → NewerAt limits l bytes ts t → FirstFault limits l bytes 7 (t .first)
   newer-form s k n = stops s (newer k n)
 
   pub bad-value : {ts : List Tok} {p : ℕ} {c d : Config} {t : Token.Token} → Stands ts p c → Comes bytes p (Next.Token t) →
-      (NewerAt sizes l bytes ts t → ⊥) → step l c (seen t) ≡ some d → t .bad ≡ true → FirstFault sizes l bytes 5 (t .first)
+      (NewerAt limits l bytes ts t → ⊥) → step l c (seen t) ≡ some d → t .bad ≡ true → FirstFault limits l bytes 5 (t .first)
   bad-value {ts} {p} {c} {d} {t} s k v e b = stops s (badValue k v (λ w. no-step d (sym (wrongStuck l ts c (seen t) (s .reached) w) ∙ e)) b)
 
   pub too-deep : {ts : List Tok} {p : ℕ} {c d : Config} {t : Token.Token} → Stands ts p c → Comes bytes p (Next.Token t) →
-      (NewerAt sizes l bytes ts t → ⊥) → step l c (seen t) ≡ some d → t .bad ≡ false → TooDeep sizes l bytes ts t → FirstFault sizes l bytes 11 (t .first)
+      (NewerAt limits l bytes ts t → ⊥) → step l c (seen t) ≡ some d → t .bad ≡ false → TooDeep limits l bytes ts t → FirstFault limits l bytes 11 (t .first)
   too-deep {ts} {p} {c} {d} {t} s k v e b h =
       stops s (tooDeep k v (λ w. no-step d (sym (wrongStuck l ts c (seen t) (s .reached) w) ∙ e)) (λ x. clash x b) h)

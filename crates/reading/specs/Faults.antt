@@ -12,10 +12,10 @@ use Rattle.lexicon.specs.Token.{Comes}
 use Rattle.grammar.specs.Tokens.{Tok}
 use Rattle.grammar.specs.Level.{Level}
 use Rattle.grammar.specs.Place.{Wrong, WrongEnd, Newer}
-use Rattle.reading.specs.Sizes.{Sizes}
+use Rattle.reading.specs.declared.Limits.{Limits}
 use Rattle.reading.specs.Tokens.{seen, Follow, opened}
 
-module _ (sizes : Sizes) (l : Level) (bytes : List ℕ) where
+module _ (limits : Limits) (l : Level) (bytes : List ℕ) where
   -- the token t behind the tokens ts begins a newer form, by what follows it
   pub record NewerAt (ts : List Tok) (t : Token.Token) : Type 0 where
     pub ahead : List Tok
@@ -26,7 +26,7 @@ module _ (sizes : Sizes) (l : Level) (bytes : List ℕ) where
   -- one bracket more would be too many
   pub record TooDeep (ts : List Tok) (t : Token.Token) : Type 0 where
     pub deeper : opened ts < opened (ts ++ (seen t ∷ []))
-    pub beyond : sizes .depth < opened (ts ++ (seen t ∷ []))
+    pub beyond : limits .depth < opened (ts ++ (seen t ∷ []))
 
   -- what is wrong with the token at or after p, behind the tokens ts: the refusal's number and place
   pub data Fault (ts : List Tok) (p : ℕ) : ℕ → ℕ → Type 0 where

@@ -1,16 +1,15 @@
--- The sizes of 01, as parameters of the definitions. Assumes nothing.
+-- The sizes of 01, as parameters of the definitions: what a text is judged by, and of it what a token is judged by. Assumes nothing.
 use Prim.Native.Nat.{ℕ, _/_, min}
 use Rattle.grammar.specs.Nodes.{nodeWords}
+use Rattle.reading.specs.declared.Limits.{Limits}
+use Rattle.reading.specs.declared.Rules.{Rules}
 
-pub record Sizes : Type 0 where
-  -- bytes of a text, open brackets at once, nodes of a table at most
-  pub text : ℕ
-  pub depth : ℕ
-  pub nodes : ℕ
+abbrev pub baseLimits : Limits
+baseLimits = record { depth = 32 }
 
-abbrev pub base : Sizes
-base = record { text = 32768; depth = 32; nodes = 1024 }
+abbrev pub base : Rules
+base = record { text = 32768; nodes = 1024; limits = baseLimits }
 
 -- 01: 'Room in the table: the smaller of 1,024 and the number of words divided by 6, rounded down'
-abbrev pub room : Sizes → ℕ → ℕ
-room s n = min (s .nodes) (n / nodeWords)
+abbrev pub room : Rules → ℕ → ℕ
+room r n = min (r .nodes) (n / nodeWords)

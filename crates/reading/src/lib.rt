@@ -1,8 +1,20 @@
-// What a reading answers: number, place, count and the lent table, case by case. Definitions only; no code.
+// What a reading answers, and the rules that it judges by: number, place, count and the lent table, case by case. Definitions only; no code.
 
 // The answer of a reading: its number (0 accepted), its place, and its count.
 pub struct Answer {
     pub number: u32,
     pub place: usize,
     pub count: usize,
+}
+
+// What a token is judged by: how many brackets may be open at once.
+pub struct Limits {
+    pub depth: usize,
+}
+
+// What a text is judged by: how many bytes it may have, how many nodes a table may have, and what each token is judged by.
+pub struct Rules {
+    pub text: usize,
+    pub nodes: usize,
+    pub limits: Limits,
 }

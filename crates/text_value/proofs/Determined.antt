@@ -9,7 +9,7 @@ use Rattle.lexicon.specs.Utf8.{WellFormed}
 use Rattle.lexicon.proofs.Determined.{formed-or-bad, one-bad}
 use Rattle.reading.specs.declared.Answer.{Answer}
 use Rattle.reading.specs.Answers.{answer}
-use Rattle.reading.specs.Sizes.{Sizes}
+use Rattle.reading.specs.declared.Rules.{Rules}
 use Rattle.text_value.specs.Answers.{TextAnswers, tooLong, notUtf8, notText, bad, noRoom, accepted}
 use Rattle.text_value.specs.Encode.{encoded}
 use Rattle.text_value.proofs.Texts.{text-same, text-formed}
@@ -18,10 +18,10 @@ take-front : (b t : List ℕ) → take (length b) (b ++ t) ≡ b
 take-front [] t = refl
 take-front (x ∷ b) t = ap (λ (l : List ℕ). x ∷ l) (take-front b t)
 
-module _ (sizes : Sizes) (piece lent : List ℕ) where
+module _ (rules : Rules) (piece lent : List ℕ) where
   -- ---- what the answer says of the buffer
 
-  pub accepted-formed : {a : Answer} {t : List ℕ} → TextAnswers sizes piece lent a t → a .number ≡ 0 → WellFormed (take (a .count) t)
+  pub accepted-formed : {a : Answer} {t : List ℕ} → TextAnswers rules piece lent a t → a .number ≡ 0 → WellFormed (take (a .count) t)
   accepted-formed (tooLong h) e = absurd (omega (arith, e))
   accepted-formed (notUtf8 h b) e = absurd (omega (arith, e))
   accepted-formed (notText h w n) e = absurd (omega (arith, e))
@@ -30,7 +30,7 @@ module _ (sizes : Sizes) (piece lent : List ℕ) where
   accepted-formed (accepted {cs = cs} h w x g t l) e =
       subst (λ (b : List ℕ). WellFormed b) (sym (take-front (encoded cs) (drop (length (encoded cs)) lent))) (text-formed piece g t)
 
-  pub refused-keeps : {a : Answer} {t : List ℕ} → TextAnswers sizes piece lent a t → (a .number ≡ 0 → ⊥) → t ≡ lent
+  pub refused-keeps : {a : Answer} {t : List ℕ} → TextAnswers rules piece lent a t → (a .number ≡ 0 → ⊥) → t ≡ lent
   refused-keeps (tooLong h) n = refl
   refused-keeps (notUtf8 h b) n = refl
   refused-keeps (notText h w m) n = refl
@@ -43,7 +43,7 @@ module _ (sizes : Sizes) (piece lent : List ℕ) where
   abbrev Same : Answer → Answer → List ℕ → List ℕ → Type 0
   Same a b t u = (a ≡ b) × (t ≡ u)
 
-  pub one-answer : {a b : Answer} {t u : List ℕ} → TextAnswers sizes piece lent a t → TextAnswers sizes piece lent b u → Same a b t u
+  pub one-answer : {a b : Answer} {t u : List ℕ} → TextAnswers rules piece lent a t → TextAnswers rules piece lent b u → Same a b t u
   one-answer (tooLong h) (tooLong g) = (refl, refl)
   one-answer (tooLong h) (notUtf8 g b) = absurd (omega arith)
   one-answer (tooLong h) (notText g w n) = absurd (omega arith)

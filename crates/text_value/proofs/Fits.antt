@@ -7,7 +7,7 @@ use native.Mathlib.Omega.{arith}
 use lib.ListN.{length, length-append}
 use Rattle.lexicon.specs.Values.{TextOf, quotes, bare, coded}
 use Rattle.reading.specs.declared.Answer.{Answer}
-use Rattle.reading.specs.Sizes.{Sizes}
+use Rattle.reading.specs.declared.Rules.{Rules}
 use Rattle.text_value.specs.Answers.{BadText, TextAnswers, tooLong, notUtf8, notText, bad, noRoom, accepted}
 use Rattle.text_value.specs.Encode.{encode, encoded}
 use Rattle.text_value.proofs.Characters.{quoted-bytes, word-same}
@@ -22,11 +22,11 @@ module _ (piece : List ℕ) where
   text-short good (coded {v = v} c) = omega (arith, code-short piece c, length-append (encode v) [])
 
   -- with a buffer as long as the piece no answer is the refusal 8
-  pub enough-room : (sizes : Sizes) (lent : List ℕ) → length piece ≤ length lent → {a : Answer} {t : List ℕ} →
-      TextAnswers sizes piece lent a t → a .number ≡ 8 → ⊥
-  enough-room sizes lent r (tooLong h) e = omega (arith, e)
-  enough-room sizes lent r (notUtf8 h b) e = omega (arith, e)
-  enough-room sizes lent r (notText h w n) e = omega (arith, e)
-  enough-room sizes lent r (bad h w x b) e = omega (arith, e)
-  enough-room sizes lent r (noRoom h w x g t l) e = omega (arith, r, l, text-short g t)
-  enough-room sizes lent r (accepted h w x g t l) e = omega (arith, e)
+  pub enough-room : (rules : Rules) (lent : List ℕ) → length piece ≤ length lent → {a : Answer} {t : List ℕ} →
+      TextAnswers rules piece lent a t → a .number ≡ 8 → ⊥
+  enough-room rules lent r (tooLong h) e = omega (arith, e)
+  enough-room rules lent r (notUtf8 h b) e = omega (arith, e)
+  enough-room rules lent r (notText h w n) e = omega (arith, e)
+  enough-room rules lent r (bad h w x b) e = omega (arith, e)
+  enough-room rules lent r (noRoom h w x g t l) e = omega (arith, r, l, text-short g t)
+  enough-room rules lent r (accepted h w x g t l) e = omega (arith, e)

@@ -23,7 +23,8 @@ use Rattle.lexicon.specs.Values.{read, CodeOf, Quoted, TextOf, quotes, bare, co
 use Rattle.lexicon.specs.Bad.{Scalar, BadCode, BadQuoted, inFirst, inFurther}
 use Rattle.reading.specs.declared.Answer.{Answer}
 use Rattle.reading.specs.Answers.{answer}
-use Rattle.reading.specs.Sizes.{Sizes, base}
+use Rattle.reading.specs.declared.Rules.{Rules}
+use Rattle.reading.specs.Sizes.{base}
 use Rattle.text_value.specs.declared.value.Shape as Shape
 use Rattle.text_value.specs.declared.value.Shape.{Shape}
 use Rattle.text_value.specs.declared.value.Verdict.{Verdict}
@@ -212,7 +213,7 @@ module _ (piece : List ℕ) where
 
     -- ---- the answer
 
-    module _ (sizes : Sizes) (h : length piece ≤ sizes .text) (formed : WellFormed piece) (exact : Exactly piece) (lent : List ℕ) where
+    module _ (rules : Rules) (h : length piece ≤ rules .text) (formed : WellFormed piece) (exact : Exactly piece) (lent : List ℕ) where
       -- what is measured over an empty part leaves the buffer as it is
       kept : {t t' bs : List ℕ} {k n : ℕ} → Puts t k bs t' n → length t ≡ 0 → t' ++ lent ≡ lent
       kept {t' = t'} p z = go t' (puts-length p ∙ z)
@@ -222,22 +223,22 @@ module _ (piece : List ℕ) where
           go (x ∷ l) e = absurd (omega (arith, e))
 
       module _ {t t' : List ℕ} {m : ℕ} (v : WroteText piece t t' m) (z : length t ≡ 0) where
-        pub too-small : length (t' ++ lent) < m → TextAnswers sizes piece lent (answer 8 (length piece) m) (t' ++ lent)
+        pub too-small : length (t' ++ lent) < m → TextAnswers rules piece lent (answer 8 (length piece) m) (t' ++ lent)
         too-small l =
             let k = kept (v .puts) z in
             let e : length (encoded (v .characters)) ≡ m = omega (arith, v .puts .ends) in
-            subst (λ (x : List ℕ). TextAnswers sizes piece lent (answer 8 (length piece) m) x) (sym k)
-            (subst (λ (n : ℕ). TextAnswers sizes piece lent (answer 8 (length piece) n) lent) e
+            subst (λ (x : List ℕ). TextAnswers rules piece lent (answer 8 (length piece) m) x) (sym k)
+            (subst (λ (n : ℕ). TextAnswers rules piece lent (answer 8 (length piece) n) lent) e
             (noRoom h formed exact good (v .is) (omega (arith, e, l, ap length k))))
 
         pub fits : {u : List ℕ} {n : ℕ} → m ≤ length (t' ++ lent) → WroteText piece (t' ++ lent) u n →
-            TextAnswers sizes piece lent (answer 0 (length piece) n) u
+            TextAnswers rules piece lent (answer 0 (length piece) n) u
         fits {u} {n} l w =
             let k = kept (v .puts) z in
             let b = encoded (w .characters) in
             let e : length b ≡ n = omega (arith, w .puts .ends) in
             let g : length b ≤ length lent = omega (arith, v .puts .ends, l, ap length (text-same (v .is) (w .is)), ap length k) in
             let p : Puts lent 0 b u n = subst (λ (x : List ℕ). Puts x 0 b u n) k (w .puts) in
-            subst (λ (j : ℕ). TextAnswers sizes piece lent (answer 0 (length piece) j) u) e
-            (subst (λ (x : List ℕ). TextAnswers sizes piece lent (answer 0 (length piece) (length b)) x) (sym (puts-start p g))
+            subst (λ (j : ℕ). TextAnswers rules piece lent (answer 0 (length piece) j) u) e
+            (subst (λ (x : List ℕ). TextAnswers rules piece lent (answer 0 (length piece) (length b)) x) (sym (puts-start p g))
             (accepted h formed exact good (w .is) g))

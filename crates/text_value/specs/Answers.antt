@@ -11,7 +11,7 @@ use Rattle.lexicon.specs.Values.{TextOf}
 use Rattle.lexicon.specs.Bad.{BadCode, BadQuoted}
 use Rattle.reading.specs.declared.Answer.{Answer}
 use Rattle.reading.specs.Answers.{answer}
-use Rattle.reading.specs.Sizes.{Sizes}
+use Rattle.reading.specs.declared.Rules.{Rules}
 use Rattle.text_value.specs.Encode.{encoded}
 
 -- a Text literal
@@ -26,16 +26,16 @@ Exactly piece = Takes piece textLiteral 0 (length piece)
 abbrev pub BadText : List ℕ → Type 0
 BadText piece = BadQuoted piece 0 (length piece) ⊎ BadCode piece 0 (length piece)
 
-module _ (sizes : Sizes) (piece lent : List ℕ) where
+module _ (rules : Rules) (piece lent : List ℕ) where
   -- the answer, and the lent buffer as it is then
   pub data TextAnswers : Answer → List ℕ → Type 0 where
-    tooLong : sizes .text < length piece → TextAnswers (answer 2 0 0) lent
-    notUtf8 : {p : ℕ} → length piece ≤ sizes .text → BadAt piece p → TextAnswers (answer 3 p 0) lent
-    notText : length piece ≤ sizes .text → WellFormed piece → (Exactly piece → ⊥) → TextAnswers (answer 9 0 0) lent
-    bad : length piece ≤ sizes .text → WellFormed piece → Exactly piece → BadText piece → TextAnswers (answer 5 0 0) lent
-    noRoom : {cs : List ℕ} → length piece ≤ sizes .text → WellFormed piece → Exactly piece → (BadText piece → ⊥) →
+    tooLong : rules .text < length piece → TextAnswers (answer 2 0 0) lent
+    notUtf8 : {p : ℕ} → length piece ≤ rules .text → BadAt piece p → TextAnswers (answer 3 p 0) lent
+    notText : length piece ≤ rules .text → WellFormed piece → (Exactly piece → ⊥) → TextAnswers (answer 9 0 0) lent
+    bad : length piece ≤ rules .text → WellFormed piece → Exactly piece → BadText piece → TextAnswers (answer 5 0 0) lent
+    noRoom : {cs : List ℕ} → length piece ≤ rules .text → WellFormed piece → Exactly piece → (BadText piece → ⊥) →
         TextOf piece 0 (length piece) cs → length lent < length (encoded cs) →
         TextAnswers (answer 8 (length piece) (length (encoded cs))) lent
-    accepted : {cs : List ℕ} → length piece ≤ sizes .text → WellFormed piece → Exactly piece → (BadText piece → ⊥) →
+    accepted : {cs : List ℕ} → length piece ≤ rules .text → WellFormed piece → Exactly piece → (BadText piece → ⊥) →
         TextOf piece 0 (length piece) cs → length (encoded cs) ≤ length lent →
         TextAnswers (answer 0 (length piece) (length (encoded cs))) (encoded cs ++ drop (length (encoded cs)) lent)

@@ -16,7 +16,7 @@ ghost use Rattle.rules.specs.Rule.{Fails};
 ghost use Rattle.lexicon.specs.Literals as Literals;
 ghost use Rattle.lexicon.specs.Utf8.{WellFormed};
 ghost use Rattle.reading.specs.Answers.{answer};
-ghost use Rattle.reading.specs.Sizes.{base as sizes};
+ghost use Rattle.reading.specs.Sizes.{base as rules};
 ghost use Rattle.text_value.specs.Answers.{TextAnswers};
 ghost use Rattle.text_value.specs.Shapes.{Shaped, Judged, WroteText};
 
@@ -108,7 +108,7 @@ fn write(piece: &[u8], shape: Shape, buffer: &mut [u8]) -> usize
 // The characters if they fit. They are measured first, over an empty part of the buffer, so that nothing is written where they don't.
 fn fitting(piece: &[u8], shape: Shape, buffer: &mut [u8]) -> Answer
     requires { ⌜ Shaped (now piece) shape × (length (now piece) ≤ 32768) × WellFormed (now piece) ⌝ }
-    ensures { λ r. ⌜ TextAnswers sizes (now (piece .entry)) (now (buffer .entry)) r (now (buffer .exit)) ⌝ }
+    ensures { λ r. ⌜ TextAnswers rules (now (piece .entry)) (now (buffer .entry)) r (now (buffer .exit)) ⌝ }
 {
     let needed = write(piece, shape, &mut buffer[..0]);
     if buffer.len() < needed {
@@ -128,7 +128,7 @@ fn fitting(piece: &[u8], shape: Shape, buffer: &mut [u8]) -> Answer
 
 // The characters of a piece that is exactly one Text literal, as UTF-8, from the start of the buffer.
 pub fn text(piece: &[u8], buffer: &mut [u8]) -> Answer
-    ensures { λ r. ⌜ TextAnswers sizes (now (piece .entry)) (now (buffer .entry)) r (now (buffer .exit)) ⌝ }
+    ensures { λ r. ⌜ TextAnswers rules (now (piece .entry)) (now (buffer .entry)) r (now (buffer .exit)) ⌝ }
 {
     if piece.len() > LONGEST {
         return refused(2, 0);

@@ -21,7 +21,7 @@ use Rattle.grammar.specs.Level.{Level, intervals, hasHead, hasCollection}
 use Rattle.grammar.proofs.Frames as Frames
 use Rattle.grammar.proofs.Frames.{Config, Stack, want, have, wantCurly}
 use Rattle.grammar.proofs.Machine.{when, wantClass, haveClass, headColon, step}
-use Rattle.reading.specs.Sizes.{base}
+use Rattle.reading.specs.Sizes.{baseLimits}
 use Rattle.reading.specs.Tokens.{seen}
 use Rattle.reading.specs.Faults.{NewerAt}
 use Rattle.reading.proofs.Rows.{pick}
@@ -80,7 +80,7 @@ module _ (text : List ℕ) (forms : Forms) (d : ℕ) (t : Token.Token) where
   names-begin e = record { from = λ x. tt; begun = λ K at a. e }
 
   pub later-begins : t .kind ≡ Kind.Later → So (Begin.Refused 7 (t .first))
-  later-begins e = record { from = λ x. tt; begun = λ K at a. Place.later-here base l text (a .stands) refl t (a .comes) e }
+  later-begins e = record { from = λ x. tt; begun = λ K at a. Place.later-here baseLimits l text (a .stands) refl t (a .comes) e }
 
   -- a sign that begins no value
   pub wrong-begins : {r : Begin} → r ≡ Begin.Refused 6 (t .first) → (k : Kind) → t .kind ≡ k → (m : Mark) → classKind k ≡ Tokens.mark m → So r
@@ -90,7 +90,7 @@ module _ (text : List ℕ) (forms : Forms) (d : ℕ) (t : Token.Token) where
         from = λ x. tt;
         begun = λ K at a.
             let c : classKind (t .kind) ≡ Tokens.mark m = ap classKind i ∙ h in
-            Place.sign-wrong base l text (a .stands) t (a .comes) m c (ap (λ (y : Class). wantClass l y (spanOf t) K) c ∙ a .no-sign m c);
+            Place.sign-wrong baseLimits l text (a .stands) t (a .comes) m c (ap (λ (y : Class). wantClass l y (spanOf t) K) c ∙ a .no-sign m c);
       })
 
   -- ---- brackets
@@ -101,17 +101,17 @@ module _ (text : List ℕ) (forms : Forms) (d : ℕ) (t : Token.Token) where
   -- an opening bracket that begins no newer form, and where it leads
   record Opens (to : Stack → Config) : Type 0 where
     bracket : Place.opens (classKind (t .kind)) ≡ true
-    known : (K : Stack) (at : ℕ) (a : Asks text forms K d at t) → NewerAt base l text (a .stands .tokens) t → ⊥
+    known : (K : Stack) (at : ℕ) (a : Asks text forms K d at t) → NewerAt baseLimits l text (a .stands .tokens) t → ⊥
     steps : (K : Stack) → step l (want K) (seen t) ≡ some (to K)
 
   goes-in : {to : Stack → Config} → Opens to → d < 32 → (K : Stack) (at : ℕ) → Asks text forms K d at t → Stands text forms (suc d) (t .end) (to K)
-  goes-in o h K at a = Place.open-on base l text (a .stands) t (a .comes) (o .bracket) (o .known K at a) h (o .steps K)
+  goes-in o h K at a = Place.open-on baseLimits l text (a .stands) t (a .comes) (o .bracket) (o .known K at a) h (o .steps K)
 
   too-deep : {to : Stack → Config} → Opens to → 32 ≤ d → So (Begin.Refused 11 (t .first))
   too-deep o h =
       record {
         from = λ x. tt;
-        begun = λ K at a. Place.deep-here base l text (a .stands) t (a .comes) (o .bracket) (o .known K at a) h (o .steps K);
+        begun = λ K at a. Place.deep-here baseLimits l text (a .stands) t (a .comes) (o .bracket) (o .known K at a) h (o .steps K);
       }
 
   -- ---- `{`
@@ -123,7 +123,7 @@ module _ (text : List ℕ) (forms : Forms) (d : ℕ) (t : Token.Token) where
   opens-curly e =
       record {
         bracket = ap (λ (y : Kind). Place.opens (classKind y)) e;
-        known = λ K at a n. Place.curly-known base l text (a .stands) t (ap classKind e) n;
+        known = λ K at a n. Place.curly-known baseLimits l text (a .stands) t (ap classKind e) n;
         steps = λ K. ap (λ (y : Kind). wantClass l (classKind y) (spanOf t) K) e;
       }
 
@@ -158,7 +158,7 @@ module _ (text : List ℕ) (forms : Forms) (d : ℕ) (t : Token.Token) where
   opens-square e i =
       record {
         bracket = ap (λ (y : Kind). Place.opens (classKind y)) e;
-        known = λ K at a n. Place.square-known base l text (a .stands) t (ap classKind e) i n;
+        known = λ K at a n. Place.square-known baseLimits l text (a .stands) t (ap classKind e) i n;
         steps = λ K. ap (λ (y : Kind). wantClass l (classKind y) (spanOf t) K) e ∙ ap (λ (b : Bool). when b (inInterval K)) i;
       }
 
@@ -186,7 +186,7 @@ module _ (text : List ℕ) (forms : Forms) (d : ℕ) (t : Token.Token) where
 
   pub square-newer : forms .intervals ≡ false → t .kind ≡ Kind.Symbol Sign.SquareOpen → So (Begin.Refused 7 (t .first))
   square-newer i e =
-      record { from = λ y. tt; begun = λ K at a. Place.bracket-newer base l text (a .stands) refl t (a .comes) (ap classKind e) i }
+      record { from = λ y. tt; begun = λ K at a. Place.bracket-newer baseLimits l text (a .stands) refl t (a .comes) (ap classKind e) i }
 
   -- ---- `(`
 
@@ -197,7 +197,7 @@ module _ (text : List ℕ) (forms : Forms) (d : ℕ) (t : Token.Token) where
       record {
         bracket = ap (λ (y : Kind). Place.opens (classKind y)) e;
         known = λ K at a n.
-            Place.round-known base l text (a .stands) t (ap classKind e)
+            Place.round-known baseLimits l text (a .stands) t (ap classKind e)
             (λ u w h k i m j. f h (w .end) (record { word = u; comes = k; word-is = i; sign = w; then = m; sign-is = j; end-is = refl })) n;
         steps = λ K. ap (λ (y : Kind). wantClass l (classKind y) (spanOf t) K) e;
       }
@@ -220,7 +220,7 @@ module _ (text : List ℕ) (forms : Forms) (d : ℕ) (t : Token.Token) where
       record {
         from = λ y. tt;
         begun = λ K at a.
-            Place.head-newer base l text (a .stands) refl t (w .word) (w .sign) h (a .comes) (ap classKind e) (w .comes) (w .word-is) (w .then) (w .sign-is) i;
+            Place.head-newer baseLimits l text (a .stands) refl t (w .word) (w .sign) h (a .comes) (ap classKind e) (w .comes) (w .word-is) (w .then) (w .sign-is) i;
       }
 
   opens-head : {end : ℕ} (k : Tree.Collection) → HeadHere text (t .end) (collectionHead k) end → hasCollection l k ≡ true →
@@ -235,12 +235,12 @@ module _ (text : List ℕ) (forms : Forms) (d : ℕ) (t : Token.Token) where
       let h = collectionHead k in
       let u = w .word in
       let s = w .sign in
-      let good = Place.never-bad base l text u (w .comes) (ap Place.mayBeBad (w .word-is)) in
+      let good = Place.never-bad baseLimits l text u (w .comes) (ap Place.mayBeBad (w .word-is)) in
       let b : Stands text forms n (u .end) (have (Tree.bare h (spanOf u)) (opened text forms t K)) =
-      Place.literal-on base l text a u (w .comes) (ap (λ (y : Kind). Place.plain (classKind y)) (w .word-is)) good
+      Place.literal-on baseLimits l text a u (w .comes) (ap (λ (y : Kind). Place.plain (classKind y)) (w .word-is)) good
       (ap (λ (y : Kind). wantClass l (classKind y) (spanOf u) (opened text forms t K)) (w .word-is)) in
       let c : Stands text forms n (s .end) (wantCurly (spanOf t) k (spanOf u) (spanOf s) K) =
-      Place.sign-on base l text b s (w .then) Tokens.colon (ap classKind (w .sign-is))
+      Place.sign-on baseLimits l text b s (w .then) Tokens.colon (ap classKind (w .sign-is))
       (ap (λ (y : Kind). haveClass l (classKind y) (Tree.bare h (spanOf u)) (spanOf s) (opened text forms t K)) (w .sign-is)
       ∙ head-steps l k (spanOf t) (spanOf u) (spanOf s) K i) in
       subst (λ (p : ℕ). Stands text forms n p (wantCurly (spanOf t) k (spanOf u) (spanOf s) K)) (sym (w .end-is)) c

@@ -20,7 +20,7 @@ use Rattle.grammar.specs.Nodes as Nodes
 use Rattle.grammar.specs.Nodes.{NodeKind, kindNumber, atomKind, atomDetail, nodes, leaf}
 use Rattle.grammar.proofs.Frames.{Stack, have, namesOf}
 use Rattle.grammar.proofs.Machine.{textValue, wantClass}
-use Rattle.reading.specs.Sizes.{base}
+use Rattle.reading.specs.Sizes.{baseLimits}
 use Rattle.reading.proofs.At.{plain, kindOf, class-kind, literal-on, bad-here}
 use Rattle.moves.specs.declared.Role.the-variants as Role
 use Rattle.moves.specs.declared.Shape.{Shape}
@@ -135,7 +135,7 @@ module _ (t : Token.Token) (lent left : List ℕ) (index parent : ℕ) where
         sized = tt;
         outcome = λ text forms K d at a h.
             let v = literal-value (levelOf forms) (t .kind) (spanOf t) K (classKind (t .kind)) refl h in
-            bad-here base (levelOf forms) text (a .stands) t (a .comes) (v .is-plain) b (v .steps);
+            bad-here baseLimits (levelOf forms) text (a .stands) t (a .comes) (v .is-plain) b (v .steps);
       }
 
   -- the node of a token that is a value by itself
@@ -153,7 +153,7 @@ module _ (t : Token.Token) (lent left : List ℕ) (index parent : ℕ) where
             record {
               tree = v .tree;
               depth = d;
-              stands = literal-on base (levelOf forms) text (a .stands) t (a .comes) (v .is-plain) b (v .steps);
+              stands = literal-on baseLimits (levelOf forms) text (a .stands) t (a .comes) (v .is-plain) b (v .steps);
               stops = λ u k x. v .no-names;
               shape-is = v .shape-is ∙ sym (says .shape-is);
               bare = λ g x. (v .bare g (sym (says .shape-is) ∙ x), refl);

@@ -28,7 +28,7 @@ use Rattle.grammar.specs.Nodes as Nodes
 use Rattle.grammar.specs.Nodes.{namesStart, namesSpan}
 use Rattle.grammar.proofs.Frames.{Stack, have, wantText, nextNames}
 use Rattle.grammar.proofs.Machine.{wantClass, haveClass, textClass}
-use Rattle.reading.specs.Sizes.{base}
+use Rattle.reading.specs.Sizes.{baseLimits}
 use Rattle.reading.proofs.At.{plain, kindOf, class-kind, mayBeBad, never-bad, not-wanting, literal-on, none-here, end-here, not-here, bad-here}
 use Rattle.moves.specs.declared.Forms.{Forms}
 use Rattle.moves.specs.declared.Role.the-variants as Role
@@ -170,8 +170,8 @@ module _ (text : List ℕ) where
               record {
                 names = none;
                 sign = spanOf t;
-                stands = literal-on base (levelOf forms) text (a .stands) t (a .comes) (ap (λ (k : Kind). plain (classKind k)) e)
-                    (never-bad base (levelOf forms) text t (a .comes) (ap mayBeBad e)) (ap (λ (k : Kind). wantClass (levelOf forms) (classKind k) (spanOf t) K) e);
+                stands = literal-on baseLimits (levelOf forms) text (a .stands) t (a .comes) (ap (λ (k : Kind). plain (classKind k)) e)
+                    (never-bad baseLimits (levelOf forms) text t (a .comes) (ap mayBeBad e)) (ap (λ (k : Kind). wantClass (levelOf forms) (classKind k) (spanOf t) K) e);
                 start-is = refl;
               };
         }
@@ -193,7 +193,7 @@ module _ (text : List ℕ) where
           names = names;
           stands =
               subst (λ (x : ℕ). Stands text forms d x (have (Tree.plain (Tree.nesting names)) K)) (sym (n .end-is))
-              (literal-on base (levelOf forms) text (w .stands) u (n .comes) (ap (λ (k : Kind). plain (classKind k)) (n .word-is)) (n .good)
+              (literal-on baseLimits (levelOf forms) text (w .stands) u (n .comes) (ap (λ (k : Kind). plain (classKind k)) (n .word-is)) (n .good)
               (ap (λ (k : Kind). textClass (classKind k) (w .names) (w .sign) (spanOf u) K) (n .word-is)));
           span-is = span-of (w .names) (w .sign) (wording (n .form)) (spanOf u) ∙ (λ i. record { first = w .start-is i; end = sym (n .end-is) i });
         }
@@ -214,8 +214,8 @@ module _ (text : List ℕ) where
                   sign = spanOf u;
                   stands =
                       subst (λ (x : ℕ). Stands text forms d x (wantText (some (w .names)) (spanOf u) K)) (sym (k .end-is))
-                      (literal-on base (levelOf forms) text (w .stands) u (k .comes) (ap (λ (x : Kind). plain (classKind x)) (k .sign-is))
-                      (never-bad base (levelOf forms) text u (k .comes) (ap mayBeBad (k .sign-is)))
+                      (literal-on baseLimits (levelOf forms) text (w .stands) u (k .comes) (ap (λ (x : Kind). plain (classKind x)) (k .sign-is))
+                      (never-bad baseLimits (levelOf forms) text u (k .comes) (ap mayBeBad (k .sign-is)))
                       (ap (λ (x : Kind). haveClass (levelOf forms) (classKind x) (Tree.plain (Tree.nesting (w .names))) (spanOf u) K) (k .sign-is)));
                   start-is = first-of (w .names) ∙ ap (λ (s : Span). s .first) (w .span-is);
                 };
@@ -276,7 +276,7 @@ module _ (text : List ℕ) where
           other forms K d w o =
               let u = o .token in
               subst (λ (x : ℕ). Faulty text forms 6 x) (sym (o .place-is))
-              (not-here base (levelOf forms) text (w .stands) u (o .comes) (not-wanting refl)
+              (not-here baseLimits (levelOf forms) text (w .stands) u (o .comes) (not-wanting refl)
               (no-step (classKind (u .kind)) (w .names) (w .sign) (spanOf u) K
               (λ x c. let f = text-form x in o .no-text (f .0) (class-kind (u .kind) c ∙ f .1))))
 
@@ -284,13 +284,13 @@ module _ (text : List ℕ) where
           bad forms K d w o =
               let u = o .word in
               subst (λ (x : ℕ). Faulty text forms 5 x) (sym (o .place-is))
-              (bad-here base (levelOf forms) text (w .stands) u (o .comes) (ap (λ (k : Kind). plain (classKind k)) (o .word-is)) (o .bad)
+              (bad-here baseLimits (levelOf forms) text (w .stands) u (o .comes) (ap (λ (k : Kind). plain (classKind k)) (o .word-is)) (o .bad)
               (ap (λ (k : Kind). textClass (classKind k) (w .names) (w .sign) (spanOf u) K) (o .word-is)))
 
           refused : (forms : Forms) (K : Stack) (d : ℕ) → Wants forms K d at → Faulty text forms number place
           refused forms K d w =
-              ⊎-elim (λ x. numbered forms (x .0) (none-here base (levelOf forms) text (w .stands) place (x .1)))
-              (λ y. ⊎-elim (λ x. numbered forms (x .0) (end-here base (levelOf forms) text (w .stands) place (x .1) refl))
+              ⊎-elim (λ x. numbered forms (x .0) (none-here baseLimits (levelOf forms) text (w .stands) place (x .1)))
+              (λ y. ⊎-elim (λ x. numbered forms (x .0) (end-here baseLimits (levelOf forms) text (w .stands) place (x .1) refl))
               (λ z. ⊎-elim (λ x. numbered forms (x .0) (other forms K d w (x .1))) (λ x. numbered forms (x .0) (bad forms K d w (x .1))) z) y)
               (subst (λ (x : Named). NameNext text at x) q n)
 

@@ -25,7 +25,7 @@ use Rattle.grammar.proofs.Frames as Frames
 use Rattle.grammar.proofs.Frames.{Config, Stack, want, have}
 use Rattle.grammar.proofs.Machine.{haveClass}
 use Rattle.grammar.proofs.NodeLaws.{some-node, same-size}
-use Rattle.reading.specs.Sizes.{base}
+use Rattle.reading.specs.Sizes.{baseLimits}
 use Rattle.reading.specs.Tokens.{seen, openMark}
 use Rattle.reading.proofs.Rows.{pick}
 use Rattle.reading.proofs.Decide.{whole}
@@ -59,7 +59,7 @@ use Rattle.tree.specs.declared.bracket.Turn.{Turn}
 use Rattle.tree.specs.declared.bracket.Turn.the-variants as Turn
 use Rattle.tree.specs.Looks.{Gets, NoHead, noMark, isClose, handedOn}
 use Rattle.tree.specs.Readers
-use Rattle.tree.specs.Readers.{spanOf, opened, Fit, Sized, Inner, From, Turned, Born, Stands, Faulty, Asks, IsValue, Outcome, Reads, Entered, Begun, BeginsSo, Holds, Turns, Bore, Member, Bracketed, Rounded, entering, signs, Ends, Alone, Slim, Literal, Nesting, Taken}
+use Rattle.tree.specs.Readers.{widest, spanOf, opened, Fit, Sized, Inner, From, Turned, Born, Stands, Faulty, Asks, IsValue, Outcome, Reads, Entered, Begun, BeginsSo, Holds, Turns, Bore, Member, Bracketed, Rounded, entering, signs, Ends, Alone, Slim, Literal, Nesting, Taken}
 use Rattle.tree.specs.Turning.{Narrow, Outer}
 use Rattle.tree.proofs.Bounds.{token-bounds}
 use Rattle.tree.proofs.Looking.{got-token, close-class}
@@ -162,8 +162,8 @@ module _ (text : List ℕ) (forms : Forms) where
   refused-here {d} {at} {n} {q} {c} g a w x e = go (subst (λ (y : Got). Gets text at y) e x)
     where
       go : Gets text at (Got.Refused n q) → Faulty text forms n q
-      go (inl (y, k)) = subst (λ (z : ℕ). Faulty text forms z q) (sym y) (none-here base (levelOf forms) text a q k)
-      go (inr (y, k)) = subst (λ (z : ℕ). Faulty text forms z q) (sym y) (end-here base (levelOf forms) text a q k w)
+      go (inl (y, k)) = subst (λ (z : ℕ). Faulty text forms z q) (sym y) (none-here baseLimits (levelOf forms) text a q k)
+      go (inr (y, k)) = subst (λ (z : ℕ). Faulty text forms z q) (sym y) (end-here baseLimits (levelOf forms) text a q k w)
 
   -- the same, handed on
   handed-refusal : {n q : ℕ} (g : Got) {h : Read} → g ≡ Got.Refused n q → h ≡ handedOn g → h ≡ Read.Refused n q
@@ -313,7 +313,7 @@ module _ (text : List ℕ) (forms : Forms) where
                   record {
                     tree = Tree.plain (Tree.group (spanOf t) (v .tree) (spanOf w));
                     depth = openMark Tokens.roundClose (v .depth);
-                    stands = sign-on base (levelOf forms) text (v .stands) w k' Tokens.roundClose i (ap (λ (p : Class). haveClass (levelOf forms) p (v .tree) (spanOf w) (opened text forms t K)) i);
+                    stands = sign-on baseLimits (levelOf forms) text (v .stands) w k' Tokens.roundClose i (ap (λ (p : Class). haveClass (levelOf forms) p (v .tree) (spanOf w) (opened text forms t K)) i);
                     stops = λ p p' p''. refl;
                     shape-is = refl;
                     bare = λ p p'. absurd (false≢true (ap isBare p'));
@@ -518,7 +518,7 @@ turn-narrow {text} i k =
 pub turn-outer : {text : List ℕ} {opener : Token.Token} {s : State.State} {index parent : ℕ} → Inner text opener s index parent → Outer opener s index parent
 turn-outer i = record { some-byte = i .fit .some-byte; index-fits = i .fit .index-fits; parent-fits = i .fit .parent-fits; after = i .after; deep-fits = i .deep-fits }
 
-pub child-fit : {text : List ℕ} {t : Token.Token} {s : State.State} {index : ℕ} → Narrow s t index → t .end ≤ length text → length text ≤ base .text → Fit text t (index + 1 + s .nodes) index
+pub child-fit : {text : List ℕ} {t : Token.Token} {s : State.State} {index : ℕ} → Narrow s t index → t .end ≤ length text → length text ≤ widest → Fit text t (index + 1 + s .nodes) index
 child-fit n h l = record { short = l; some-byte = n .token-byte; inside-text = h; index-fits = omega (arith, n .after, n .token-after); parent-fits = omega arith }
 
 -- bytes left, and behind them the reader's rank

@@ -20,7 +20,7 @@ use Rattle.grammar.specs.Nodes.{Node, nodes, over}
 use Rattle.grammar.proofs.NodeLaws.{roled, relabel, some-node}
 use Rattle.grammar.proofs.Frames as Frames
 use Rattle.grammar.proofs.Frames.{Config, Stack, want, have, namesOf}
-use Rattle.reading.specs.Sizes.{base}
+use Rattle.reading.specs.Sizes.{baseLimits}
 use Rattle.reading.specs.Tokens.{seen, openMark}
 use Rattle.reading.proofs.At.{At, opens, sign-on, literal-on, open-on, never-bad, mayBeBad, plain, kindOf, curly-known, sign-wrong, not-here, deep-here, class-kind}
 use Rattle.moves.specs.declared.Forms.{Forms}
@@ -159,7 +159,7 @@ module _ (text : List ℕ) (forms : Forms) where
 
   leads-holds : {opener : Token.Token} {lent from left : List ℕ} {index d at n k : ℕ} {K : Stack} {c : Config} {s : State.State} {mode : Mode} {then : ℕ → List Node} (t : Token.Token) →
       Holds text forms opener lent from index K c s → (g : Leads (levelOf forms) c (seen t) mode then) →
-      At base (levelOf forms) text d at (g .to) → length left ≡ length from → n ≡ length (then index) →
+      At baseLimits (levelOf forms) text d at (g .to) → length left ≡ length from → n ≡ length (then index) →
       Written lent left (index + 1) (then index) →
       Holds text forms opener lent left index K (g .to) (record { mode = mode; at = at; deep = d; nodes = n; last = k })
   leads-holds {lent = lent} {left = left} {index = index} t h g a e n w =
@@ -188,7 +188,7 @@ module _ (text : List ℕ) (forms : Forms) where
         subst (Turns text forms opener lent left index parent K) (sym (l .turn-is)) (
           g .to,
           leads-holds t h g
-              (subst (λ (d : ℕ). At base (levelOf forms) text d (t .end) (g .to)) (flat-depth (m .sign) (s .deep) (m .flat-is)) (sign-on base (levelOf forms) text (h .stands) t k (m .sign) (m .class-is) (g .steps)))
+              (subst (λ (d : ℕ). At baseLimits (levelOf forms) text d (t .end) (g .to)) (flat-depth (m .sign) (s .deep) (m .flat-is)) (sign-on baseLimits (levelOf forms) text (h .stands) t k (m .sign) (m .class-is) (g .steps)))
               e (h .count-is ∙ sym (told-length c (roleOf role) index))
               (role-written index c role (h .written) (h .length-is) (l .role-is) (h .last-is) u),
         )
@@ -199,7 +199,7 @@ module _ (text : List ℕ) (forms : Forms) where
     shut-on {left} {style} {role} r parent (m, u, g) e l =
         subst (Turns text forms opener lent left index parent K) (sym (l .turn-is)) (
           g .to,
-          leads-holds t h g (sign-on base (levelOf forms) text (h .stands) t k Tokens.curlyClose m (g .steps))
+          leads-holds t h g (sign-on baseLimits (levelOf forms) text (h .stands) t k Tokens.curlyClose m (g .steps))
               e (h .count-is ∙ sym (told-length c (roleOf role) index))
               (role-written index c role (h .written) (h .length-is) (l .role-is) (h .last-is) u),
         )
@@ -213,7 +213,7 @@ module _ (text : List ℕ) (forms : Forms) where
         subst (Turns text forms opener lent left index parent K) (sym (d .led .turn-is)) (
           g .to,
           leads-holds t h g
-              (subst (λ (y : ℕ). At base (levelOf forms) text y (t .end) (g .to)) (flat-depth (m .sign) (s .deep) (m .flat-is)) (sign-on base (levelOf forms) text (h .stands) t k (m .sign) (m .class-is) (g .steps)))
+              (subst (λ (y : ℕ). At baseLimits (levelOf forms) text y (t .end) (g .to)) (flat-depth (m .sign) (s .deep) (m .flat-is)) (sign-on baseLimits (levelOf forms) text (h .stands) t k (m .sign) (m .class-is) (g .steps)))
               e
               (h .count-is ∙ omega (arith, length-append (roled Nodes.name ns) (roled Nodes.value (last c index)), length-append ns (last c index), same, roled-length Nodes.value (last c index)))
               (written-role (roled Nodes.name ns) (last c index)
@@ -228,21 +228,21 @@ module _ (text : List ℕ) (forms : Forms) where
     pub deeper-on : {style : Style} (r : Turn) (parent : ℕ) → Does (levelOf forms) c (seen t) (Move.Deeper style) → Deepened s t style r → Turns text forms opener lent from index parent K r
     deeper-on {style} r parent (m, g) (inl (d, e)) =
         subst (Turns text forms opener lent from index parent K) (sym e)
-        (deep-here base (levelOf forms) text (h .stands) t k (ap opens m) (curly-known base (levelOf forms) text (h .stands) t m) d (g .steps))
+        (deep-here baseLimits (levelOf forms) text (h .stands) t k (ap opens m) (curly-known baseLimits (levelOf forms) text (h .stands) t m) d (g .steps))
     deeper-on {style} r parent (m, g) (inr (d, e)) =
         subst (Turns text forms opener lent from index parent K) (sym e) (
           g .to,
           leads-holds t h g
-              (subst (λ (y : ℕ). At base (levelOf forms) text y (t .end) (g .to)) (omega arith) (open-on base (levelOf forms) text (h .stands) t k (ap opens m) (curly-known base (levelOf forms) text (h .stands) t m) d (g .steps)))
+              (subst (λ (y : ℕ). At baseLimits (levelOf forms) text y (t .end) (g .to)) (omega arith) (open-on baseLimits (levelOf forms) text (h .stands) t k (ap opens m) (curly-known baseLimits (levelOf forms) text (h .stands) t m) d (g .steps)))
               refl (h .count-is) (h .written),
         )
 
     -- no sign takes the token
     pub wrong-here : (r : Turn) (left : List ℕ) (parent : ℕ) → Does (levelOf forms) c (seen t) Move.Wrong → r ≡ Turn.Ended (Read.Refused 6 (t .first)) → Turns text forms opener lent left index parent K r
     wrong-here r left parent (e, inl n) q =
-        subst (Turns text forms opener lent left index parent K) (sym q) (not-here base (levelOf forms) text (h .stands) t k n e)
+        subst (Turns text forms opener lent left index parent K) (sym q) (not-here baseLimits (levelOf forms) text (h .stands) t k n e)
     wrong-here r left parent (e, inr (m, x)) q =
-        subst (Turns text forms opener lent left index parent K) (sym q) (sign-wrong base (levelOf forms) text (h .stands) t k m x e)
+        subst (Turns text forms opener lent left index parent K) (sym q) (sign-wrong baseLimits (levelOf forms) text (h .stands) t k m x e)
 
     -- a count, which is a node by itself
     pub count-on : {left : List ℕ} {style : Style} (r : Turn) (parent : ℕ) → Does (levelOf forms) c (seen t) (Move.Count style) → length left ≡ length from →
@@ -256,8 +256,8 @@ module _ (text : List ℕ) (forms : Forms) where
         subst (Turns text forms opener lent left index parent K) (sym (d .turn-is)) (
           g .to,
           leads-holds t h g
-              (literal-on base (levelOf forms) text (h .stands) t k (ap plain (n .class-is))
-              (never-bad base (levelOf forms) text t k (ap mayBeBad (class-kind (t .kind) (n .class-is)) ∙ count-kind (n .atom) (n .is-count))) (g .steps))
+              (literal-on baseLimits (levelOf forms) text (h .stands) t k (ap plain (n .class-is))
+              (never-bad baseLimits (levelOf forms) text t k (ap mayBeBad (class-kind (t .kind) (n .class-is)) ∙ count-kind (n .atom) (n .is-count))) (g .steps))
               e (omega (arith, h .count-is, length-append (children c index) (node ∷ [])))
               (written-more (h .written) (h .length-is) (written-node node (subst (λ (x : ℕ). Put from left (index + 1 + x) node) (h .count-is) put))),
         )
@@ -275,7 +275,7 @@ module _ (text : List ℕ) (forms : Forms) where
         (record {
           tree = v;
           depth = openMark (m .sign) (s .deep);
-          stands = subst (λ (x : Stack). At base (levelOf forms) text (openMark (m .sign) (s .deep)) (t .end) (have v x)) (h .stack-is) (sign-on base (levelOf forms) text (h .stands) t k (m .sign) (m .class-is) (g .steps));
+          stands = subst (λ (x : Stack). At baseLimits (levelOf forms) text (openMark (m .sign) (s .deep)) (t .end) (have v x)) (h .stack-is) (sign-on baseLimits (levelOf forms) text (h .stands) t k (m .sign) (m .class-is) (g .steps));
           stops = λ x y z. other-names v (g .shape-is);
           shape-is = g .shape-is;
           bare = λ x y. absurd (false≢true (ap isBare y));

@@ -1,7 +1,7 @@
 -- A whole text: from the value's reading to the answer. Assumes nothing.
 use mathlib.Core.Path.{_≡_, refl, sym, ap, subst, _∙_}
 use mathlib.Core.List.{List, [], _∷_, _++_}
-use mathlib.Core.Option.{none}
+use mathlib.Core.Option.{none, some}
 use Prim.Native.Nat.{ℕ, _+_, _*_, _≤_, _<_}
 use native.Mathlib.Omega.{arith}
 use lib.ListN.{length, drop}
@@ -24,7 +24,10 @@ use Rattle.grammar.specs.Nodes.{table, tableWords, nodeWords}
 use Rattle.grammar.proofs.Frames.{namesOf}
 use Rattle.grammar.proofs.Machine.{haveClass, namesGo}
 use Rattle.reading.specs.declared.Answer.{Answer}
-use Rattle.reading.specs.Sizes.{base, room}
+use Rattle.reading.specs.declared.Limits.{Limits}
+use Rattle.reading.specs.declared.Rules.{Rules}
+use Rattle.reading.specs.Sizes.{baseLimits, room}
+use Rattle.reading.specs.Faults.{FirstFault}
 use Rattle.reading.specs.Answers.{LevelOf, Accepted, Answers, answer, noLevel, tooLong, notUtf8, faulty, noRoom, accepted}
 use Rattle.reading.proofs.First.{all-or-fault}
 use Rattle.reading.proofs.Unique.{one-tree}
@@ -42,15 +45,15 @@ use Rattle.tree.specs.declared.answer.Got.the-variants as Got
 use Rattle.tree.specs.declared.level.Leveled.{Leveled}
 use Rattle.tree.specs.declared.level.Leveled.the-variants as Leveled
 use Rattle.tree.specs.Looks.{Gets, handedOn, LevelFound}
-use Rattle.tree.specs.Readers.{spanOf, Faulty, Fit, IsValue, Outcome, Reads}
-use Rattle.tree.specs.Whole.{Behind, further, nothing, atEnd, Whole, JudgedAs, Judged, Told, beyondBy, refusal}
+use Rattle.tree.specs.Readers.{widest, spanOf, Faulty, Fit, IsValue, Outcome, Reads}
+use Rattle.tree.specs.Whole.{Followed, Behind, further, nothing, atEnd, Whole, JudgedAs, Judged, Told, beyondBy, refusal}
 use Rattle.tree.proofs.Bounds.{token-bounds}
 use Rattle.tree.proofs.Looking.{got-token}
 use Rattle.tree.proofs.Readings.{refused-here}
 
 -- what the room holds are words of the table
-roomy : (n words : ℕ) → n ≤ room base words → n * nodeWords ≤ words
-roomy n words h = omega (arith, h)
+roomy : (rules : Rules) (n words : ℕ) → n ≤ room rules words → n * nodeWords ≤ words
+roomy rules n words h = omega (arith, h)
 
 -- ---- what stands behind the value
 
@@ -73,29 +76,29 @@ stuck l Tokens.square v s f = refl
 stuck l (Tokens.mark m) v s f = refl
 stuck l Tokens.later v s f = refl
 
-pub whole-fit : (text : List ℕ) {p : ℕ} {t : Token.Token} → Comes text p (Next.Token t) → length text ≤ base .text → Fit text t 0 0 × (0 ≤ t .first)
+pub whole-fit : (text : List ℕ) {p : ℕ} {t : Token.Token} → Comes text p (Next.Token t) → length text ≤ widest → Fit text t 0 0 × (0 ≤ t .first)
 whole-fit text k h =
     let y = token-bounds text k in
     (record { short = h; some-byte = y .1; inside-text = y .2; index-fits = omega arith; parent-fits = omega arith }, omega arith)
 
 module _ (text : List ℕ) (forms : Forms) where
   -- an accepted text has no fault
-  accepted-faultless : {lent : List ℕ} {v : Value} → Accepted base text lent (levelOf forms) v → (n q : ℕ) → Faulty text forms n q → ⊥
-  accepted-faultless a n q f = all-or-fault text base (levelOf forms) (a .passed) f
+  accepted-faultless : {v : Value} → Accepted baseLimits text (levelOf forms) v → (n q : ℕ) → Faulty text forms n q → ⊥
+  accepted-faultless a n q f = all-or-fault text baseLimits (levelOf forms) (a .passed) f
 
   -- ---- the value of a text
 
   module _ {lent left : List ℕ} {p : ℕ} (f : Front text p) (g : Got) (x : Gets text p g) where
     pub whole-missing : {n q : ℕ} (h : Read) → g ≡ Got.Refused n q → h ≡ handedOn g → Judged text forms lent left h
     whole-missing h e y =
-        subst (Judged text forms lent left) (sym (y ∙ ap handedOn e)) (record { judged = refused-here text forms g (at-start base (levelOf forms) text f) refl x e })
+        subst (Judged text forms lent left) (sym (y ∙ ap handedOn e)) (record { judged = refused-here text forms g (at-start baseLimits (levelOf forms) text f) refl x e })
 
     module _ {t : Token.Token} (e : g ≡ Got.Token t) where
       module _ (r : Read) (y : Reads text forms 0 t lent left 0 0 r) where
         value-read : (z : Read) → r ≡ z → Outcome text forms [] t lent left 0 0 z
         value-read z q =
             subst (λ (w : Read). Outcome text forms [] t lent left 0 0 w) q
-            (y .outcome [] p (record { stands = at-start base (levelOf forms) text f; comes = got-token text p e x; no-sign = λ m i. refl }))
+            (y .outcome [] p (record { stands = at-start baseLimits (levelOf forms) text f; comes = got-token text p e x; no-sign = λ m i. refl }))
 
         pub whole-refused : {n q : ℕ} → r ≡ Read.Refused n q → Judged text forms lent left r
         whole-refused {n} {q} i = subst (Judged text forms lent left) (sym i) (record { judged = value-read (Read.Refused n q) i })
@@ -108,69 +111,71 @@ module _ (text : List ℕ) (forms : Forms) where
 
             go : (w : Read) → Behind text end (Read.Value end n shape) w → JudgedAs text forms lent left w
             go w (further {t = u} k) =
-                not-here base (levelOf forms) text (v .stands) u k (not-wanting refl)
+                not-here baseLimits (levelOf forms) text (v .stands) u k (not-wanting refl)
                 (stuck (levelOf forms) (classKind (u .kind)) (v .tree) (spanOf u) (λ q. v .stops u k (class-kind (u .kind) q)))
-            go w (nothing {q = q} k) = none-here base (levelOf forms) text (v .stands) q k
+            go w (nothing {q = q} k) = none-here baseLimits (levelOf forms) text (v .stands) q k
             go w (atEnd {q = q} k) =
-                let a : (s : List ℕ) → Accepted base text s (levelOf forms) (v .tree) = λ s. At.accepted base (levelOf forms) text s (v .stands) q k .0 in
-                record { tree = v .tree; accepted = a; count-is = v .count-is; written = v .written }
+                record { tree = v .tree; accepted = At.accepted baseLimits (levelOf forms) text (v .stands) q k .0; count-is = v .count-is; written = v .written }
 
   -- ---- the answer
 
-  module _ {lent : List ℕ} (h : length text ≤ base .text) where
-    pub told-refused : {none left' : List ℕ} {n q : ℕ} {r : Answer} (z : Read) → Judged text forms none left' z → z ≡ Read.Refused n q → r ≡ refusal z → Told text forms lent lent r
+  module _ {rules : Rules} (k : Followed rules) {lent : List ℕ} (h : length text ≤ rules .text) where
+    pub told-refused : {none left' : List ℕ} {n q : ℕ} {r : Answer} (z : Read) → Judged text forms none left' z → z ≡ Read.Refused n q → r ≡ refusal z → Told text rules forms lent lent r
     told-refused {none} {left'} {n} {q} z j e i =
         let f = subst (λ (w : Read). JudgedAs text forms none left' w) e (j .judged) in
-        record { answers = λ number o w. subst (λ (s : Answer). Answers base text lent number s lent) (sym (i ∙ ap refusal e)) (faulty o h w f) }
+        let g = subst (λ (x : Limits). FirstFault x (levelOf forms) text n q) (sym (k .same-limits)) f in
+        record { answers = λ number o w. subst (λ (s : Answer). Answers rules text lent number s lent) (sym (i ∙ ap refusal e)) (record { tree = _; reading = faulty o h w g; left-is = refl }) }
 
   module _ {none left' : List ℕ} {end n : ℕ} {shape : Shape} (z : Read) (j : Judged text forms none left' z) (e : z ≡ Read.Value end n shape) where
     judged-whole : Whole text forms none left' n
     judged-whole = subst (λ (w : Read). JudgedAs text forms none left' w) e (j .judged)
 
-    module _ {lent : List ℕ} (h : length text ≤ base .text) where
-      pub told-full : {m : ℕ} → m ≡ room base (length lent) → m < n → Told text forms lent lent (answer 8 (length text) n)
+    judged-accepted : {rules : Rules} → Followed rules → Accepted (rules .limits) text (levelOf forms) (judged-whole .tree)
+    judged-accepted k = subst (λ (x : Limits). Accepted x text (levelOf forms) (judged-whole .tree)) (sym (k .same-limits)) (judged-whole .accepted)
+
+    module _ {rules : Rules} (k : Followed rules) {lent : List ℕ} (h : length text ≤ rules .text) where
+      pub told-full : {m : ℕ} → m ≡ room rules (length lent) → m < n → Told text rules forms lent lent (answer 8 (length text) n)
       told-full q l =
           let v = judged-whole in
           record {
             answers = λ number o w.
-                subst (λ (k : ℕ). Answers base text lent number (answer 8 (length text) k) lent) (sym (v .count-is))
-                (noRoom o h w (v .accepted lent) (omega (arith, q, l, v .count-is)));
+                subst (λ (c : ℕ). Answers rules text lent number (answer 8 (length text) c) lent) (sym (v .count-is))
+                (record { tree = _; reading = noRoom o h w (judged-accepted k) (omega (arith, q, l, v .count-is)); left-is = refl });
           }
 
-      written-as : {m : ℕ} {left : List ℕ} (y : Read) → m ≡ room base (length lent) → n ≤ m → JudgedAs text forms lent left y → Told text forms lent left (answer 0 (length text) n)
-      written-as {m} {left} (Read.Refused k q) i l d = absurd (accepted-faultless (judged-whole .accepted []) k q d)
-      written-as {m} {left} (Read.Value end' k shape') i l d =
+      written-as : {m : ℕ} {left : List ℕ} (y : Read) → m ≡ room rules (length lent) → n ≤ m → JudgedAs text forms lent left y → Told text rules forms lent left (answer 0 (length text) n)
+      written-as {m} {left} (Read.Refused c q) i l d = absurd (accepted-faultless (judged-whole .accepted) c q d)
+      written-as {m} {left} (Read.Value end' c shape') i l d =
           let v = judged-whole in
-          let same : v .tree ≡ d .tree = one-tree base text lent refl (v .accepted lent) (d .accepted lent) in
-          let fits : n ≤ room base (length lent) = omega (arith, i, l) in
+          let same : v .tree ≡ d .tree = one-tree baseLimits text refl (v .accepted) (d .accepted) in
+          let fits : n ≤ room rules (length lent) = omega (arith, i, l) in
           let w : left ≡ tableWords (table (v .tree)) ++ drop (nodeWords * length (table (v .tree))) lent =
-          written-whole (subst (λ (t : Value). Written lent left 0 (table t)) (sym same) (d .written)) (roomy (length (table (v .tree))) (length lent) (omega (arith, fits, v .count-is))) in
+          written-whole (subst (λ (t : Value). Written lent left 0 (table t)) (sym same) (d .written)) (roomy rules (length (table (v .tree))) (length lent) (omega (arith, fits, v .count-is))) in
           record {
             answers = λ number o u.
-                subst (λ (s : List ℕ). Answers base text lent number (answer 0 (length text) n) s) (sym w)
-                (subst (λ (c : ℕ). Answers base text lent number (answer 0 (length text) c) (tableWords (table (v .tree)) ++ drop (nodeWords * length (table (v .tree))) lent)) (sym (v .count-is))
-                (accepted o h u (v .accepted lent) (omega (arith, fits, v .count-is))));
+                subst (λ (x : ℕ). Answers rules text lent number (answer 0 (length text) x) left) (sym (v .count-is))
+                (record { tree = some (v .tree); reading = accepted o h u (judged-accepted k) (omega (arith, fits, v .count-is)); left-is = w });
           }
 
-      pub told-written : {m : ℕ} {left : List ℕ} (y : Read) → m ≡ room base (length lent) → n ≤ m → Judged text forms lent left y → Told text forms lent left (answer 0 (length text) n)
+      pub told-written : {m : ℕ} {left : List ℕ} (y : Read) → m ≡ room rules (length lent) → n ≤ m → Judged text forms lent left y → Told text rules forms lent left (answer 0 (length text) n)
       told-written y i l d = written-as y i l (d .judged)
 
 -- ---- the tests over the whole text
 
-module _ (text lent : List ℕ) (number : ℕ) (l : Leveled) (x : LevelFound number l) where
-  pub read-no-level : {r : Answer} → l ≡ Leveled.Nothing → r ≡ answer 1 0 0 → Answers base text lent number r lent
-  read-no-level e q = subst (λ (s : Answer). Answers base text lent number s lent) (sym q) (noLevel (subst (λ (y : Leveled). LevelFound number y) e x))
+module _ (rules : Rules) (text lent : List ℕ) (number : ℕ) (l : Leveled) (x : LevelFound number l) where
+  pub read-no-level : {r : Answer} → l ≡ Leveled.Nothing → r ≡ answer 1 0 0 → Answers rules text lent number r lent
+  read-no-level e q = subst (λ (s : Answer). Answers rules text lent number s lent) (sym q) (record { tree = _; reading = noLevel (subst (λ (y : Leveled). LevelFound number y) e x); left-is = refl })
 
   module _ {forms : Forms} (e : l ≡ Leveled.Has forms) where
     of-level : LevelOf number (levelOf forms)
     of-level = subst (λ (y : Leveled). LevelFound number y) e x
 
-    pub read-long : {r : Answer} → base .text < length text → r ≡ answer 2 0 0 → Answers base text lent number r lent
-    read-long h q = subst (λ (s : Answer). Answers base text lent number s lent) (sym q) (tooLong of-level h)
+    pub read-long : {r : Answer} → rules .text < length text → r ≡ answer 2 0 0 → Answers rules text lent number r lent
+    read-long h q = subst (λ (s : Answer). Answers rules text lent number s lent) (sym q) (record { tree = _; reading = tooLong of-level h; left-is = refl })
 
-    module _ (h : length text ≤ base .text) (c : Encoding) (y : Encoded text c) where
-      pub read-bad : {p : ℕ} {r : Answer} → c ≡ Encoding.BadAt p → r ≡ answer 3 p 0 → Answers base text lent number r lent
-      read-bad i q = subst (λ (s : Answer). Answers base text lent number s lent) (sym q) (notUtf8 of-level h (subst (λ (z : Encoding). Encoded text z) i y))
+    module _ (h : length text ≤ rules .text) (c : Encoding) (y : Encoded text c) where
+      pub read-bad : {p : ℕ} {r : Answer} → c ≡ Encoding.BadAt p → r ≡ answer 3 p 0 → Answers rules text lent number r lent
+      read-bad i q = subst (λ (s : Answer). Answers rules text lent number s lent) (sym q) (record { tree = _; reading = notUtf8 of-level h (subst (λ (z : Encoding). Encoded text z) i y); left-is = refl })
 
-      pub read-told : {left : List ℕ} {r : Answer} → c ≡ Encoding.WellFormed → Told text forms lent left r → Answers base text lent number r left
+      pub read-told : {left : List ℕ} {r : Answer} → c ≡ Encoding.WellFormed → Told text rules forms lent left r → Answers rules text lent number r left
       read-told i d = d .answers number of-level (subst (λ (z : Encoding). Encoded text z) i y)

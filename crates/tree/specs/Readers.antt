@@ -20,7 +20,7 @@ use Rattle.grammar.specs.Nodes.{nodes}
 use Rattle.grammar.proofs.Frames as Frames
 use Rattle.grammar.proofs.Frames.{Config, Stack, want, have, namesOf}
 use Rattle.grammar.proofs.Machine.{wantMark}
-use Rattle.reading.specs.Sizes.{base}
+use Rattle.reading.specs.Sizes.{baseLimits}
 use Rattle.reading.specs.Tokens.{seen}
 use Rattle.reading.specs.Faults.{FirstFault}
 use Rattle.reading.proofs.At as Place
@@ -42,6 +42,10 @@ use Rattle.tree.specs.declared.bracket.State as State
 use Rattle.tree.specs.declared.bracket.Turn.{Turn}
 use Rattle.tree.specs.declared.bracket.Turn.the-variants as Turn
 use Rattle.tree.specs.Looks.{Gets, NotNext, NoHead, noMark, isClose}
+
+-- the bytes of a text at most, whatever the rules: up to here every place and every count of nodes fits a word of the table
+abbrev pub widest : ℕ
+widest = 1048576
 
 -- the numbers of a turn that reads no value
 abbrev pub Ends : Token.Token → Token.Token → Turn → Type 0
@@ -84,7 +88,7 @@ module _ (text : List ℕ) where
   -- ---- numbers: a value's nodes are at most its bytes, so no sum is too large
 
   pub record Fit (t : Token.Token) (index parent : ℕ) : Type 0 where
-    pub short : length text ≤ base .text
+    pub short : length text ≤ widest
     pub some-byte : t .first < t .end
     pub inside-text : t .end ≤ length text
     pub index-fits : index ≤ t .first
@@ -124,10 +128,10 @@ module _ (text : List ℕ) where
 
   module _ (forms : Forms) where
     abbrev pub Stands : ℕ → ℕ → Config → Type 0
-    Stands d p c = Place.At base (levelOf forms) text d p c
+    Stands d p c = Place.At baseLimits (levelOf forms) text d p c
 
     abbrev pub Faulty : ℕ → ℕ → Type 0
-    Faulty n q = FirstFault base (levelOf forms) text n q
+    Faulty n q = FirstFault baseLimits (levelOf forms) text n q
 
     -- no `::` goes on with the value that ends here
     abbrev pub Stops : Value → ℕ → Type 0
@@ -244,7 +248,7 @@ Alone t (Read.Refused n q) = Unit {0}
 
 pub record Slim (t : Token.Token) (index parent : ℕ) : Type 0 where
   pub some-byte : t .first < t .end
-  pub short : t .end ≤ base .text
+  pub short : t .end ≤ widest
   pub index-fits : index ≤ t .first
   pub parent-fits : parent ≤ index
 

@@ -5,7 +5,7 @@ use mathlib.Core.List.{List}
 use Prim.Native.Nat.{ℕ, _+_, _≤_, _<_, pred}
 use lib.ListN.{length}
 use Rattle.lexicon.specs.declared.Token as Token
-use Rattle.reading.specs.Sizes.{base}
+use Rattle.reading.specs.Sizes.{baseLimits}
 use Rattle.moves.specs.declared.Role.{Role}
 use Rattle.moves.specs.declared.Role.the-variants as Role
 use Rattle.moves.specs.declared.Shape.the-variants as Shape
@@ -19,6 +19,7 @@ use Rattle.moves.specs.declared.Mode.the-variants as Mode
 use Rattle.table.specs.declared.Entry as Entry
 use Rattle.table.specs.Over.{Stored, entryWords, Assigned}
 use Rattle.tree.specs.Tellings.{leafKind, leafDetail}
+use Rattle.tree.specs.Readers.{widest}
 use Rattle.tree.specs.declared.answer.Read.the-variants as Read
 use Rattle.tree.specs.declared.bracket.State as State
 use Rattle.tree.specs.declared.bracket.Turn.{Turn}
@@ -31,7 +32,7 @@ pub record Narrow (s : State.State) (t : Token.Token) (index : ℕ) : Type 0 whe
   pub after : index + 1 + s .nodes ≤ s .at
   pub token-after : s .at ≤ t .first
   pub token-byte : t .first < t .end
-  pub short : t .end ≤ base .text
+  pub short : t .end ≤ widest
 
 -- of the bracket's first token
 pub record Outer (opener : Token.Token) (s : State.State) (index parent : ℕ) : Type 0 where
@@ -71,8 +72,8 @@ module _ (s : State.State) (t : Token.Token) where
 
   abbrev pub Deepened : Style → Turn → Type 0
   Deepened style r =
-      ((base .depth ≤ s .deep) × (r ≡ Turn.Ended (Read.Refused 11 (t .first)))) ⊎
-      ((s .deep < base .depth) × (r ≡ Turn.On (behind s (Mode.Want (Frame.Curly (Curly.Members style Front.Start))) t (s .deep + 1) (s .nodes))))
+      ((baseLimits .depth ≤ s .deep) × (r ≡ Turn.Ended (Read.Refused 11 (t .first)))) ⊎
+      ((s .deep < baseLimits .depth) × (r ≡ Turn.On (behind s (Mode.Want (Frame.Curly (Curly.Members style Front.Start))) t (s .deep + 1) (s .nodes))))
 
   pub record Shuts (style : Style) (role : Role) (from left : List ℕ) (r : Turn) : Type 0 where
     pub turn-is : r ≡ Turn.On (behind s (Mode.Headed style) t (pred (s .deep)) (s .nodes))

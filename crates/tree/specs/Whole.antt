@@ -1,7 +1,7 @@
 -- A whole text: its value, the end behind it, and the answer. Assumes nothing.
 use mathlib.Core.Path.{_≡_}
 use mathlib.Core.List.{List}
-use Prim.Native.Nat.{ℕ}
+use Prim.Native.Nat.{ℕ, _≤_}
 use lib.ListN.{length}
 use Rattle.lexicon.specs.declared.Token as Token
 use Rattle.lexicon.specs.declared.Next.{Next}
@@ -11,14 +11,20 @@ use Rattle.lexicon.specs.Utf8.{WellFormed}
 use Rattle.grammar.specs.Tree.{Value}
 use Rattle.grammar.specs.Nodes.{table}
 use Rattle.reading.specs.declared.Answer.{Answer}
-use Rattle.reading.specs.Sizes.{base}
+use Rattle.reading.specs.declared.Rules.{Rules}
+use Rattle.reading.specs.Sizes.{baseLimits}
 use Rattle.reading.specs.Answers.{LevelOf, Accepted, Answers, answer}
 use Rattle.moves.specs.declared.Forms.{Forms}
 use Rattle.moves.proofs.Means.{levelOf}
 use Rattle.table.specs.Over.{Written}
 use Rattle.tree.specs.declared.answer.Read.{Read}
 use Rattle.tree.specs.declared.answer.Read.the-variants as Read
-use Rattle.tree.specs.Readers.{Faulty}
+use Rattle.tree.specs.Readers.{widest, Faulty}
+
+-- the rules that this reader can follow: its numbers are wide enough for the text, and its code is written for these limits
+pub record Followed (rules : Rules) : Type 0 where
+  pub narrow : rules .text ≤ widest
+  pub same-limits : rules .limits ≡ baseLimits
 
 module _ (text : List ℕ) where
   -- what stands behind the value: a token, no token, or the end, which leaves the reading as it is
@@ -30,7 +36,7 @@ module _ (text : List ℕ) where
   -- the text is accepted; its nodes are counted, and written if they fit
   pub record Whole (forms : Forms) (lent left : List ℕ) (n : ℕ) : Type 0 where
     pub tree : Value
-    pub accepted : (t : List ℕ) → Accepted base text t (levelOf forms) tree
+    pub accepted : Accepted baseLimits text (levelOf forms) tree
     pub count-is : n ≡ length (table tree)
     pub written : Written lent left 0 (table tree)
 
@@ -42,8 +48,8 @@ module _ (text : List ℕ) where
     pub judged : JudgedAs forms lent left r
 
   -- the answer, whatever the level's number
-  pub record Told (forms : Forms) (lent left : List ℕ) (r : Answer) : Type 0 where
-    pub answers : (number : ℕ) → LevelOf number (levelOf forms) → WellFormed text → Answers base text lent number r left
+  pub record Told (rules : Rules) (forms : Forms) (lent left : List ℕ) (r : Answer) : Type 0 where
+    pub answers : (number : ℕ) → LevelOf number (levelOf forms) → WellFormed text → Answers rules text lent number r left
 
 -- a refusal, as an answer
 abbrev pub refusal : Read → Answer

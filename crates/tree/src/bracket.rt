@@ -18,10 +18,9 @@ use table::assign;
 use table::put;
 ghost use mathlib.Core.Path.{_≡_};
 ghost use Prim.Native.Nat.{pred, _≤_};
-ghost use Rattle.reading.specs.Sizes.{base};
 ghost use Rattle.tree.specs.declared.answer.Read.the-variants as Read;
 ghost use Rattle.tree.specs.declared.bracket.Turn.the-variants as Turn;
-ghost use Rattle.tree.specs.Readers.{entering as enteringOf, Ends, Taken};
+ghost use Rattle.tree.specs.Readers.{widest, entering as enteringOf, Ends, Taken};
 ghost use Rattle.tree.specs.Turning.{Narrow, Outer, Led, Tupled, Counted, Deepened, Shuts, Closed};
 
 // What is expected, from which place; the open brackets; the nodes of the members so far; the last member's first node.
@@ -41,7 +40,7 @@ pub enum Turn {
 
 // Where a bracket is entered: it has no member yet.
 pub(crate) fn entering(mode: Mode, at: usize, depth: usize, index: usize) -> State
-    requires { ⌜ depth ≤ base .text ⌝ }
+    requires { ⌜ depth ≤ widest ⌝ }
     ensures { λ r. ⌜ r ≡ enteringOf mode at depth index ⌝ }
 {
     State {

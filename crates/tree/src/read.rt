@@ -4,6 +4,7 @@ use crate::answer::Got;
 use crate::answer::Read;
 use crate::answer::get;
 use crate::answer::handed;
+use crate::begin::DEPTH;
 use crate::level::Leveled;
 use crate::level::level_of;
 use crate::value::value;
@@ -11,6 +12,8 @@ use lexicon::Encoding;
 use lexicon::Next;
 use moves::Forms;
 use reading::Answer;
+use reading::Limits;
+use reading::Rules;
 use text::front::front;
 use text::utf8::utf8;
 use token::next::next;
@@ -19,11 +22,15 @@ ghost use Prim.Native.Nat.{_≤_};
 ghost use lib.ListN.{length};
 ghost use Rattle.reading.specs.Sizes.{base, room as roomOf};
 ghost use Rattle.reading.specs.Answers.{Answers, answer};
-ghost use Rattle.tree.specs.Whole.{Behind, Judged, Told, beyondBy, refusal};
+ghost use Rattle.tree.specs.Readers.{widest};
+ghost use Rattle.tree.specs.Whole.{Followed, Behind, Judged, Told, beyondBy, refusal};
 
-const LONGEST: usize = 32768;
-
-const MOST_NODES: usize = 1024;
+// The sizes of document 01.
+const RULES: Rules = Rules {
+    text: 32768,
+    nodes: 1024,
+    limits: Limits { depth: DEPTH },
+};
 
 const WORDS: usize = 6;
 
@@ -38,14 +45,14 @@ fn refused(number: u32, place: usize) -> Answer
 }
 
 // How many nodes the table has room for.
-fn room(words: usize) -> usize
-    ensures { λ r. ⌜ r ≡ roomOf base words ⌝ }
+fn room(rules: Rules, words: usize) -> usize
+    ensures { λ r. ⌜ r ≡ roomOf rules words ⌝ }
 {
     let nodes = words / WORDS;
-    if nodes < MOST_NODES {
+    if nodes < rules.nodes {
         return nodes;
     }
-    MOST_NODES
+    rules.nodes
 }
 
 // Behind the value of a text stands nothing but the end.
@@ -75,7 +82,7 @@ fn beyond(then: Next) -> Read
 
 // The value of a text, whose nodes stand from the table's start on.
 fn whole(text: &[u8], forms: Forms, table: &mut [u32]) -> Read
-    requires { ⌜ length (now text) ≤ base .text ⌝ }
+    requires { ⌜ length (now text) ≤ widest ⌝ }
     ensures { λ r. ⌜ Judged (now (text .entry)) forms (now (table .entry)) (now (table .exit)) r ⌝ }
 {
     let got = get(text, front(text));
@@ -109,9 +116,9 @@ fn given(read: Read) -> Answer
 }
 
 // The text is judged and its nodes counted before the lent table is written.
-fn tokens(text: &[u8], forms: Forms, table: &mut [u32]) -> Answer
-    requires { ⌜ length (now text) ≤ base .text ⌝ }
-    ensures { λ r. ⌜ Told (now (text .entry)) forms (now (table .entry)) (now (table .exit)) r ⌝ }
+fn tokens(rules: Rules, text: &[u8], forms: Forms, table: &mut [u32]) -> Answer
+    requires { ⌜ Followed rules × (length (now text) ≤ rules .text) ⌝ }
+    ensures { λ r. ⌜ Told (now (text .entry)) rules forms (now (table .entry)) (now (table .exit)) r ⌝ }
 {
     let mut none = [0; 0];
     let judged = whole(text, forms, &mut none);
@@ -123,7 +130,7 @@ fn tokens(text: &[u8], forms: Forms, table: &mut [u32]) -> Answer
     else {
         return given(judged);
     };
-    if nodes > room(table.len()) {
+    if nodes > room(rules, table.len()) {
         return Answer {
             number: 8,
             place: text.len(),
@@ -138,20 +145,28 @@ fn tokens(text: &[u8], forms: Forms, table: &mut [u32]) -> Answer
     }
 }
 
-// The reading of a text at a level: the answer, and the nodes in the lent table.
-pub fn read(number: u32, text: &[u8], table: &mut [u32]) -> Answer
-    ensures { λ r. ⌜ Answers base (now (text .entry)) (now (table .entry)) number r (now (table .exit)) ⌝ }
+// The reading of a text at a level, by rules that this reader can follow.
+fn reading(rules: Rules, number: u32, text: &[u8], table: &mut [u32]) -> Answer
+    requires { ⌜ Followed rules ⌝ }
+    ensures { λ r. ⌜ Answers rules (now (text .entry)) (now (table .entry)) number r (now (table .exit)) ⌝ }
 {
     let named = level_of(number);
     let Leveled::Has(forms) = named else {
         return refused(1, 0);
     };
-    if text.len() > LONGEST {
+    if text.len() > rules.text {
         return refused(2, 0);
     }
     let encoding = utf8(text);
     if let Encoding::BadAt(place) = encoding {
         return refused(3, place);
     }
-    tokens(text, forms, table)
+    tokens(rules, text, forms, table)
+}
+
+// The reading of a text at a level: the answer, and the nodes in the lent table.
+pub fn read(number: u32, text: &[u8], table: &mut [u32]) -> Answer
+    ensures { λ r. ⌜ Answers base (now (text .entry)) (now (table .entry)) number r (now (table .exit)) ⌝ }
+{
+    reading(RULES, number, text, table)
 }

@@ -30,9 +30,8 @@ ghost use lib.ListN.{length};
 ghost use Rattle.lexicon.specs.declared.Next.the-variants as Next;
 ghost use Rattle.lexicon.specs.Token.{Comes};
 ghost use Rattle.grammar.specs.Tokens.{classKind};
-ghost use Rattle.reading.specs.Sizes.{base};
 ghost use Rattle.tree.specs.Looks.{Gets, noMark};
-ghost use Rattle.tree.specs.Readers.{Fit, Inner, Reads, Rounded, Bracketed, Member, Bore};
+ghost use Rattle.tree.specs.Readers.{widest, Fit, Inner, Reads, Rounded, Bracketed, Member, Bore};
 ghost use Rattle.tree.specs.Turning.{Narrow};
 
 // The value that the token t begins, at a place for a value; its nodes stand from the index on, under the parent.
@@ -199,7 +198,7 @@ fn child(
     table: &mut [u32],
     index: usize,
 ) -> Turn
-    requires { ⌜ Narrow s t index × (s .deep ≤ s .at) × (t .end ≤ length (now text)) × (length (now text) ≤ base .text) ⌝ }
+    requires { ⌜ Narrow s t index × (s .deep ≤ s .at) × (t .end ≤ length (now text)) × (length (now text) ≤ widest) ⌝ }
     ensures { λ r. ⌜ Bore (now (text .entry)) forms s t frame (now (table .entry)) (now (table .exit)) index r ⌝ }
 {
     let last = index + 1 + s.nodes;

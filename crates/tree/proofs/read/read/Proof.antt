@@ -1,71 +1,23 @@
--- `tree::read::read` meets its contract: the tests over the whole text, then the tokens. Assumes nothing.
+-- `tree::read::read` meets its contract: it is the reading by the rules of 01. Assumes nothing.
+use mathlib.Core.Path.{refl}
 use borrow.Author.Needs.{needs}
-use Rattle.tree.proofs.Wholes.{read-no-level, read-long, read-bad, read-told}
 use native.Mathlib.Omega.{arith}
 use Rattle.tree.proofs.read.read.Statement.{statement}
 use Rattle.tree.proofs.read.read.Tie as tie
 
-level-of-requires : tie.Need-level-of-requires
-level-of-requires c κs = search needs
-
-enum-known-named : tie.Need-enum-known-named
-enum-known-named c = search needs
-
-enum-told : tie.Need-enum-told
-enum-told c = search needs
-
-refused-requires : tie.Need-refused-requires
-refused-requires c κs = search needs
-
-returns : tie.Need-returns
-returns c = read-no-level _ _ _ (c .before .before .before .level-of .result) (c .before .before .before .level-of .ensures) (c .before .enum-told .given .1) (c .refused .ensures)
-
-refused-requires-2 : tie.Need-refused-requires-2
-refused-requires-2 c κs = search needs
-
-returns-2 : tie.Need-returns-2
-returns-2 c = read-long _ _ _ (c .before .before .before .before .before .level-of .result) (c .before .before .before .before .before .level-of .ensures) (c .before .before .before .named .given .1) (c .before .if1 .taken) (c .refused2 .ensures)
-
-utf8-requires : tie.Need-utf8-requires
-utf8-requires c κs = search needs
-
-enum-known-encoding : tie.Need-enum-known-encoding
-enum-known-encoding c = search needs
-
-refused-requires-3 : tie.Need-refused-requires-3
-refused-requires-3 c κs = search needs
-
-returns-3 : tie.Need-returns-3
-returns-3 c = read-bad _ _ _ (c .before .before .before .before .before .before .before .before .before .level-of .result) (c .before .before .before .before .before .before .before .before .before .level-of .ensures) (c .before .before .before .before .before .before .before .named .given .1) (omega (arith, c .before .before .before .before .before .if1 .left)) (c .before .before .before .before .utf8 .result) (c .before .before .before .before .utf8 .ensures) (c .before .before .encoding .given .1) (c .refused3 .ensures)
-
-enum-told-2 : tie.Need-enum-told-2
-enum-told-2 c = search needs
-
-tokens-requires : tie.Need-tokens-requires
-tokens-requires c κs = search needs
+reading-requires : tie.Need-reading-requires
+reading-requires c κs = record { narrow = omega arith; same-limits = refl }
 
 same-length : tie.Need-same-length
 same-length c = search needs
 
-returns-4 : tie.Need-returns-4
-returns-4 c = read-told _ _ _ (c .before .before .before .before .before .before .before .before .before .before .before .level-of .result) (c .before .before .before .before .before .before .before .before .before .before .before .level-of .ensures) (c .before .before .before .before .before .before .before .before .before .named .given .1) (omega (arith, c .before .before .before .before .before .before .before .if1 .left)) (c .before .before .before .before .before .before .utf8 .result) (c .before .before .before .before .before .before .utf8 .ensures) (c .before .before .before .before .enum-told2 .given .1) (c .before .before .tokens .ensures)
+returns : tie.Need-returns
+returns c = search needs
 
 pub read-spec : {M : Type 1} → statement M
 read-spec =
     tie.close
     (tie.spec
-    level-of-requires
-    enum-known-named
-    enum-told
-    refused-requires
-    returns
-    refused-requires-2
-    returns-2
-    utf8-requires
-    enum-known-encoding
-    refused-requires-3
-    returns-3
-    enum-told-2
-    tokens-requires
+    reading-requires
     same-length
-    returns-4)
+    returns)
