@@ -1,5 +1,5 @@
--- The executable model and the table's proof.
-pub mod Ends
-pub mod Lexing
+-- The executable reading and the tables' proofs.
+pub mod Integers
 pub mod Reading
 pub mod Starred
+pub mod Values

@@ -1,5 +1,5 @@
--- The reading of a text, computed: the machine of the grammar over the tokens of the model. What the model answers is the answer of
--- the definitions. Assumes nothing.
+-- The reading of a text, computed: the machine of the grammar over the tokens that come next. What it answers is the answer of the
+-- definitions. Assumes nothing.
 use mathlib.Core.Path.{_≡_, refl, subst}
 use mathlib.Core.Bool.{Bool, true, false, _&&_, false≢true}
 use mathlib.Core.List.{List, [], _∷_, _++_}
@@ -21,6 +21,8 @@ use Rattle.grammar.proofs.Frames.{Config, want, have, wantText, wantCurly, want
 use Rattle.grammar.proofs.Machine.{step}
 use Rattle.grammar.proofs.Viable.{Final, final}
 use Rattle.grammar.proofs.FirstNewer.{headNext, isBeyond, isNewer, newerHolds, holdsNewer, beyondHolds, holdsBeyond}
+use Rattle.decisions.proofs.Next.{nextOf, next-is}
+use Rattle.decisions.proofs.Front.{frontOf, front-is}
 use Rattle.reading.specs.declared.Limits.{Limits}
 use Rattle.reading.specs.Tokens.{seen, Follow, nothing, next, opened}
 use Rattle.reading.specs.Faults.{NewerAt, TooDeep, FirstFault}
@@ -28,7 +30,11 @@ use Rattle.reading.specs.Answers.{first, Accepted}
 use Rattle.reading.proofs.Rows.{pick, no-end, no-none}
 use Rattle.reading.proofs.Stands.{Stands, at-front, goes-on, no-token, wrong-place, wrong-end, newer-form, bad-value, too-deep}
 use Rattle.reading.proofs.At.{accepted}
-use Rattle.examples.proofs.Lexing.{Sound, andThen, sound-then, comesOf, comes-is, frontOf, front-is}
+
+-- what is answered, if anything is, has the property
+abbrev pub Sound : {A : Type 0} → (A → Type 0) → Option A → Type 0
+Sound P none = Unit {0}
+Sound P (some x) = P x
 
 -- what a reading comes to: a refusal's number and place, or the derivation
 pub data Verdict : Type 0 where
@@ -67,20 +73,20 @@ module _ (bytes : List ℕ) (limits : Limits) (l : Level) where
   second-seen t (Next.End q) = []
   second-seen t (Next.NoToken q) = []
 
-  abbrev first-seen : Next → Option (List Tok)
-  first-seen (Next.Token t) = andThen (comesOf bytes (t .end)) (λ r. some (second-seen t r))
-  first-seen (Next.End q) = some []
-  first-seen (Next.NoToken q) = some []
+  abbrev first-seen : Next → List Tok
+  first-seen (Next.Token t) = second-seen t (nextOf bytes (t .end))
+  first-seen (Next.End q) = []
+  first-seen (Next.NoToken q) = []
 
-  abbrev aheadOf : Class → ℕ → Option (List Tok)
-  aheadOf (atom a) p = some []
-  aheadOf (text w) p = some []
-  aheadOf names p = some []
-  aheadOf round p = andThen (comesOf bytes p) first-seen
-  aheadOf curly p = some []
-  aheadOf square p = some []
-  aheadOf (mark m) p = some []
-  aheadOf later p = some []
+  abbrev aheadOf : Class → ℕ → List Tok
+  aheadOf (atom a) p = []
+  aheadOf (text w) p = []
+  aheadOf names p = []
+  aheadOf round p = first-seen (nextOf bytes p)
+  aheadOf curly p = []
+  aheadOf square p = []
+  aheadOf (mark m) p = []
+  aheadOf later p = []
 
   -- the tokens stand there, and are enough to see that a token of the class begins a newer form
   record Ahead (k : Class) (p : ℕ) (us : List Tok) : Type 0 where
@@ -122,17 +128,16 @@ module _ (bytes : List ℕ) (limits : Limits) (l : Level) where
         enough = λ s g e. absurd (fewer (λ x y c d. no-none bytes (t .end) (subst (λ (z : Token.Token). Comes bytes (z .end) (Next.Token y)) (pick bytes c a) d) b) g e);
       }
 
-  first-is : (p : ℕ) (r : Next) → Comes bytes p r → Sound (Ahead round p) (first-seen r)
-  first-is p (Next.Token t) a =
-      sound-then (Comes bytes (t .end)) (Ahead round p) (comesOf bytes (t .end)) (λ r. some (second-seen t r)) (comes-is bytes (t .end)) (λ r b. second-is p t a r b)
+  first-is : (p : ℕ) (r : Next) → Comes bytes p r → Ahead round p (first-seen r)
+  first-is p (Next.Token t) a = second-is p t a (nextOf bytes (t .end)) (next-is bytes (t .end))
   first-is p (Next.End q) a = record { end = p; follow = nothing; enough = λ s g e. absurd (fewer (λ x y c d. no-end bytes p c a) g e) }
   first-is p (Next.NoToken q) a = record { end = p; follow = nothing; enough = λ s g e. absurd (fewer (λ x y c d. no-none bytes p c a) g e) }
 
-  ahead-is : (k : Class) (p : ℕ) → Sound (Ahead k p) (aheadOf k p)
+  ahead-is : (k : Class) (p : ℕ) → Ahead k p (aheadOf k p)
   ahead-is (atom a) p = none-needed p (λ ts s e. e)
   ahead-is (text w) p = none-needed p (λ ts s e. e)
   ahead-is names p = none-needed p (λ ts s e. e)
-  ahead-is round p = sound-then (Comes bytes p) (Ahead round p) (comesOf bytes p) first-seen (comes-is bytes p) (λ r a. first-is p r a)
+  ahead-is round p = first-is p (nextOf bytes p) (next-is bytes p)
   ahead-is curly p = none-needed p (λ ts s e. e)
   ahead-is square p = none-needed p (λ ts s e. e)
   ahead-is (mark m) p = none-needed p (λ ts s e. e)
@@ -186,13 +191,13 @@ module _ (bytes : List ℕ) (limits : Limits) (l : Level) where
   ended q (some v) = holds v
 
   abbrev judged : List Tok → Config → Next → (Token.Token → Config → Option Verdict) → Option Verdict
-  judged ts c (Next.Token t) again = andThen (aheadOf (classKind (t .kind)) (t .end)) (λ us. placed ts c t (isNewer l ts (seen t) us) (again t))
+  judged ts c (Next.Token t) again = placed ts c t (isNewer l ts (seen t) (aheadOf (classKind (t .kind)) (t .end))) (again t)
   judged ts c (Next.End q) again = some (ended q (valueOf c))
   judged ts c (Next.NoToken q) again = some (refused 4 q)
 
   abbrev onward : ℕ → List Tok → ℕ → Config → Option Verdict
   onward zero ts p c = none
-  onward (suc n) ts p c = andThen (comesOf bytes p) (λ r. judged ts c r (λ t d. onward n (ts ++ (seen t ∷ [])) (t .end) d))
+  onward (suc n) ts p c = judged ts c (nextOf bytes p) (λ t d. onward n (ts ++ (seen t ∷ [])) (t .end) d)
 
   -- what a verdict says
   abbrev pub Right : Verdict → Type 0
@@ -226,17 +231,16 @@ module _ (bytes : List ℕ) (limits : Limits) (l : Level) where
 
     judged-is : (r : Next) → Comes bytes p r → (again : Token.Token → Config → Option Verdict) → Again again → Sound Right (judged ts c r again)
     judged-is (Next.Token t) k again g =
-        sound-then (Ahead (classKind (t .kind)) (t .end)) Right (aheadOf (classKind (t .kind)) (t .end)) (λ us. placed ts c t (isNewer l ts (seen t) us) (again t))
-        (ahead-is (classKind (t .kind)) (t .end)) (λ us a. placed-is t k again g us a (isNewer l ts (seen t) us) refl)
+        let us = aheadOf (classKind (t .kind)) (t .end) in
+        placed-is t k again g us (ahead-is (classKind (t .kind)) (t .end)) (isNewer l ts (seen t) us) refl
     judged-is (Next.End q) k again g = ended-is q k (valueOf c) refl (value-have c)
     judged-is (Next.NoToken q) k again g = no-token limits l bytes s k
 
   onward-is : (n : ℕ) (ts : List Tok) (p : ℕ) (c : Config) → Stands limits l bytes ts p c → Sound Right (onward n ts p c)
   onward-is zero ts p c s = tt
   onward-is (suc n) ts p c s =
-      sound-then (Comes bytes p) Right (comesOf bytes p) (λ r. judged ts c r (λ t d. onward n (ts ++ (seen t ∷ [])) (t .end) d)) (comes-is bytes p)
-      (λ r k.
-      judged-is ts p c s r k (λ t d. onward n (ts ++ (seen t ∷ [])) (t .end) d) (λ t d x. onward-is n (ts ++ (seen t ∷ [])) (t .end) d x))
+      judged-is ts p c s (nextOf bytes p) (next-is bytes p) (λ t d. onward n (ts ++ (seen t ∷ [])) (t .end) d)
+      (λ t d x. onward-is n (ts ++ (seen t ∷ [])) (t .end) d x)
 
   -- each token takes a byte at least, and the end is one more
   abbrev pub verdict : Option Verdict

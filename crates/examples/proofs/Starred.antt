@@ -14,12 +14,13 @@ use Rattle.lexicon.specs.Utf8.{WellFormed}
 use Rattle.lexicon.specs.Values.{IntegerOf}
 use Rattle.grammar.specs.Level.{Level, level1, level2}
 use Rattle.grammar.specs.Nodes.{table, tableWords, nodeWords}
+use Rattle.decisions.proofs.Utf8.{formed, formed-is}
 use Rattle.reading.specs.Sizes.{baseLimits, base, room}
 use Rattle.reading.specs.Answers as Answers
 use Rattle.reading.specs.Answers.{LevelOf, answer, Answers, faulty}
 use Rattle.examples.specs.Starred.{Row, wordsOf, Outcome, Example, Ends, Means, Holds, AllHold, starred}
-use Rattle.examples.proofs.Lexing.{Sound, formed, formed-is, signedAt, sizeIs, integer-is}
-use Rattle.examples.proofs.Reading.{Verdict, refused, holds, Right, verdict, verdict-is}
+use Rattle.examples.proofs.Integers.{signedAt, sizeIs, integer-is}
+use Rattle.examples.proofs.Reading.{Sound, Verdict, refused, holds, Right, verdict, verdict-is}
 
 -- ---- equal numbers
 
@@ -86,7 +87,7 @@ means bytes (some z) (n ∷ ns) = sizeIs bytes (n .first) (n .end) (natAbs z) &&
 abbrev agrees : Example → Bool
 agrees e = fitsAt (codes (e .text)) (levelOf (e .level)) (e .outcome) && means (codes (e .text)) (e .outcome .integer) (e .outcome .nodes)
 
-abbrev allAgree : List Example → Bool
+abbrev pub allAgree : List Example → Bool
 allAgree [] = true
 allAgree (e ∷ es) = agrees e && allAgree es
 

@@ -1,2 +1,3 @@
--- The texts that document 01 marks with a star.
+-- The texts that document 01 marks with a star, and texts with bad values.
 pub mod Starred
+pub mod Values

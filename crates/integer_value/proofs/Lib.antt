@@ -4,3 +4,4 @@ pub mod Starts
 pub mod Walks
 pub mod Calls
 pub mod Determined
+pub mod Exists

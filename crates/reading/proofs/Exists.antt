@@ -1,22 +1,19 @@
--- Every input has an answer, and only one. What the code on bytes gives is taken as given: the encoding, the front, and what
--- comes next at every place. Assumes nothing.
+-- Every input has an answer, and only one: the encoding, the front, and what comes next at every place are decided. Assumes nothing.
 use mathlib.Core.Path.{_≡_, refl, sym, subst}
 use mathlib.Core.Logic.{_⊎_, inl, inr}
 use mathlib.Core.List.{List, [], _∷_, _++_}
 use mathlib.Core.Option.{Option, some}
-use Prim.Native.Nat.{ℕ, zero, suc, _+_, _≤_, _<_}
+use Prim.Native.Nat.{ℕ, zero, suc, _+_, _≤_}
 use native.Mathlib.Omega.{arith}
 use lib.ListN.{length}
 use Rattle.lexicon.specs.declared.Token as Token
 use Rattle.lexicon.specs.declared.Encoding.{Encoding}
 use Rattle.lexicon.specs.declared.Encoding.the-variants as Encoding
-use Rattle.lexicon.specs.declared.Next.{Next}
 use Rattle.lexicon.specs.declared.Next.the-variants as Next
 use Rattle.lexicon.specs.Utf8.{WellFormed, Encoded}
 use Rattle.lexicon.specs.Front.{Front}
 use Rattle.lexicon.specs.Token.{Comes}
 use Rattle.lexicon.proofs.Unique.{token-forward}
-use Rattle.lexicon.proofs.Determined.{past-end}
 use Rattle.grammar.specs.Tokens.{Tok}
 use Rattle.grammar.specs.Tree.{Value}
 use Rattle.grammar.specs.Level.{Level, level1, level2}
@@ -24,6 +21,9 @@ use Rattle.grammar.specs.Place.{Sentence}
 use Rattle.grammar.specs.Nodes.{table}
 use Rattle.grammar.proofs.Frames.{Config, want}
 use Rattle.grammar.proofs.Machine.{runs}
+use Rattle.decisions.proofs.Next.{comes}
+use Rattle.decisions.proofs.Utf8.{encoded}
+use Rattle.decisions.proofs.Front.{front}
 use Rattle.reading.specs.declared.Answer.{Answer}
 use Rattle.reading.specs.declared.Limits.{Limits}
 use Rattle.reading.specs.declared.Rules.{Rules}
@@ -57,7 +57,7 @@ level-or-not (suc (suc (suc n))) = inr λ l o. none (a-level o)
 
 -- ---- the tokens, from left to right
 
-module _ (limits : Limits) (bytes : List ℕ) (comes : (p : ℕ) → (r : Next) × Comes bytes p r) (l : Level) where
+module _ (limits : Limits) (bytes : List ℕ) (l : Level) where
   data Outcome : Type 0 where
     stopped : (n q : ℕ) → FirstFault limits l bytes n q → Outcome
     finished : {ts : List Tok} → Sentence l ts → AllPassed limits l bytes ts → Outcome
@@ -65,9 +65,9 @@ module _ (limits : Limits) (bytes : List ℕ) (comes : (p : ℕ) → (r : Next) 
   -- one token, and then what follows it
   one-more : (ts : List Tok) (p : ℕ) (c : Config) → Passed limits l bytes ts p → runs l ts ≡ some c →
       ((t : Token.Token) (d : Config) → Comes bytes p (Next.Token t) → Passed limits l bytes (ts ++ (seen t ∷ [])) (t .end) → runs l (ts ++ (seen t ∷ [])) ≡ some d → Outcome) → Outcome
-  one-more ts p c a e again = go (decided bytes comes limits l ts p c e)
+  one-more ts p c a e again = go (decided bytes (comes bytes) limits l ts p c e)
     where
-      go : Decided bytes comes limits l ts p → Outcome
+      go : Decided bytes (comes bytes) limits l ts p → Outcome
       go (stops n q f) = stopped n q (record { before = ts; from = p; good = a; fault = f })
       go (ends q b s) = finished s (record { from = p; good = a; ends = λ w. w .none s; at-end = (refl, b .1, b .2, b .3) })
       go (goes t d b f r) = again t d b (passed a b f) r
@@ -81,15 +81,6 @@ module _ (limits : Limits) (bytes : List ℕ) (comes : (p : ℕ) → (r : Next) 
   outcome : (p : ℕ) → Front bytes p → Outcome
   outcome p f = onward (length bytes) [] p (want []) (omega arith) (begun f) refl
 
--- what comes next is known everywhere if it is known inside the text
-pub everywhere : (bytes : List ℕ) → ((p : ℕ) → p < length bytes → (r : Next) × Comes bytes p r) → (p : ℕ) → (r : Next) × Comes bytes p r
-everywhere bytes f p = go (order p (length bytes))
-  where
-    go : Order p (length bytes) → (r : Next) × Comes bytes p r
-    go (equal e) = (Next.End (length bytes), past-end bytes p (omega (arith, e)))
-    go (less h) = f p h
-    go (more h) = (Next.End (length bytes), past-end bytes p (omega (arith, h)))
-
 -- ---- the answer
 
 module _ (rules : Rules) (bytes lent : List ℕ) where
@@ -97,38 +88,37 @@ module _ (rules : Rules) (bytes lent : List ℕ) where
   abbrev pub Answered : ℕ → Type 0
   Answered number = (r : Answer) × (t : List ℕ) × Answers rules bytes lent number r t
 
-  module _ (comes : (p : ℕ) → (r : Next) × Comes bytes p r) (encoded : (r : Encoding) × Encoded bytes r) (front : (p : ℕ) × Front bytes p) where
-    pub some-reading : (number : ℕ) → Answered number
-    some-reading number = level (level-or-not number)
-      where
-        given : {r : Answer} {t : Option Value} → Reading rules bytes (room rules (length lent)) number r t → Answered number
-        given x = (_, _, record { tree = _; reading = x; left-is = refl })
+  pub some-reading : (number : ℕ) → Answered number
+  some-reading number = level (level-or-not number)
+    where
+      given : {r : Answer} {t : Option Value} → Reading rules bytes (room rules (length lent)) number r t → Answered number
+      given x = (_, _, record { tree = _; reading = x; left-is = refl })
 
-        roomy : {l : Level} → LevelOf number l → length bytes ≤ rules .text → WellFormed bytes → (v : Value) → Accepted (rules .limits) bytes l v → Order (room rules (length lent)) (length (table v)) → Answered number
-        roomy o h w v a (equal e) = given (accepted o h w a (omega (arith, e)))
-        roomy o h w v a (less g) = given (noRoom o h w a g)
-        roomy o h w v a (more g) = given (accepted o h w a (omega (arith, g)))
+      roomy : {l : Level} → LevelOf number l → length bytes ≤ rules .text → WellFormed bytes → (v : Value) → Accepted (rules .limits) bytes l v → Order (room rules (length lent)) (length (table v)) → Answered number
+      roomy o h w v a (equal e) = given (accepted o h w a (omega (arith, e)))
+      roomy o h w v a (less g) = given (noRoom o h w a g)
+      roomy o h w v a (more g) = given (accepted o h w a (omega (arith, g)))
 
-        judged : {l : Level} → LevelOf number l → length bytes ≤ rules .text → WellFormed bytes → Outcome (rules .limits) bytes comes l → Answered number
-        judged o h w (stopped n q f) = given (faulty o h w f)
-        judged {l} o h w (finished {ts} s a) =
-            roomy o h w (s .tree) (record { of-level = s .of-level; passed = subst (AllPassed (rules .limits) l bytes) (sym (s .yields)) a }) (order (room rules (length lent)) (length (table (s .tree))))
+      judged : {l : Level} → LevelOf number l → length bytes ≤ rules .text → WellFormed bytes → Outcome (rules .limits) bytes l → Answered number
+      judged o h w (stopped n q f) = given (faulty o h w f)
+      judged {l} o h w (finished {ts} s a) =
+          roomy o h w (s .tree) (record { of-level = s .of-level; passed = subst (AllPassed (rules .limits) l bytes) (sym (s .yields)) a }) (order (room rules (length lent)) (length (table (s .tree))))
 
-        formed : {l : Level} → LevelOf number l → length bytes ≤ rules .text → (r : Encoding) → Encoded bytes r → Answered number
-        formed {l} o h Encoding.WellFormed w = judged o h w (outcome (rules .limits) bytes comes l (front .0) (front .1))
-        formed o h (Encoding.BadAt p) b = given (notUtf8 o h b)
+      formed : {l : Level} → LevelOf number l → length bytes ≤ rules .text → (r : Encoding) → Encoded bytes r → Answered number
+      formed {l} o h Encoding.WellFormed w = judged o h w (outcome (rules .limits) bytes l (front bytes .0) (front bytes .1))
+      formed o h (Encoding.BadAt p) b = given (notUtf8 o h b)
 
-        long : {l : Level} → LevelOf number l → Order (rules .text) (length bytes) → Answered number
-        long o (equal e) = formed o (omega (arith, e)) (encoded .0) (encoded .1)
-        long o (less h) = given (tooLong o h)
-        long o (more h) = formed o (omega (arith, h)) (encoded .0) (encoded .1)
+      long : {l : Level} → LevelOf number l → Order (rules .text) (length bytes) → Answered number
+      long o (equal e) = formed o (omega (arith, e)) (encoded bytes .0) (encoded bytes .1)
+      long o (less h) = given (tooLong o h)
+      long o (more h) = formed o (omega (arith, h)) (encoded bytes .0) (encoded bytes .1)
 
-        level : ((l : Level) × LevelOf number l) ⊎ ((l : Level) → LevelOf number l → ⊥) → Answered number
-        level (inl x) = long (x .1) (order (rules .text) (length bytes))
-        level (inr f) = given (noLevel f)
+      level : ((l : Level) × LevelOf number l) ⊎ ((l : Level) → LevelOf number l → ⊥) → Answered number
+      level (inl x) = long (x .1) (order (rules .text) (length bytes))
+      level (inr f) = given (noLevel f)
 
-    -- and it is the one
-    pub exactly-one : (number : ℕ) → (r : Answer) × (t : List ℕ) × Answers rules bytes lent number r t × ((s : Answer) (u : List ℕ) → Answers rules bytes lent number s u → (r ≡ s) × (t ≡ u))
-    exactly-one number =
-        let x = some-reading number in
-        (x .0, x .1, x .2, λ s u a. one-answer rules bytes lent (x .2) a)
+  -- and it is the one
+  pub exactly-one : (number : ℕ) → (r : Answer) × (t : List ℕ) × Answers rules bytes lent number r t × ((s : Answer) (u : List ℕ) → Answers rules bytes lent number s u → (r ≡ s) × (t ≡ u))
+  exactly-one number =
+      let x = some-reading number in
+      (x .0, x .1, x .2, λ s u a. one-answer rules bytes lent (x .2) a)

@@ -11,3 +11,4 @@ pub mod Walks
 pub mod Texts
 pub mod Fits
 pub mod Determined
+pub mod Exists
