@@ -1,2 +1,4 @@
 -- That the answers meet the demands.
 pub mod Derived
+pub mod Exists
+pub mod Demands

@@ -23,6 +23,6 @@ module _ (text : List ℕ) where
   pub integer-is : (i j v : ℕ) → sizeIs i j v ≡ true → IntegerOf text i j (signedAt i v)
   integer-is i j v e =
       let x =
-          cut text sign i (λ s. numberTest text (λ u. eqb u v) s j) (λ s. (u : ℕ) × Number text s j u × (u ≡ v))
-          (λ s t. number text (λ u. eqb u v) (λ u. u ≡ v) (λ u. equal u v) s j) .true-holds e in
+      cut text sign i (λ s. numberTest text (λ u. eqb u v) s j) (λ s. (u : ℕ) × Number text s j u × (u ≡ v))
+      (λ s t. number text (λ u. eqb u v) (λ u. u ≡ v) (λ u. equal u v) s j) .true-holds e in
       record { start = x .0; before = x .1; size = v; number = subst (λ (u : ℕ). Number text (x .0) j u) (x .2 .2) (x .2 .1); value-is = refl }

@@ -5,6 +5,5 @@ pub mod Unique
 pub mod Decide
 pub mod Stands
 pub mod At
-pub mod Exists
 pub mod Agree
 pub mod Depth

@@ -1,6 +1,6 @@
--- `both::read_both` meets its contract: demand 3 from the contracts of the two readings. Assumes nothing.
+-- `both::read_both` meets its contract: the demands, from the contracts of the two readings. Assumes nothing.
 use borrow.Author.Needs.{needs}
-use Rattle.both.proofs.Both.{old-and-new}
+use Rattle.demands.proofs.Demands.{all-demands}
 use Rattle.both.proofs.read_both.Statement.{statement}
 use Rattle.both.proofs.read_both.Tie as tie
 
@@ -17,7 +17,7 @@ same-length-2 : tie.Need-same-length-2
 same-length-2 c = search needs
 
 returns : tie.Need-returns
-returns c = search (old-and-new, needs)
+returns c = search (all-demands, needs)
 
 pub read-both-spec : {M : Type 1} → statement M
 read-both-spec =

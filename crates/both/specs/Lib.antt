@@ -1,2 +1,0 @@
--- Demand 3 as the contract of a function.
-pub mod Demand

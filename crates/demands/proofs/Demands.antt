@@ -1,0 +1,54 @@
+-- The three demands, proved of every answer. Assumes nothing.
+use mathlib.Core.Path.{_≡_, refl, sym, ap, subst, _∙_}
+use mathlib.Core.List.{List, [], _++_}
+use mathlib.Core.Option.{Option}
+use Prim.Native.Nat.{ℕ, _*_}
+use lib.ListN.{length, drop}
+use Rattle.grammar.specs.Tree.{Value}
+use Rattle.grammar.specs.Nodes.{Node, tableWords, nodeWords}
+use Rattle.reading.specs.declared.Answer.{Answer}
+use Rattle.reading.specs.declared.Rules.{Rules}
+use Rattle.reading.specs.Answers.{Reading, Answers, nodesOf, noLevel, tooLong, notUtf8, faulty, noRoom, accepted}
+use Rattle.reading.proofs.Unique.{one-answer}
+use Rattle.reading.proofs.Agree.{levels-agree}
+use Rattle.demands.specs.Demands.{Answered, Demand1, Demand2, Demand3, Demands}
+use Rattle.demands.proofs.Derived.{decides}
+use Rattle.demands.proofs.Exists.{some-reading}
+
+module _ (rules : Rules) (bytes lent : List ℕ) {number : ℕ} where
+  -- a refused reading has no derivation, so nothing is written
+  no-tree : {room : ℕ} {r : Answer} {t : Option Value} → Reading rules bytes room number r t → (r .number ≡ 0 → ⊥) → nodesOf t ≡ []
+  no-tree (noLevel f) h = refl
+  no-tree (tooLong l g) h = refl
+  no-tree (notUtf8 l g b) h = refl
+  no-tree (faulty l g w d) h = refl
+  no-tree (noRoom l g w a m) h = refl
+  no-tree (accepted l g w a m) h = absurd (h refl)
+
+  pub answered : {r : Answer} {left : List ℕ} → Answers rules bytes lent number r left → Answered rules bytes lent number r left
+  answered {r} {left} a =
+      record {
+        answers = a;
+        only = λ s u b. one-answer rules bytes lent b a;
+        unchanged = λ h. a .left-is ∙ ap (λ (ns : List Node). tableWords ns ++ drop (nodeWords * length ns) lent) (no-tree (a .reading) h);
+      }
+
+pub every-answer : Demand1
+every-answer rules bytes lent number = let x = some-reading rules bytes lent number in (x .0, x .1, answered rules bytes lent (x .2))
+
+pub every-decision : Demand2
+every-decision rules bytes lent number r left a = decides rules bytes lent number a
+
+pub old-and-new : Demand3
+old-and-new rules bytes lent old new oldLeft newLeft a b = levels-agree rules bytes lent a b
+
+pub all-demands : {rules : Rules} {bytes first second oldLeft newLeft : List ℕ} {old new : Answer} →
+    Answers rules bytes first 1 old oldLeft → Answers rules bytes second 2 new newLeft → Demands rules bytes first second old oldLeft new newLeft
+all-demands {rules} {bytes} {first} {second} {oldLeft} {newLeft} {old} {new} a b =
+    record {
+      old-answered = answered rules bytes first a;
+      new-answered = answered rules bytes second b;
+      old-decides = decides rules bytes first 1 a;
+      new-decides = decides rules bytes second 2 b;
+      agree = λ e. levels-agree rules bytes first a (subst (λ (t : List ℕ). Answers rules bytes t 2 new newLeft) (sym e) b);
+    }
