@@ -1,10 +1,10 @@
 // The number of a literal's digits, as far as a signed 64-bit integer needs it. The functions with a `requires` are this crate's
 // own: their caller has found the literal.
 use lexicon::Base;
+use space::space;
 use text::digit::digit;
 use text::digit::digit_set;
 use text::digit::radix;
-use text::space::space;
 ghost use Prim.Native.Nat.{_+_, _*_, _<_};
 ghost use lib.ListN.{length};
 ghost use Rattle.lexicon.specs.Bytes.{radix as radixOf};

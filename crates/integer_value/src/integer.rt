@@ -6,7 +6,7 @@ use crate::parts::mark;
 use crate::parts::sign;
 use lexicon::Encoding;
 use lexicon::Found;
-use text::utf8::utf8;
+use utf8::utf8;
 ghost use mathlib.Core.Path.{_≡_};
 ghost use mathlib.Core.Bool.{cond};
 ghost use Prim.Native.Nat.{_≤_, _^_};

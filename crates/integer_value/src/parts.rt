@@ -1,9 +1,9 @@
 // What stands before an Integer's digits: its sign, and the mark of its base.
 use lexicon::Base;
 use number::integer::mark_at;
+use space::space;
 use text::byte::stands;
 use text::digit::Lettered;
-use text::space::space;
 ghost use Rattle.integer_value.specs.Parts.{SignOf, MarkOf};
 
 // Whether the sign is a minus, and where the number behind it begins.

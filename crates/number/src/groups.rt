@@ -3,10 +3,10 @@
 // the table that it is lent is the classes', made by its caller.
 use crate::tally::tally_run;
 use lexicon::Set;
+use space::space;
 use text::byte::stands;
 use text::class::classes;
 use text::class::holds;
-use text::space::space;
 ghost use Prim.Native.Nat.{_≤_};
 ghost use lib.ListN.{length};
 ghost use Rattle.rules.specs.Rule.{one, many, opt, Longest};

@@ -61,7 +61,7 @@ fn marked(text: &[u8], at: usize) -> Number
     let Lettered::Of(base) = mark_at(text, at) else {
         return Number::Nothing;
     };
-    let start = text::space::space(text, at + 2);
+    let start = space::space(text, at + 2);
     digits(text, start, base)
 }
 
@@ -86,10 +86,10 @@ pub(crate) fn start(text: &[u8], at: usize) -> usize
         return at;
     }
     if text[at] == b'+' {
-        return text::space::space(text, at + 1);
+        return space::space(text, at + 1);
     }
     if text[at] == b'-' {
-        return text::space::space(text, at + 1);
+        return space::space(text, at + 1);
     }
     at
 }

@@ -1,7 +1,7 @@
 // Quoted texts: one segment or more, with dividing space between them.
 use crate::segment::segment;
 use lexicon::Literal;
-use text::space::space;
+use space::space;
 ghost use Rattle.lexicon.specs.Found.{Judges};
 ghost use Rattle.lexicon.specs.Literals as Literals;
 ghost use Rattle.lexicon.specs.Bad.{BadQuoted};

@@ -4,7 +4,7 @@ use lexicon::Found;
 use lexicon::Literal;
 use text::byte::stands;
 use text::byte::within;
-use text::utf8::sequence;
+use utf8::sequence;
 ghost use Rattle.lexicon.specs.Found.{Finds, Judges};
 ghost use Rattle.lexicon.specs.Literals as Literals;
 ghost use Rattle.lexicon.specs.Bad.{BadEscape, BadSegment};

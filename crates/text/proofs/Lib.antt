@@ -3,8 +3,5 @@ pub mod Table
 pub mod Sets
 pub mod Ranges
 pub mod Searches
-pub mod Sequences
-pub mod Spaces
-pub mod Lines
 pub mod Digits
 pub mod Letters

@@ -1,7 +1,4 @@
-// What stands below tokens: a byte and its class, digits, UTF-8, the front that is dropped, dividing space.
+// One byte of a text: where it stands, its class, and the number that it stands for as a digit.
 pub mod byte;
 pub mod class;
 pub mod digit;
-pub mod front;
-pub mod space;
-pub mod utf8;

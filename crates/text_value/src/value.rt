@@ -8,7 +8,7 @@ use lexicon::Encoding;
 use lexicon::Found;
 use lexicon::Literal;
 use reading::Answer;
-use text::utf8::utf8;
+use utf8::utf8;
 ghost use mathlib.Core.Path.{_≡_};
 ghost use Prim.Native.Nat.{_≤_};
 ghost use lib.ListN.{length};

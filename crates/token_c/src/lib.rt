@@ -16,7 +16,7 @@ ghost use Rattle.token_c.specs.Numbers.{starNumber, signNumber, headNumb
 pub extern "C" fn muon_utf8(text: &[u8]) -> usize
     ensures { λ r. ⌜ PlaceOf (now (text .entry)) r ⌝ }
 {
-    let answer = text::utf8::utf8(text);
+    let answer = utf8::utf8(text);
     match answer {
         Encoding::WellFormed => text.len(),
         Encoding::BadAt(place) => place,
@@ -28,7 +28,7 @@ pub extern "C" fn muon_utf8(text: &[u8]) -> usize
 pub extern "C" fn muon_front(text: &[u8]) -> usize
     ensures { λ r. ⌜ Front (now (text .entry)) r ⌝ }
 {
-    text::front::front(text)
+    space::front::front(text)
 }
 
 fn bit_of(b: bool) -> u64

@@ -1,0 +1,39 @@
+// Dividing space: any run of the four dividing bytes and whole comments.
+pub mod front;
+
+ghost use Rattle.lexicon.specs.Space.{Skips};
+
+const GRAVE: u8 = b'`';
+
+// Where the dividing space at `at` ends: `at` itself if there is none.
+pub fn space(text: &[u8], at: usize) -> usize
+    ensures { λ r. ⌜ Skips (now (text .entry)) at r ⌝ }
+{
+    let mut end = at;
+    'space: while end < text.len() {
+        match text[end] {
+            0x09 | 0x0A | 0x0D | 0x20 => {
+                end += 1;
+                continue 'space;
+            }
+            // A comment, if another closes it.
+            GRAVE => {}
+            _ => {
+                break 'space;
+            }
+        }
+        let mut i = end + 1;
+        loop {
+            // A grave accent without a partner is no space.
+            if i == text.len() {
+                break 'space;
+            }
+            if text[i] == GRAVE {
+                end = i + 1;
+                continue 'space;
+            }
+            i += 1;
+        }
+    }
+    end
+}

@@ -1,0 +1,78 @@
+// UTF-8, by the Unicode Standard's table of well-formed byte sequences.
+use lexicon::Encoding;
+use lexicon::Found;
+use text::byte::within;
+ghost use Rattle.rules.specs.Rule.{_then_};
+ghost use Rattle.lexicon.specs.Found.{Finds};
+ghost use Rattle.lexicon.specs.Utf8 as Utf8;
+
+// The last byte of a sequence.
+fn last(text: &[u8], at: usize) -> Found
+    ensures { λ r. ⌜ Finds (now (text .entry)) Utf8.tail at r ⌝ }
+{
+    if within(text, at, 0x80, 0xBF) {
+        return Found::At(at + 1);
+    }
+    Found::Nothing
+}
+
+// The last two, of which the first is from `low` to `high`.
+fn last_two(text: &[u8], at: usize, low: u8, high: u8) -> Found
+    ensures { λ r. ⌜ Finds (now (text .entry)) (Utf8.range low high then Utf8.tail) at r ⌝ }
+{
+    if within(text, at, low, high) {
+        return last(text, at + 1);
+    }
+    Found::Nothing
+}
+
+// The last three, of which the first is from `low` to `high`.
+fn last_three(text: &[u8], at: usize, low: u8, high: u8) -> Found
+    ensures { λ r. ⌜ Finds (now (text .entry)) (Utf8.range low high then Utf8.tail then Utf8.tail) at r ⌝ }
+{
+    if within(text, at, low, high) {
+        return last_two(text, at + 1, 0x80, 0xBF);
+    }
+    Found::Nothing
+}
+
+// The end of the well-formed sequence that begins at `at`. The first byte tells the length, and what the second may be.
+pub fn sequence(text: &[u8], at: usize) -> Found
+    ensures { λ r. ⌜ Finds (now (text .entry)) Utf8.sequence at r ⌝ }
+{
+    if text.len() <= at {
+        return Found::Nothing;
+    }
+    let lead = text[at];
+    match lead {
+        0x00..=0x7F => Found::At(at + 1),
+        0xC2..=0xDF => last(text, at + 1),
+        0xE0 => last_two(text, at + 1, 0xA0, 0xBF),
+        0xE1..=0xEC => last_two(text, at + 1, 0x80, 0xBF),
+        0xED => last_two(text, at + 1, 0x80, 0x9F),
+        0xEE..=0xEF => last_two(text, at + 1, 0x80, 0xBF),
+        0xF0 => last_three(text, at + 1, 0x90, 0xBF),
+        0xF1..=0xF3 => last_three(text, at + 1, 0x80, 0xBF),
+        0xF4 => last_three(text, at + 1, 0x80, 0x8F),
+        _ => Found::Nothing,
+    }
+}
+
+// Whether the text is well-formed sequences from the front; if not, where the first bad one begins.
+pub fn utf8(text: &[u8]) -> Encoding
+    ensures { λ r. ⌜ Utf8.Encoded (now (text .entry)) r ⌝ }
+{
+    let mut at = 0;
+    while at < text.len() {
+        // Most bytes of most texts are sequences by themselves: no call for one.
+        if text[at] < 0x80 {
+            at += 1;
+            continue;
+        }
+        let Found::At(end) = sequence(text, at) else {
+            return Encoding::BadAt(at);
+        };
+        at = end;
+    }
+    Encoding::WellFormed
+}
