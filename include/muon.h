@@ -171,7 +171,7 @@ uint32_t muon_read(uint32_t level, const uint8_t *text, size_t text_len, uint32_
 /* The value calls. Their piece is the literal alone, as a node's first and end have it: text + first, end - first bytes. No byte-order
    mark, first line `#!` or dividing space around it is dropped; with one of them the piece is refused with 9. */
 
-/* The signed integer of an Integer literal: `29 56` is 2956, `-0x F_F` is -255.
+/* The signed integer of an Integer literal: `29 56` has the value 2956, `-0x F_F` has the value -255.
 
    piece      piece_len bytes, read only; need not end in 0
    value      one int64_t, written in every case: the integer if accepted, 0 if refused
@@ -180,8 +180,8 @@ uint32_t muon_read(uint32_t level, const uint8_t *text, size_t text_len, uint32_
 uint32_t muon_integer(const uint8_t *piece, size_t piece_len, int64_t *value, size_t *place, size_t *count);
 
 /* The characters of a Text literal (quoted, word or code point) as UTF-8, from the start of a lent buffer on; no 0 is put behind them.
-   Only a segment that begins with a backslash has escapes: "\a\n" is a and a line feed, "a\n" is the three characters a, \ and n, and
-   "\" is empty.
+   Only a segment that begins with a backslash has escapes: `"\a\n"` is a and a line feed, `"a\n"` has the characters `a\n`, and
+   `"\"` has no characters.
 
    piece      piece_len bytes, read only; need not end in 0
    buffer     buffer_len bytes; what they held does not matter
@@ -189,8 +189,8 @@ uint32_t muon_integer(const uint8_t *piece, size_t piece_len, int64_t *value, si
    count      one size_t, written in every case
 
    Accepted, exactly the first *count bytes of the buffer are written, and they are well-formed UTF-8. Refused, none.
-   piece_len bytes are room enough for every piece: the characters of a Text are no more bytes than its literal (proved; enough-room
-   in crates/text_value/proofs/Fits.antt). */
+   piece_len bytes are room enough for every piece: the characters of a Text are no more bytes than its literal (proved; `enough-room`
+   in `crates/text_value/proofs/Fits.antt`). */
 uint32_t muon_text(const uint8_t *piece, size_t piece_len, uint8_t *buffer, size_t buffer_len, size_t *place, size_t *count);
 
 #ifdef __cplusplus

@@ -1,5 +1,5 @@
-//! Links the comparison of tokens with its verified archive, only when asked
-//! for.  The archive of the readings and values comes with the package muon.
+//! Links the programs that compare tokens with the verified archive of them,
+//! only when asked for.  The archive of the readings and values comes with the package muon.
 
 use std::env;
 
@@ -13,5 +13,7 @@ fn main() {
         .expect("feature `staticlib` needs MUON_LIB_DIR, the directory of the archive");
     let archive = format!("{dir}/libtoken_c.a");
     println!("cargo:rerun-if-changed={archive}");
-    println!("cargo:rustc-link-arg-bin=compare_tokens={archive}");
+    for user in ["compare_tokens", "check_docs"] {
+        println!("cargo:rustc-link-arg-bin={user}={archive}");
+    }
 }

@@ -11,7 +11,10 @@
 //! --bin compare_tokens`, or `--features muon --bin compare_readings`.
 
 pub mod answer;
+#[cfg(feature = "staticlib")]
+pub mod archive;
 pub mod compare;
+pub mod docs;
 pub mod front;
 pub mod generate;
 pub mod listing;

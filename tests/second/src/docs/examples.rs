@@ -1,0 +1,548 @@
+//! The answers that the documents show.
+//!
+//! In prose, with a text in code quotes; 6@4 is refusal 6 at place 4:
+//!
+//! * "TEXT is 6@4", "TEXT has the nodes NODE, NODE", "TEXT has 3 nodes": read
+//!   at both levels, or at the one that the sentence names before;
+//! * "TEXT has the tokens PIECE, PIECE", at its end perhaps "and then 4@3";
+//! * "TEXT has the value 29", by the Integer call; "TEXT has the characters
+//!   OTHER" or "TEXT has no characters", by the Text call; where the sentence
+//!   names a call before, "TEXT is 9@0" is that call's.
+//!
+//! In a table with the columns "text", "old reader" and "new reader" or "both
+//! readers": an answer, nodes, a number of nodes, or "the same" as before.
+//! In code: a command behind `$`, and below it what it writes.
+
+use super::markup::{one_spaced, Block, Part, Passage};
+use super::{Document, Finding};
+use crate::answer::{NODES_MAX, NODE_WORDS, NO_TOKEN};
+use crate::token::Lexed;
+use crate::{front, token, tree, value};
+
+#[derive(Clone, Debug, PartialEq, Eq)]
+pub enum Call {
+    Read(u32),
+    Tokens,
+    Integer,
+    Text,
+    /// The text is a command.
+    Shell,
+}
+
+#[derive(Clone, Debug, PartialEq, Eq)]
+pub enum Want {
+    /// Number and place.
+    Refused(u32, usize),
+    Nodes(Vec<String>),
+    Count(usize),
+    /// As at level 1, word for word.
+    Same,
+    /// The root's detail.
+    Detail(u32),
+    /// Tokens, and where none starts behind them.
+    Tokens(Vec<String>, Option<(u32, usize)>),
+    Value(i64),
+    Characters(String),
+    Writes(String),
+}
+
+#[derive(Clone, Debug, PartialEq, Eq)]
+pub struct Example {
+    pub file: String,
+    pub line: usize,
+    pub text: String,
+    pub call: Call,
+    pub want: Want,
+}
+
+/// What a text is given to, as the sentence says.
+#[derive(Clone, Debug, PartialEq, Eq)]
+enum Asked {
+    BothLevels,
+    Level(u32),
+    Integer,
+    Text,
+}
+
+impl Asked {
+    fn calls(&self) -> Vec<Call> {
+        match self {
+            Asked::BothLevels => vec![Call::Read(1), Call::Read(2)],
+            Asked::Level(level) => vec![Call::Read(*level)],
+            Asked::Integer => vec![Call::Integer],
+            Asked::Text => vec![Call::Text],
+        }
+    }
+}
+
+/// A document's examples, and answers that belong to none.
+#[derive(Default)]
+pub struct Shown {
+    pub examples: Vec<Example>,
+    pub findings: Vec<Finding>,
+}
+
+pub fn shown(document: &Document) -> Shown {
+    let mut reader = Reader {
+        file: &document.path,
+        shown: Shown::default(),
+    };
+    for block in &document.blocks {
+        match block {
+            Block::Heading { .. } => {}
+            Block::Passage(passage) => reader.passage(passage),
+            Block::Table { heads, rows } if is_readers(heads) => {
+                for row in rows {
+                    reader.row(heads, row);
+                }
+            }
+            Block::Table { rows, .. } => {
+                rows.iter().flatten().for_each(|cell| reader.passage(cell))
+            }
+            Block::Code(lines) => reader.console(lines),
+        }
+    }
+    reader.shown
+}
+
+/// The shapes of Intervals that the header lists with their details.
+pub fn details(file: &str, header: &str) -> Vec<Example> {
+    let mut found = Vec::new();
+    for (at, line) in header.lines().enumerate() {
+        let Some(rest) = line.strip_prefix("#define MUON_DETAIL_") else {
+            continue;
+        };
+        let number = rest
+            .split_whitespace()
+            .nth(1)
+            .and_then(|word| word.parse().ok());
+        let comment = rest
+            .split_once("/*")
+            .and_then(|(_, end)| end.strip_suffix("*/"));
+        let shape = comment
+            .map(str::trim)
+            .filter(|shape| shape.starts_with('['));
+        if let (Some(number), Some(shape)) = (number, shape) {
+            found.push(Example {
+                file: file.to_string(),
+                line: at + 1,
+                text: shape.to_string(),
+                call: Call::Read(2),
+                want: Want::Detail(number),
+            });
+        }
+    }
+    found
+}
+
+fn is_readers(heads: &[String]) -> bool {
+    heads.first().is_some_and(|head| head == "text")
+        && heads.iter().any(|head| levels(head).is_some())
+}
+
+/// The levels that a column is about.
+fn levels(head: &str) -> Option<Asked> {
+    match head {
+        "old reader" => Some(Asked::Level(1)),
+        "new reader" => Some(Asked::Level(2)),
+        "both readers" => Some(Asked::BothLevels),
+        _ => None,
+    }
+}
+
+/// The number and place at the start, as in 6@4, and how long they are.
+fn leading_answer(text: &str) -> Option<((u32, usize), usize)> {
+    let digits = |text: &str| text.chars().take_while(char::is_ascii_digit).count();
+    let at = digits(text);
+    let place = text[at..].strip_prefix('@')?;
+    let end = digits(place);
+    Some((
+        (text[..at].parse().ok()?, place[..end].parse().ok()?),
+        at + 1 + end,
+    ))
+}
+
+/// How many answers a prose has.
+fn answers_in(prose: &str) -> usize {
+    let starts = |at: usize| at == 0 || !prose[..at].ends_with(|c: char| c.is_ascii_digit());
+    let places = prose.char_indices().map(|(at, _)| at);
+    places
+        .filter(|&at| starts(at) && leading_answer(&prose[at..]).is_some())
+        .count()
+}
+
+/// The number at the start of a word row.
+fn leading_number<T: std::str::FromStr>(text: &str) -> Option<T> {
+    let word = text.split([' ', ',', ';', ':']).next()?;
+    word.trim_end_matches('.').parse().ok()
+}
+
+/// "3 nodes" or "1 node".
+fn leading_count(text: &str) -> Option<usize> {
+    let (_, behind) = text.split_once(' ')?;
+    behind
+        .starts_with("node")
+        .then(|| leading_number(text))
+        .flatten()
+}
+
+/// What a sentence asks, after what stood before and this prose of it.
+fn asked(before: Asked, prose: &str) -> Asked {
+    let ended = prose.rfind(". ").max(prose.rfind("; "));
+    let (mut asked, sentence) = match ended {
+        Some(at) => (Asked::BothLevels, &prose[at..]),
+        None => (before, prose),
+    };
+    let phrases = [
+        ("evel 1", Asked::Level(1)),
+        ("evel 2", Asked::Level(2)),
+        ("Integer call", Asked::Integer),
+        ("Text call", Asked::Text),
+    ];
+    for (phrase, call) in phrases {
+        if sentence.contains(phrase) {
+            asked = call;
+        }
+    }
+    asked
+}
+
+fn is_node(text: &str) -> bool {
+    let words: Vec<&str> = text.split(' ').collect();
+    words.len() == NODE_WORDS && words.iter().all(|word| word.parse::<u32>().is_ok())
+}
+
+struct Reader<'a> {
+    file: &'a str,
+    shown: Shown,
+}
+
+impl Reader<'_> {
+    fn add(&mut self, line: usize, text: &str, calls: &[Call], want: &Want) {
+        for call in calls {
+            self.shown.examples.push(Example {
+                file: self.file.to_string(),
+                line,
+                text: text.to_string(),
+                call: call.clone(),
+                want: want.clone(),
+            });
+        }
+    }
+
+    fn fail(&mut self, line: usize, reason: &str) {
+        self.shown
+            .findings
+            .push(Finding::new(self.file, line, reason.to_string()));
+    }
+
+    fn passage(&mut self, passage: &Passage) {
+        let mut context = Asked::BothLevels;
+        let (mut used, mut answers) = (0, 0);
+        for (at, part) in passage.parts.iter().enumerate() {
+            match part {
+                Part::Prose(prose) => {
+                    context = asked(context, &one_spaced(prose));
+                    answers += answers_in(prose);
+                }
+                Part::Code { text, line, .. } => {
+                    used += usize::from(self.statement(
+                        text,
+                        *line,
+                        &passage.parts[at + 1..],
+                        &context,
+                    ));
+                }
+            }
+        }
+        if used < answers {
+            self.fail(passage.line, "an answer that belongs to no text");
+        }
+    }
+
+    /// What is said of a text; whether it used an answer.
+    fn statement(&mut self, text: &str, line: usize, behind: &[Part], context: &Asked) -> bool {
+        let Some(Part::Prose(prose)) = behind.first() else {
+            return false;
+        };
+        let said = one_spaced(prose);
+        if let Some(rest) = said.strip_prefix(" is ") {
+            let Some(((number, place), _)) = leading_answer(rest) else {
+                return false;
+            };
+            self.add(line, text, &context.calls(), &Want::Refused(number, place));
+            return true;
+        }
+        let Some(rest) = said.strip_prefix(" has ") else {
+            return false;
+        };
+        if rest == "the tokens " {
+            let (tokens, last) = listed(&behind[1..]);
+            let last = last.strip_prefix(" and then ").and_then(leading_answer);
+            let answer = last.map(|(answer, _)| answer);
+            self.add(line, text, &[Call::Tokens], &Want::Tokens(tokens, answer));
+            return answer.is_some();
+        }
+        if ["the node ", "the nodes "].contains(&rest) {
+            let nodes = listed(&behind[1..])
+                .0
+                .into_iter()
+                .take_while(|code| is_node(code))
+                .collect();
+            self.add(line, text, &context.calls(), &Want::Nodes(nodes));
+        } else if let Some(count) = leading_count(rest) {
+            self.add(line, text, &context.calls(), &Want::Count(count));
+        } else if let Some(value) = rest.strip_prefix("the value ").and_then(leading_number) {
+            self.add(line, text, &[Call::Integer], &Want::Value(value));
+        } else if rest.starts_with("no characters") {
+            self.add(line, text, &[Call::Text], &Want::Characters(String::new()));
+        } else if rest == "the characters " {
+            let characters = listed(&behind[1..]).0.swap_remove(0);
+            self.add(line, text, &[Call::Text], &Want::Characters(characters));
+        }
+        false
+    }
+
+    /// A row of a table: a text, and what readers answer.
+    fn row(&mut self, heads: &[String], row: &[Passage]) {
+        let codes = |cell: &Passage| listed(&cell.parts[1..]).0;
+        let text = codes(&row[0]).first().cloned().unwrap_or_default();
+        for (cell, head) in row.iter().zip(heads) {
+            let Some(asked) = levels(head) else {
+                continue;
+            };
+            let prose = match &cell.parts[0] {
+                Part::Prose(prose) => prose.trim_start(),
+                Part::Code { .. } => "",
+            };
+            let nodes: Vec<String> = all_codes(cell)
+                .into_iter()
+                .filter(|code| is_node(code))
+                .collect();
+            let want = if let Some(((number, place), _)) = leading_answer(prose) {
+                Want::Refused(number, place)
+            } else if prose.starts_with("the same") {
+                Want::Same
+            } else if !nodes.is_empty() {
+                Want::Nodes(nodes)
+            } else if let Some(count) = leading_count(prose) {
+                Want::Count(count)
+            } else {
+                self.fail(cell.line, &format!("no answer that can be run: {prose}"));
+                continue;
+            };
+            self.add(cell.line, &text, &asked.calls(), &want);
+        }
+    }
+
+    /// Commands, each with what it writes.
+    fn console(&mut self, lines: &[(usize, String)]) {
+        let mut lines = lines.iter().peekable();
+        while let Some((line, text)) = lines.next() {
+            let Some(command) = text.strip_prefix("$ ") else {
+                continue;
+            };
+            let mut output = String::new();
+            while let Some((_, text)) = lines.next_if(|(_, text)| !text.starts_with("$ ")) {
+                output.push_str(text);
+                output.push('\n');
+            }
+            self.add(*line, command, &[Call::Shell], &Want::Writes(output));
+        }
+    }
+}
+
+fn all_codes(passage: &Passage) -> Vec<String> {
+    let code = |part: &Part| match part {
+        Part::Code { text, .. } => Some(text.clone()),
+        Part::Prose(_) => None,
+    };
+    passage.parts.iter().filter_map(code).collect()
+}
+
+/// Texts in code quotes with commas or "and" between, and the prose behind.
+fn listed(parts: &[Part]) -> (Vec<String>, String) {
+    let mut texts = Vec::new();
+    let mut rest = parts.iter();
+    while let Some(Part::Code { text, .. }) = rest.next() {
+        texts.push(text.clone());
+        match rest.next() {
+            Some(Part::Prose(prose)) if [", ", " and "].contains(&one_spaced(prose).as_str()) => {}
+            Some(Part::Prose(prose)) => return (texts, one_spaced(prose)),
+            _ => break,
+        }
+    }
+    (texts, String::new())
+}
+
+/// The calls of a library.
+pub trait Library {
+    /// Number, place, and the words of the nodes.
+    fn read(&self, level: u32, text: &[u8]) -> (u32, usize, Vec<u32>);
+    /// Number, place and value.
+    fn integer(&self, piece: &[u8]) -> (u32, usize, i64);
+    /// Number, place and bytes.
+    fn text(&self, piece: &[u8]) -> (u32, usize, Vec<u8>);
+    /// Spans of the tokens, and the place where none starts.
+    fn tokens(&self, text: &[u8]) -> (Vec<(usize, usize)>, Option<usize>);
+}
+
+/// This package's.
+pub struct Second;
+
+impl Library for Second {
+    fn read(&self, level: u32, text: &[u8]) -> (u32, usize, Vec<u32>) {
+        let mut table = vec![0; NODES_MAX * NODE_WORDS];
+        let answer = tree::read(level, text, &mut table);
+        table.truncate(answer.count * NODE_WORDS);
+        (answer.number, answer.place, table)
+    }
+
+    fn integer(&self, piece: &[u8]) -> (u32, usize, i64) {
+        let answer = value::integer(piece);
+        (answer.number, answer.place, answer.value)
+    }
+
+    fn text(&self, piece: &[u8]) -> (u32, usize, Vec<u8>) {
+        let mut buffer = vec![0; piece.len()];
+        let answer = value::text(piece, &mut buffer);
+        buffer.truncate(answer.count);
+        (answer.number, answer.place, buffer)
+    }
+
+    fn tokens(&self, text: &[u8]) -> (Vec<(usize, usize)>, Option<usize>) {
+        let mut spans = Vec::new();
+        for found in token::list(text, front::begin(text)) {
+            match found {
+                Lexed::Token(token) => spans.push((token.first, token.end)),
+                Lexed::NoToken(place) => return (spans, Some(place)),
+                Lexed::End(_) => {}
+            }
+        }
+        (spans, None)
+    }
+}
+
+/// Runs an example; the text that was found instead, if it is another.
+pub fn run(example: &Example, library: &dyn Library) -> Result<(), String> {
+    let text = example.text.as_bytes();
+    let found = match &example.call {
+        Call::Read(level) => reading(&example.want, *level, text, library),
+        Call::Tokens => tokens(text, library),
+        Call::Integer => integer(&example.want, library.integer(text)),
+        Call::Text => characters(&example.want, library.text(text)),
+        Call::Shell => return Ok(()),
+    };
+    if found == example.want {
+        return Ok(());
+    }
+    Err(format!(
+        "{} by {:?}: {found:?}, not {:?}",
+        example.text, example.call, example.want
+    ))
+}
+
+/// What was read, in the terms that are wanted.
+fn reading(want: &Want, level: u32, text: &[u8], library: &dyn Library) -> Want {
+    let (number, place, words) = library.read(level, text);
+    let line = |node: &[u32]| {
+        node.iter()
+            .map(u32::to_string)
+            .collect::<Vec<_>>()
+            .join(" ")
+    };
+    if number != 0 {
+        return Want::Refused(number, place);
+    }
+    match want {
+        Want::Count(_) => Want::Count(words.len() / NODE_WORDS),
+        Want::Detail(_) => Want::Detail(words[NODE_WORDS - 1]),
+        Want::Same if library.read(1, text) == (number, place, words.clone()) => Want::Same,
+        _ => Want::Nodes(words.chunks(NODE_WORDS).map(line).collect()),
+    }
+}
+
+fn tokens(text: &[u8], library: &dyn Library) -> Want {
+    let (spans, none) = library.tokens(text);
+    let piece =
+        |&(first, end): &(usize, usize)| String::from_utf8_lossy(&text[first..end]).into_owned();
+    Want::Tokens(
+        spans.iter().map(piece).collect(),
+        none.map(|place| (NO_TOKEN, place)),
+    )
+}
+
+fn integer(want: &Want, (number, place, value): (u32, usize, i64)) -> Want {
+    match (number, want) {
+        (0, _) => Want::Value(value),
+        _ => Want::Refused(number, place),
+    }
+}
+
+fn characters(want: &Want, (number, place, bytes): (u32, usize, Vec<u8>)) -> Want {
+    match (number, want) {
+        (0, _) => Want::Characters(String::from_utf8_lossy(&bytes).into_owned()),
+        _ => Want::Refused(number, place),
+    }
+}
+
+#[cfg(test)]
+mod tests {
+    use super::*;
+
+    fn of(text: &str) -> Shown {
+        shown(&Document::new("a.md", text))
+    }
+
+    fn wrong(text: &str) -> usize {
+        let found = of(text);
+        let wrong = found
+            .examples
+            .iter()
+            .filter(|example| run(example, &Second).is_err());
+        wrong.count() + found.findings.len()
+    }
+
+    #[test]
+    fn right_answers() {
+        let text = "`(5:y,)` is 6@4. At level 1 `[1]` is 7@0, and at level 2 `[1]` has 2 nodes. \
+            `1..10` has the tokens `1`, `..`, `10`. `5 ~` has the tokens `5` and then 4@2. \
+            `29 56` has the value 2956. `\"a\\n\"` has the characters `a\\n`, `\"\"` has no characters. \
+            The Integer call: ` 5` is 9@0. `5` has the nodes `3 0 1 0 0 0`.";
+        let found = of(text);
+        assert_eq!(found.examples.len(), 12);
+        assert_eq!(wrong(text), 0);
+    }
+
+    #[test]
+    fn wrong_answers() {
+        assert_eq!(wrong("`(5:y,)` is 6@5"), 2);
+        assert_eq!(wrong("At level 2 `[1]` has 3 nodes"), 1);
+        assert_eq!(wrong("`1..10` has the tokens `1.`, `.10`"), 1);
+        assert_eq!(wrong("`29 56` has the value 29"), 1);
+        assert_eq!(wrong("an answer, 6@4, without a text"), 1);
+    }
+
+    #[test]
+    fn tables_of_readers() {
+        let head = "| text | old reader | new reader |\n|---|---|---|\n";
+        assert_eq!(
+            wrong(&format!(
+                "{head}| `[]` | 7@0 | 1 node |\n| nothing | 6@0 | 6@0 |\n"
+            )),
+            0
+        );
+        assert_eq!(
+            wrong(&format!("{head}| `5` | `3 0 1 0 0 0` | the same |\n")),
+            0
+        );
+        assert_eq!(wrong(&format!("{head}| `[]` | 7@1 | fine |\n")), 2);
+    }
+
+    #[test]
+    fn commands() {
+        let found = of("    $ a\n    b\n    c\n    $ d\n");
+        assert_eq!(found.examples.len(), 2);
+        assert_eq!(found.examples[0].want, Want::Writes("b\nc\n".to_string()));
+    }
+}

@@ -1,0 +1,98 @@
+//! Rules that the documents and definitions keep as a whole.
+
+use super::index::Repository;
+use super::markup::{Block, Part, Passage};
+use super::references::Function;
+use super::{Document, Finding};
+use std::collections::BTreeSet;
+
+/// The longest line of a definition, in characters.
+const COLUMNS: usize = 120;
+
+/// Lines of definitions that are too long.
+pub fn columns(repository: &Repository) -> Vec<Finding> {
+    let mut findings = Vec::new();
+    let definitions = repository
+        .sources()
+        .filter(|(path, _)| path.contains("/specs/"));
+    for (path, source) in definitions {
+        for (at, line) in source.text.lines().enumerate() {
+            let width = line.chars().count();
+            if width > COLUMNS {
+                findings.push(Finding::new(path, at + 1, format!("{width} columns")));
+            }
+        }
+    }
+    findings
+}
+
+/// Public functions whose contract docs/CONTRACTS.md does not list.
+pub fn unlisted(repository: &Repository, listed: &BTreeSet<Function>) -> Vec<Finding> {
+    let mut findings = Vec::new();
+    let code = repository
+        .sources()
+        .filter(|(path, _)| path.starts_with("crates/"));
+    for (path, source) in code {
+        for function in &source.functions {
+            let known = listed.contains(&(path.to_string(), function.clone()));
+            if !known && function != "main" {
+                let reason = format!("docs/CONTRACTS.md does not list {function}");
+                findings.push(Finding::new(path, 1, reason));
+            }
+        }
+    }
+    findings
+}
+
+/// Crates without a row in README's table, and crates with definitions that
+/// its section on them does not name.
+pub fn crates(repository: &Repository, readme: &Document) -> Vec<Finding> {
+    let (mut rows, mut read) = (BTreeSet::new(), BTreeSet::new());
+    let mut section = "";
+    for block in &readme.blocks {
+        match block {
+            Block::Heading { text, .. } => section = text,
+            Block::Table { heads, rows: found } if heads[0] == "crate" => {
+                rows.extend(found.iter().flat_map(|row| codes(&row[0])));
+            }
+            Block::Table { rows, .. } if section == "How to read the definitions" => {
+                read.extend(rows.iter().flatten().flat_map(codes));
+            }
+            Block::Passage(passage) if section == "How to read the definitions" => {
+                read.extend(codes(passage));
+            }
+            _ => {}
+        }
+    }
+    let mut findings = Vec::new();
+    for name in repository
+        .resolve("crates/*")
+        .iter()
+        .map(|path| &path["crates/".len()..])
+    {
+        if !rows.contains(name) {
+            findings.push(Finding::new(
+                &readme.path,
+                1,
+                format!("no row for the crate {name}"),
+            ));
+        }
+        let has_specs = !repository
+            .resolve(&format!("crates/{name}/specs"))
+            .is_empty();
+        let is_named = |code: &&String| code.split('/').any(|part| part == name);
+        if has_specs && !read.iter().any(|code| is_named(&code)) {
+            let reason = format!("'How to read the definitions' does not name {name}");
+            findings.push(Finding::new(&readme.path, 1, reason));
+        }
+    }
+    findings
+}
+
+fn codes(passage: &Passage) -> Vec<String> {
+    let code = |part: &Part| match part {
+        Part::Code { text, .. } => Some(text.clone()),
+        Part::Prose(_) => None,
+    };
+    passage.parts.iter().filter_map(code).collect()
+}
