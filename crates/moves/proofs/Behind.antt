@@ -15,8 +15,8 @@ use Rattle.grammar.proofs.Frames.{Frame, inRound, inSquare, Stack, have, namesO
 use Rattle.grammar.proofs.Machine as Machine
 use Rattle.moves.specs.declared.Forms.{Forms}
 use Rattle.moves.proofs.Model as Model
-use Rattle.moves.proofs.Means.{levelOf, given, shapeOf, frameOf}
-use Rattle.moves.proofs.Effects.{Does, Asked}
+use Rattle.moves.specs.Means.{levelOf, given, shapeOf, frameOf}
+use Rattle.moves.specs.Effects.{Does, Asked}
 use Rattle.moves.proofs.Steps.{wrong}
 use Rattle.moves.proofs.Ends.{doesCloseRound, doesCloseCurly, doesCloseSquare, doesCommaRound, doesCommaCurly}
 use Rattle.moves.proofs.Signs.{doesColonRound, doesColonCurly, doesLowSign, doesStarSquare, doesArrowRound, doesArrowCurly}

@@ -19,8 +19,8 @@ use Rattle.moves.specs.declared.RoundFrame.the-variants as Round
 use Rattle.moves.specs.declared.Move.{Move}
 use Rattle.moves.specs.declared.Move.the-variants as Move
 use Rattle.moves.proofs.Model as Model
-use Rattle.moves.proofs.Means.{roleOf, given, leftward, leftJoiner, styleOf, roundOf, curlyOf, squareOf, upToDetail, leading, fronted, then}
-use Rattle.moves.proofs.Effects.{Does}
+use Rattle.moves.specs.Means.{roleOf, given, leftward, leftJoiner, styleOf, roundOf, curlyOf, squareOf, upToDetail, leading, fronted, then}
+use Rattle.moves.specs.Effects.{Does}
 use Rattle.moves.proofs.Members.{last-listed, next-listed, last-attribute, next-attribute, told-behind, told-first, told-second, NamedBy, named-by, told-both, right-role, joined-role}
 use Rattle.moves.proofs.Steps.{anyRole, wrong, wanting, onward, closes, shuts}
 

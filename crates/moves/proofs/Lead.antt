@@ -19,8 +19,8 @@ use Rattle.grammar.proofs.Frames.{leadComma, leadRow, start, led, row, RoundFra
 use Rattle.moves.specs.declared.Role.the-variants as Role
 use Rattle.moves.specs.declared.Move.{Move}
 use Rattle.moves.proofs.Model as Model
-use Rattle.moves.proofs.Means.{roundOf, curlyOf, squareOf, frameOf, fronted}
-use Rattle.moves.proofs.Effects.{Does}
+use Rattle.moves.specs.Means.{roundOf, curlyOf, squareOf, frameOf, fronted}
+use Rattle.moves.specs.Effects.{Does}
 use Rattle.moves.proofs.Members.{none-listed}
 use Rattle.moves.proofs.Steps.{begins, wrongSign, onward, closes, closing, shuts}
 

@@ -1,7 +1,5 @@
 -- The moves are those of the grammar's machine.
 pub mod Model
-pub mod Means
-pub mod Effects
 pub mod Members
 pub mod Steps
 pub mod Lead
@@ -10,3 +8,5 @@ pub mod Ends
 pub mod Signs
 pub mod Behind
 pub mod Does
+pub mod Moved
+pub mod Rest

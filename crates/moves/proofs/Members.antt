@@ -13,7 +13,7 @@ use Rattle.grammar.specs.Nodes.{Node, both, nodes, nodesPlain, nodesPlainName, 
 use Rattle.grammar.proofs.Frames.{Lead, leadComma, leadRow, Front, start, led, row, nextAttribute, lastAttribute, nextItem, lastItem, noFurther, plainNameOf}
 use Rattle.grammar.proofs.NodeLaws.{relabel, roled}
 use Rattle.moves.proofs.Model as Model
-use Rattle.moves.proofs.Means.{roleOf, leftward, leftJoiner, fronted, leading, then}
+use Rattle.moves.specs.Means.{roleOf, leftward, leftJoiner, fronted, leading, then}
 
 -- behind no node
 start-at : (i : ℕ) → i + 1 ≡ i + 1 + 0

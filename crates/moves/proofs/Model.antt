@@ -7,6 +7,7 @@ use Rattle.lexicon.specs.declared.Sign.{Sign}
 use Rattle.lexicon.specs.declared.Sign.the-variants as Sign
 use Rattle.lexicon.specs.declared.Kind.{Kind}
 use Rattle.lexicon.specs.declared.Kind.the-variants as Kind
+use Rattle.grammar.specs.Nodes.{kindNumber}
 use Rattle.moves.specs.declared.Forms.{Forms}
 use Rattle.moves.specs.declared.Role.{Role}
 use Rattle.moves.specs.declared.Role.the-variants as Role
@@ -28,6 +29,8 @@ use Rattle.moves.specs.declared.Mode.{Mode}
 use Rattle.moves.specs.declared.Mode.the-variants as Mode
 use Rattle.moves.specs.declared.Move.{Move}
 use Rattle.moves.specs.declared.Move.the-variants as Move
+use Rattle.moves.specs.Means.{kindOf}
+pub use Rattle.moves.specs.Moves.{shut}
 
 -- ---- roles
 
@@ -58,13 +61,6 @@ curly f r = Move.To (Mode.Want (Frame.Curly f)) r
 
 abbrev pub square : SquareFrame → Role → Move
 square f r = Move.To (Mode.Want (Frame.Square f)) r
-
--- `}`
-abbrev pub shut : Style → Role → Move
-shut Style.Lot r = Move.Close 11 0 r
-shut Style.Array r = Move.Shut Style.Array r
-shut Style.Set r = Move.Shut Style.Set r
-shut Style.Bag r = Move.Shut Style.Bag r
 
 -- ---- where a value is wanted, a sign that begins none
 
@@ -395,10 +391,7 @@ twoCommasSign y (Sign.Star a b) = Move.Wrong
 
 -- the node's kind
 abbrev pub styleKind : Style → ℕ
-styleKind Style.Lot = 11
-styleKind Style.Array = 12
-styleKind Style.Set = 13
-styleKind Style.Bag = 14
+styleKind y = kindNumber (kindOf y)
 
 -- `)` behind a collection's `}`
 abbrev pub headedSign : Style → Sign → Move

@@ -23,8 +23,8 @@ use Rattle.moves.specs.declared.Role.the-variants as Role
 use Rattle.moves.specs.declared.Move.{Move}
 use Rattle.moves.specs.declared.Move.the-variants as Move
 use Rattle.moves.proofs.Model as Model
-use Rattle.moves.proofs.Means.{collectionStyle, styleOf, modeOf, fronted, then}
-use Rattle.moves.proofs.Effects.{counting, Does}
+use Rattle.moves.specs.Means.{collectionStyle, styleOf, modeOf, fronted, then}
+use Rattle.moves.specs.Effects.{counting, Does}
 use Rattle.moves.proofs.Members.{last-listed, next-listed}
 use Rattle.moves.proofs.Steps.{Wants, wrong, wanting, onward, closes, shuts}
 

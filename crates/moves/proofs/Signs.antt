@@ -24,8 +24,8 @@ use Rattle.moves.specs.declared.Mode.the-variants as Mode
 use Rattle.moves.specs.declared.Move.{Move}
 use Rattle.moves.specs.declared.Move.the-variants as Move
 use Rattle.moves.proofs.Model as Model
-use Rattle.moves.proofs.Means.{levelOf, given, nameShape, shapeOf, leftward, styleOf, roundOf, curlyOf, squareOf, frameOf, frameSpan, framed, leading, fronted, then}
-use Rattle.moves.proofs.Effects.{flat, headBare, openingFrame, told, Does}
+use Rattle.moves.specs.Means.{levelOf, given, nameShape, shapeOf, leftward, styleOf, roundOf, curlyOf, squareOf, frameOf, frameSpan, framed, leading, fronted, then}
+use Rattle.moves.specs.Effects.{flat, headBare, openingFrame, told, Does}
 use Rattle.moves.proofs.Members.{told-behind, told-first, NamedBy, named-by, left-role}
 use Rattle.moves.proofs.Steps.{anyRole, wrong, onward, closing}
 

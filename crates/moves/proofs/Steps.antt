@@ -22,8 +22,8 @@ use Rattle.moves.specs.declared.Mode.{Mode}
 use Rattle.moves.specs.declared.Mode.the-variants as Mode
 use Rattle.moves.specs.declared.Move.the-variants as Move
 use Rattle.moves.proofs.Model as Model
-use Rattle.moves.proofs.Means.{shapeOf, styleOf, frameOf, modeOf, curlySpan, frameSpan, openOf, below, framed, before}
-use Rattle.moves.proofs.Effects.{flat, openingFrame, Unheld, Leads, told, Does}
+use Rattle.moves.specs.Means.{shapeOf, styleOf, frameOf, modeOf, curlySpan, frameSpan, openOf, below, framed, before}
+use Rattle.moves.specs.Effects.{flat, openingFrame, Unheld, Leads, told, Does}
 
 -- where a value is wanted
 abbrev pub Wants : Config → Type 0

@@ -1,10 +1,4 @@
-// The moves of a reader inside a bracket.
+// The moves of a reader inside a bracket: which table tells what a token does.
 mod behind;
-mod count;
-mod empty;
-mod joint;
 mod lead;
-mod other;
-mod role;
 pub mod step;
-mod to;

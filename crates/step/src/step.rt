@@ -1,22 +1,21 @@
 // What a token does inside a bracket, told by its kind.
 use crate::behind::behind;
-use crate::count::count;
-use crate::count::counted;
 use crate::lead::lead;
-use crate::other::bounded;
-use crate::other::head;
-use crate::other::headed;
-use crate::other::two_commas;
+use collection::count;
+use collection::head;
+use collection::headed;
+use curly::member::counted;
+use curly::member::two_commas;
 use lexicon::Kind;
 use moves::Forms;
 use moves::Mode;
 use moves::Move;
-ghost use mathlib.Core.Path.{_≡_};
-ghost use Rattle.moves.proofs.Model as Model;
+use square::bounded::bounded;
+ghost use Rattle.moves.specs.Moves.{Moves};
 
 // The move of a token of the kind, where the reader expects what the mode tells.
 pub fn step(forms: Forms, mode: Mode, kind: Kind) -> Move
-    ensures { λ r. ⌜ r ≡ Model.move forms mode kind ⌝ }
+    ensures { λ r. ⌜ Moves forms mode kind r ⌝ }
 {
     match mode {
         Mode::Want(frame) => lead(frame, kind),

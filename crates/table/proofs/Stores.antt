@@ -9,7 +9,7 @@ use Rattle.rules.proofs.Over.{over-first, over-one}
 use Rattle.grammar.specs.Nodes.{roleNumber, nodeWords}
 use Rattle.moves.specs.declared.Role.{Role}
 use Rattle.moves.specs.declared.Role.the-variants as Role
-use Rattle.moves.proofs.Means.{roleOf}
+use Rattle.moves.specs.Means.{roleOf}
 use Rattle.table.specs.declared.Entry.{Entry}
 use Rattle.table.specs.Over.{roleWord, entryWords, Stored, Assigned}
 

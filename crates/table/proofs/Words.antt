@@ -6,7 +6,7 @@ use native.Mathlib.Omega.{arith}
 use lib.ListN.{length, set, length-append}
 use Rattle.rules.proofs.Over.{set-behind}
 use Rattle.grammar.specs.Nodes.{Node, Role, words, nodeWords, tableWords, roleNumber}
-use Rattle.moves.proofs.Means.{roled}
+use Rattle.moves.specs.Means.{roled}
 use Rattle.table.specs.Over.{roleWord}
 
 pub tableWords-length : (ns : List Node) → length (tableWords ns) ≡ length ns * nodeWords

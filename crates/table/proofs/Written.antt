@@ -10,7 +10,7 @@ use Rattle.rules.proofs.Over.{over-nothing, over-append, over-swap, over-set, o
 use Rattle.grammar.specs.Nodes.{Node, words, nodeWords, tableWords, roleNumber}
 use Rattle.moves.specs.declared.Role.{Role}
 use Rattle.moves.specs.declared.Role.the-variants as Role
-use Rattle.moves.proofs.Means.{roleOf, roled}
+use Rattle.moves.specs.Means.{roleOf, roled}
 use Rattle.table.specs.declared.Entry.{Entry}
 use Rattle.table.specs.Over.{roleWord, entryWords, Tells, Stored, Put, Assigned, Written}
 use Rattle.table.proofs.Words.{tableWords-length, tableWords-append, roled-length, roled-words}

@@ -7,7 +7,7 @@ use Rattle.rules.specs.Over.{over}
 use Rattle.grammar.specs.Nodes.{Node, kindNumber, roleNumber, words, nodeWords, tableWords}
 use Rattle.moves.specs.declared.Role.{Role}
 use Rattle.moves.specs.declared.Role.the-variants as Role
-use Rattle.moves.proofs.Means.{roleOf}
+use Rattle.moves.specs.Means.{roleOf}
 use Rattle.table.specs.declared.Entry.{Entry}
 
 -- which of a node's words tells its parent's index, and which its role, counted from 0

@@ -6,7 +6,7 @@ ghost use Prim.Native.Nat.{_+_, _*_, _≤_};
 ghost use lib.ListN.{length};
 ghost use Rattle.rules.specs.Over.{over};
 ghost use Rattle.grammar.specs.Nodes.{roleNumber, nodeWords};
-ghost use Rattle.moves.proofs.Means.{roleOf};
+ghost use Rattle.moves.specs.Means.{roleOf};
 ghost use Rattle.table.specs.Over.{under, capped as cappedOf, entryWords, Stored, Assigned, Raised};
 
 // Words of a node, and which of them tell its parent's index and its role.

@@ -34,7 +34,7 @@ use Rattle.moves.specs.declared.CurlyFrame.the-variants as Curly
 use Rattle.moves.specs.declared.SquareFrame.the-variants as Square
 use Rattle.moves.specs.declared.Frame.the-variants as Frame
 use Rattle.moves.specs.declared.Mode.the-variants as Mode
-use Rattle.moves.proofs.Means.{levelOf, collectionStyle}
+use Rattle.moves.specs.Means.{levelOf, collectionStyle}
 use Rattle.tree.specs.declared.answer.Got.{Got}
 use Rattle.tree.specs.declared.begin.Begin.{Begin}
 use Rattle.tree.specs.declared.begin.Begin.the-variants as Begin

@@ -25,7 +25,7 @@ use Rattle.reading.proofs.At.{plain, kindOf, class-kind, literal-on, bad-here}
 use Rattle.moves.specs.declared.Role.the-variants as Role
 use Rattle.moves.specs.declared.Shape.{Shape}
 use Rattle.moves.specs.declared.Shape.the-variants as Shape
-use Rattle.moves.proofs.Means.{levelOf, shapeOf}
+use Rattle.moves.specs.Means.{levelOf, shapeOf}
 use Rattle.table.specs.declared.Entry.{Entry}
 use Rattle.table.specs.Over.{entryWords, Stored, Written}
 use Rattle.table.proofs.Written.{told-put, written-node}

@@ -21,7 +21,7 @@ use Rattle.reading.specs.Answers.{LevelOf, first, second}
 use Rattle.reading.proofs.Rows.{pick, no-end, no-none}
 use Rattle.moves.specs.declared.Forms.{Forms}
 use Rattle.moves.specs.declared.Style.{Style}
-use Rattle.moves.proofs.Means.{levelOf}
+use Rattle.moves.specs.Means.{levelOf}
 use Rattle.tree.specs.declared.answer.Got.{Got}
 use Rattle.tree.specs.declared.answer.Got.the-variants as Got
 use Rattle.tree.specs.declared.head.HeadWord.{HeadWord}

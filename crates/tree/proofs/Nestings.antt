@@ -33,7 +33,7 @@ use Rattle.reading.proofs.At.{plain, kindOf, class-kind, mayBeBad, never-bad, n
 use Rattle.moves.specs.declared.Forms.{Forms}
 use Rattle.moves.specs.declared.Role.the-variants as Role
 use Rattle.moves.specs.declared.Shape.the-variants as Shape
-use Rattle.moves.proofs.Means.{levelOf}
+use Rattle.moves.specs.Means.{levelOf}
 use Rattle.table.specs.declared.Entry.{Entry}
 use Rattle.table.specs.Over.{entryWords, Stored}
 use Rattle.table.proofs.Written.{told-put, written-node}

@@ -41,10 +41,9 @@ use Rattle.moves.specs.declared.Mode.{Mode}
 use Rattle.moves.specs.declared.Mode.the-variants as Mode
 use Rattle.moves.specs.declared.Move.{Move}
 use Rattle.moves.specs.declared.Move.the-variants as Move
-use Rattle.moves.proofs.Model.{move}
-use Rattle.moves.proofs.Means.{levelOf, given, shapeOf, frameOf, modeOf, inside, framed}
-use Rattle.moves.proofs.Effects.{headBare, nested, openingFrame, held, Does, Begins, Asked}
-use Rattle.moves.proofs.Does.{does}
+use Rattle.moves.specs.Means.{levelOf, given, shapeOf, frameOf, modeOf, inside, framed}
+use Rattle.moves.specs.Effects.{headBare, nested, openingFrame, held, Does, Begins, Asked}
+use Rattle.moves.specs.Moves.{Moves}
 use Rattle.table.specs.Over.{Written, Raised, Reserved}
 use Rattle.table.proofs.Written.{written-nothing, written-more}
 use Rattle.table.proofs.Raised.{raised-value, raised-length, reserved-written, reserved-length}
@@ -429,11 +428,10 @@ module _ (text : List ℕ) (forms : Forms) where
       Comes text (s .at) (Next.Token t) → Asked c (t .kind)
   asked-of {t = t} h k = record { within = h .within; no-head = λ e q. h .no-head e .none t k q; no-names = λ e q. h .no-names e .none t k q }
 
-  -- the move that the code computes is what the machine does
+  -- the code's move is what the machine does
   does-so : {opener t : Token.Token} {s : State.State} {lent from : List ℕ} {index : ℕ} {K : Stack} {c : Config} {taken : Move} → Holds text forms opener lent from index K c s →
-      Comes text (s .at) (Next.Token t) → taken ≡ move forms (s .mode) (t .kind) → Does (levelOf forms) c (seen t) taken
-  does-so {t = t} {c = c} {taken = taken} h k e =
-      subst (λ (m : Move). Does (levelOf forms) c (seen t) m) (ap (λ (m : Mode). move forms m (t .kind)) (h .mode-is) ∙ sym e) (does forms c (t .kind) (spanOf t) (asked-of h k))
+      Comes text (s .at) (Next.Token t) → Moves forms (s .mode) (t .kind) taken → Does (levelOf forms) c (seen t) taken
+  does-so {t = t} {c = c} h k m = m .does c (h .mode-is) (asked-of h k) (spanOf t)
 
   module _ {opener t : Token.Token} {s : State.State} {index parent : ℕ} (i : Inner text opener s index parent) (k : Comes text (s .at) (Next.Token t)) where
     ends-turned : (z : Turn) → Ends opener t z → Turned text opener s z
@@ -453,7 +451,7 @@ module _ (text : List ℕ) (forms : Forms) where
         subst (λ (w : Read). Member text forms opener s from left index parent (Turn.Ended w)) (sym (handed-refusal g e y))
         (record { turned = tt; turns = λ lent K c h. refused-here g (h .stands) (inside-open c (h .within)) x e })
 
-    module _ {t : Token.Token} {taken : Move} (e : g ≡ Got.Token t) (m : taken ≡ move forms (s .mode) (t .kind)) (r : Turn) where
+    module _ {t : Token.Token} {taken : Move} (e : g ≡ Got.Token t) (m : Moves forms (s .mode) (t .kind) taken) (r : Turn) where
       pub member-taken : Ends opener t r → Taken opener s t taken from left index parent r → signs taken ≡ true → Member text forms opener s from left index parent r
       member-taken z y q =
           let k = got-token text (s .at) e x in

@@ -33,8 +33,8 @@ use Rattle.moves.specs.declared.Frame.{Frame}
 use Rattle.moves.specs.declared.Mode.{Mode}
 use Rattle.moves.specs.declared.Move.{Move}
 use Rattle.moves.specs.declared.Move.the-variants as Move
-use Rattle.moves.proofs.Means.{levelOf, roleOf, shapeOf, before, last, children, openOf}
-use Rattle.moves.proofs.Effects.{flat, counting, opening, held, Leads, told, Does}
+use Rattle.moves.specs.Means.{levelOf, roleOf, shapeOf, before, last, children, openOf}
+use Rattle.moves.specs.Effects.{flat, counting, opening, held, Leads, told, Does}
 use Rattle.table.specs.Over.{Written, Stored, Assigned, Put, entryWords}
 use Rattle.table.proofs.Words.{roled-length}
 use Rattle.table.proofs.Written.{told-put, written-more, written-node, written-front, written-role, written-first}

@@ -35,7 +35,7 @@ use Rattle.reading.proofs.At as At
 use Rattle.reading.proofs.At.{class-kind, at-start, none-here, not-here, not-wanting}
 use Rattle.moves.specs.declared.Forms.{Forms}
 use Rattle.moves.specs.declared.Shape.{Shape}
-use Rattle.moves.proofs.Means.{levelOf}
+use Rattle.moves.specs.Means.{levelOf}
 use Rattle.table.specs.Over.{Written}
 use Rattle.table.proofs.Written.{written-whole}
 use Rattle.tree.specs.declared.answer.Read.{Read}

@@ -18,7 +18,7 @@ use Rattle.grammar.specs.Yield.{collectionHead}
 use Rattle.grammar.specs.Level.{Level, hasHead, hasCollection}
 use Rattle.reading.specs.Answers.{LevelOf}
 use Rattle.moves.specs.declared.Forms.{Forms}
-use Rattle.moves.proofs.Means.{levelOf, collectionStyle}
+use Rattle.moves.specs.Means.{levelOf, collectionStyle}
 use Rattle.tree.specs.declared.answer.Read.{Read}
 use Rattle.tree.specs.declared.answer.Read.the-variants as Read
 use Rattle.tree.specs.declared.answer.Got.{Got}

@@ -31,8 +31,8 @@ use Rattle.moves.specs.declared.Frame.{Frame}
 use Rattle.moves.specs.declared.Mode.{Mode}
 use Rattle.moves.specs.declared.Move.{Move}
 use Rattle.moves.specs.declared.Move.the-variants as Move
-use Rattle.moves.proofs.Means.{levelOf, shapeOf, modeOf, inside, openOf, below, before, children}
-use Rattle.moves.proofs.Effects.{headBare, nested, held, opening, Does, Begins}
+use Rattle.moves.specs.Means.{levelOf, shapeOf, modeOf, inside, openOf, below, before, children}
+use Rattle.moves.specs.Effects.{headBare, nested, held, opening, Does, Begins}
 use Rattle.table.specs.Over.{Written}
 use Rattle.tree.specs.declared.answer.Read.{Read}
 use Rattle.tree.specs.declared.answer.Read.the-variants as Read

@@ -15,7 +15,7 @@ use Rattle.reading.specs.declared.Rules.{Rules}
 use Rattle.reading.specs.Sizes.{baseLimits}
 use Rattle.reading.specs.Answers.{LevelOf, Accepted, Answers, answer}
 use Rattle.moves.specs.declared.Forms.{Forms}
-use Rattle.moves.proofs.Means.{levelOf}
+use Rattle.moves.specs.Means.{levelOf}
 use Rattle.table.specs.Over.{Written}
 use Rattle.tree.specs.declared.answer.Read.{Read}
 use Rattle.tree.specs.declared.answer.Read.the-variants as Read

@@ -1,8 +1,7 @@
 -- `step::step::step` meets its contract, arm by arm.
 -- Assumes nothing.
-use mathlib.Core.Path.{ap, sym, _∙_}
-use Rattle.moves.specs.declared.Mode.{Mode}
-use Rattle.moves.proofs.Model as Model
+use mathlib.Core.Path.{refl}
+use Rattle.moves.proofs.Moved.{along}
 use Rattle.step.proofs.step.step.Statement.{statement}
 use Rattle.step.proofs.step.step.Tie as tie
 
@@ -55,44 +54,28 @@ bounded-requires : tie.Need-bounded-requires
 bounded-requires c κs = tt
 
 returns : tie.Need-returns
-returns c =
-    let a = c .before .before .before .before .args in
-    c .lead .ensures ∙ ap (λ (x : Mode). Model.move (a .forms) x (a .kind)) (sym (c .before .before .mode .given .1))
+returns c = along (c .before .before .mode .given .1) refl (c .lead .ensures (c .before .before .before .before .args .forms))
 
 returns-2 : tie.Need-returns-2
-returns-2 c =
-    let a = c .before .before .before .before .args in
-    c .behind .ensures ∙ ap (λ (x : Mode). Model.move (a .forms) x (a .kind)) (sym (c .before .before .mode2 .given .1))
+returns-2 c = along (c .before .before .mode2 .given .1) refl (c .behind .ensures)
 
 returns-3 : tie.Need-returns-3
-returns-3 c =
-    let a = c .before .before .before .before .args in
-    c .head .ensures ∙ ap (λ (x : Mode). Model.move (a .forms) x (a .kind)) (sym (c .before .before .mode3 .given .1))
+returns-3 c = along (c .before .before .mode3 .given .1) refl (c .head .ensures (c .before .before .before .before .args .forms))
 
 returns-4 : tie.Need-returns-4
-returns-4 c =
-    let a = c .before .before .before .before .args in
-    c .count .ensures ∙ ap (λ (x : Mode). Model.move (a .forms) x (a .kind)) (sym (c .before .before .mode4 .given .1))
+returns-4 c = along (c .before .before .mode4 .given .1) refl (c .count .ensures (c .before .before .before .before .args .forms))
 
 returns-5 : tie.Need-returns-5
-returns-5 c =
-    let a = c .before .before .before .before .args in
-    c .counted .ensures ∙ ap (λ (x : Mode). Model.move (a .forms) x (a .kind)) (sym (c .before .before .mode5 .given .1))
+returns-5 c = along (c .before .before .mode5 .given .1) refl (c .counted .ensures (c .before .before .before .before .args .forms))
 
 returns-6 : tie.Need-returns-6
-returns-6 c =
-    let a = c .before .before .before .before .args in
-    c .two-commas .ensures ∙ ap (λ (x : Mode). Model.move (a .forms) x (a .kind)) (sym (c .before .before .mode6 .given .1))
+returns-6 c = along (c .before .before .mode6 .given .1) refl (c .two-commas .ensures (c .before .before .before .before .args .forms))
 
 returns-7 : tie.Need-returns-7
-returns-7 c =
-    let a = c .before .before .before .before .args in
-    c .headed .ensures ∙ ap (λ (x : Mode). Model.move (a .forms) x (a .kind)) (sym (c .before .before .mode7 .given .1))
+returns-7 c = along (c .before .before .mode7 .given .1) refl (c .headed .ensures (c .before .before .before .before .args .forms))
 
 returns-8 : tie.Need-returns-8
-returns-8 c =
-    let a = c .before .before .before .before .args in
-    c .bounded .ensures ∙ ap (λ (x : Mode). Model.move (a .forms) x (a .kind)) (sym (c .before .before .mode8 .given .1))
+returns-8 c = along (c .before .before .mode8 .given .1) refl (c .bounded .ensures (c .before .before .before .before .args .forms))
 
 pub step-spec : {M : Type 1} → statement M
 step-spec =

@@ -1,2 +1,0 @@
--- The laws of the moves' code.
-pub mod Rest
