@@ -8,7 +8,7 @@ use Rattle.grammar.proofs.Frames.{Config}
 use Rattle.moves.specs.declared.Forms.{Forms}
 use Rattle.moves.proofs.Model.{move}
 use Rattle.moves.specs.Means.{levelOf, modeOf}
-pub use Rattle.moves.specs.Effects.{flat, Signed, headBare, nested, openingFrame, opening, held, Unheld, Leads, Closes, Begins, Counts, Groups, told, Does, Asked}
+use Rattle.moves.specs.Effects.{Does, Asked}
 use Rattle.moves.proofs.Lead.{doesLead}
 use Rattle.moves.proofs.Behind.{doesBehind}
 use Rattle.moves.proofs.Others.{doesHead, doesCount, doesCounted, doesClosing}

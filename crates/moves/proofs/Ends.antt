@@ -12,7 +12,6 @@ use Rattle.grammar.specs.Nodes as Nodes
 use Rattle.grammar.specs.Nodes.{both, nodes, nodesPlain, nodesPlainName, nodesName, betweenDetail, over, branch}
 use Rattle.grammar.proofs.Frames.{Lead, leadComma, leadRow, Front, row, Curly, lotCurly, countedCurly, RoundFrame, opened, pairColon, pairArrow, inTuple, attributeName, CurlyFrame, memberJoined, SquareFrame, squareOpened, lowAnd, upTo, Frame, inRound, inSquare, Stack, have, nextAttribute, lastAttribute, nextItem, lastItem, plainNameOf}
 use Rattle.grammar.proofs.Machine as Machine
-use Rattle.grammar.proofs.NodeLaws.{some-node-plain}
 use Rattle.moves.specs.declared.Role.{Role}
 use Rattle.moves.specs.declared.Role.the-variants as Role
 use Rattle.moves.specs.declared.RoundFrame.the-variants as Round
@@ -109,8 +108,7 @@ module _ (l : Level) where
   doesCommaPair p none e g o k v s K = wrong l _ _ s (λ e. e) (ap (λ (x : Option PlainName). Machine.commaPair x o k v s K) e)
   doesCommaPair p (some n) e g o k v s K = (
     record { sign = Tokens.comma; class-is = refl; flat-is = refl },
-    refl,
-    λ i. some-node-plain p i Nodes.this (i + 1),
+    record { first = o; name = p; colon = k; value = v; stack = K; config-is = refl },
     wanting l _ _ (inRound (inTuple o (leadRow (Tree.rowFirst (Tree.openNamed n k v) s)))) _ refl
         (ap (λ (x : Option PlainName). Machine.commaPair x o k v s K) e) refl
         λ i. sym (told-both (nodesPlain p i Nodes.this (i + 1)) (nodesPlainName n i Nodes.name) v i (g i (i + 1) Nodes.this Nodes.name)),

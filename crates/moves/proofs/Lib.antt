@@ -8,5 +8,7 @@ pub mod Ends
 pub mod Signs
 pub mod Behind
 pub mod Does
+pub mod Roles
 pub mod Moved
+pub mod One
 pub mod Rest

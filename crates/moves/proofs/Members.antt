@@ -80,7 +80,7 @@ named-by (Tree.lot o i c) = tt
 named-by (Tree.counted o h t k b i e c) = tt
 named-by (Tree.interval o b c) = tt
 
-roled-length : (r : Nodes.Role) (ns : List Node) → length (roled r ns) ≡ length ns
+pub roled-length : (r : Nodes.Role) (ns : List Node) → length (roled r ns) ≡ length ns
 roled-length r [] = refl
 roled-length r (n ∷ ns) = refl
 

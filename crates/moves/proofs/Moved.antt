@@ -13,7 +13,6 @@ use Rattle.moves.specs.declared.Mode.{Mode}
 use Rattle.moves.specs.declared.Mode.the-variants as Mode
 use Rattle.moves.specs.declared.Move.{Move}
 use Rattle.moves.specs.declared.Role.{Role}
-use Rattle.moves.specs.declared.Role.the-variants as Role
 use Rattle.moves.specs.declared.RoundFrame.{RoundFrame}
 use Rattle.moves.specs.declared.Shape.{Shape}
 use Rattle.moves.specs.declared.Style.{Style}
@@ -23,6 +22,7 @@ use Rattle.moves.specs.Effects.{Does}
 use Rattle.moves.specs.Moves.{Moves}
 use Rattle.moves.proofs.Model as Model
 use Rattle.moves.proofs.Does.{does}
+use Rattle.moves.proofs.Roles.{same-role}
 
 pub moved : {forms : Forms} {mode : Mode} {kind : Kind} {r : Move} → r ≡ Model.move forms mode kind → Moves forms mode kind r
 moved {forms} {mode} {kind} {r} e =
@@ -49,33 +49,6 @@ arrow-curly forms f s false = refl
 arrow-curly forms f s true = refl
 
 -- ---- the code's roles are told by the grammar's
-
-abbrev codeRole : Nodes.Role → Role
-codeRole Nodes.root = Role.Root
-codeRole Nodes.this = Role.This
-codeRole Nodes.thatAfter = Role.ThatAfter
-codeRole Nodes.thatBefore = Role.ThatBefore
-codeRole Nodes.name = Role.Name
-codeRole Nodes.value = Role.Value
-codeRole Nodes.count = Role.Count
-codeRole Nodes.low = Role.Low
-codeRole Nodes.high = Role.High
-codeRole Nodes.single = Role.Single
-
-code-role : (r : Role) → codeRole (roleOf r) ≡ r
-code-role Role.Root = refl
-code-role Role.This = refl
-code-role Role.ThatAfter = refl
-code-role Role.ThatBefore = refl
-code-role Role.Name = refl
-code-role Role.Value = refl
-code-role Role.Count = refl
-code-role Role.Low = refl
-code-role Role.High = refl
-code-role Role.Single = refl
-
-pub same-role : {r s : Role} → roleOf r ≡ roleOf s → r ≡ s
-same-role {r} {s} e = sym (code-role r) ∙ ap codeRole e ∙ code-role s
 
 pub right-is : (l : Bool) {r : Role} → roleOf r ≡ Nodes.rightRole (arrowOf l) → r ≡ Model.rightRole l
 right-is false e = same-role e

@@ -1,10 +1,11 @@
 -- The common effects: a token that cannot be taken, a sign that leads on, the end of a bracket. Assumes nothing.
-use mathlib.Core.Path.{_≡_, refl, sym, subst, _∙_}
+use mathlib.Core.Path.{_≡_, refl, sym, ap, subst, _∙_}
 use mathlib.Core.Bool.{true, false, false≢true}
 use mathlib.Core.List.{List, _∷_, append-nil}
 use mathlib.Core.Option.{none, some}
 use mathlib.Core.Logic.{inl, inr}
-use Prim.Native.Nat.{ℕ, _+_}
+use Prim.Native.Nat.{ℕ, _+_, _≤_}
+use lib.ListN.{length}
 use Rattle.grammar.specs.Tokens
 use Rattle.grammar.specs.Tokens.{Span, Tok, tok, Mark, Class}
 use Rattle.grammar.specs.Tree
@@ -15,6 +16,7 @@ use Rattle.grammar.specs.Nodes.{NodeKind, Node, nodes, nodesListing, kindNumber
 use Rattle.grammar.proofs.Frames as Frames
 use Rattle.grammar.proofs.Frames.{Config, want, have, wantClose, Stack, Closing}
 use Rattle.grammar.proofs.Machine.{step}
+use Rattle.grammar.proofs.NodeLaws.{some-node-plain}
 use Rattle.moves.specs.declared.Role.{Role}
 use Rattle.moves.specs.declared.Role.the-variants as Role
 use Rattle.moves.specs.declared.Shape.the-variants as Shape
@@ -23,7 +25,7 @@ use Rattle.moves.specs.declared.Mode.the-variants as Mode
 use Rattle.moves.specs.declared.Move.the-variants as Move
 use Rattle.moves.proofs.Model as Model
 use Rattle.moves.specs.Means.{shapeOf, styleOf, frameOf, modeOf, curlySpan, frameSpan, openOf, below, framed, before}
-use Rattle.moves.specs.Effects.{flat, openingFrame, Unheld, Leads, told, Does}
+use Rattle.moves.specs.Effects.{flat, openingFrame, held, Unheld, Leads, Paired, told, Does}
 
 -- where a value is wanted
 abbrev pub Wants : Config → Type 0
@@ -44,6 +46,13 @@ IsMark Tokens.curly = ⊥
 IsMark Tokens.square = ⊥
 IsMark (Tokens.mark m) = Unit
 IsMark Tokens.later = ⊥
+
+-- behind `(`, a value, `:` and another value: that one was just read, and the first has a node
+pub paired-held : {l : Level} {c : Config} {t : Tok} → Paired l c t → held c ≡ true
+paired-held p = ap held (p .config-is)
+
+pub paired-named : {l : Level} {c : Config} {t : Tok} → Paired l c t → (i : ℕ) → 1 ≤ length (before c i)
+paired-named p i = subst (λ (x : Config). 1 ≤ length (before x i)) (sym (p .config-is)) (some-node-plain (p .name) i Nodes.this (i + 1))
 
 -- where a value was just read any role may be told
 pub anyRole : (r : Role) → true ≡ false → r ≡ Role.Root

@@ -4,14 +4,13 @@ use mathlib.Core.Bool.{Bool, true, false}
 use mathlib.Core.List.{List, [], _∷_, _++_}
 use mathlib.Core.Option.{none, some}
 use mathlib.Core.Logic.{_⊎_}
-use Prim.Native.Nat.{ℕ, _≤_}
-use lib.ListN.{length}
+use Prim.Native.Nat.{ℕ}
 use Rattle.lexicon.specs.declared.Kind.{Kind}
 use Rattle.lexicon.specs.declared.Kind.the-variants as Kind
 use Rattle.grammar.specs.Tokens
 use Rattle.grammar.specs.Tokens.{Span, Tok, Class, Mark, Atom}
 use Rattle.grammar.specs.Tree
-use Rattle.grammar.specs.Tree.{Value}
+use Rattle.grammar.specs.Tree.{Value, Plain}
 use Rattle.grammar.specs.Level.{Level}
 use Rattle.grammar.specs.Nodes as Nodes
 use Rattle.grammar.specs.Nodes.{Node, NodeKind, nodes, over, branch, leaf, atomKind, atomDetail, kindNumber}
@@ -167,6 +166,15 @@ module _ (l : Level) (c : Config) (t : Tok) where
     pub leads :
         Leads (Mode.Counted style) (λ i. children c i ++ leaf (atomKind atom) (t .at) i Nodes.count (atomDetail atom))
 
+  -- behind `(`, a value, `:` and another value
+  pub record Paired : Type 0 where
+    pub first : Span
+    pub name : Plain
+    pub colon : Span
+    pub value : Value
+    pub stack : Stack
+    pub config-is : c ≡ Frames.have value (Frames.inRound (Frames.pairColon first name colon) ∷ stack)
+
   -- the end of a group
   pub record Groups : Type 0 where
     pub first : Span
@@ -183,7 +191,7 @@ module _ (l : Level) (c : Config) (t : Tok) where
   Does (Move.Value frame) = Begins frame
   Does (Move.To mode role) = Signed true (t .class) × Unheld role × Leads mode (told role)
   Does Move.Tuple =
-      Signed true (t .class) × (held c ≡ true) × ((i : ℕ) → 1 ≤ length (before c i))
+      Signed true (t .class) × Paired
       × Leads (Mode.Want (Frame.Round Round.Row)) (λ i. roled Nodes.name (before c i) ++ roled Nodes.value (last c i))
   Does (Move.Count style) = Counts style
   Does (Move.Deeper style) =

@@ -14,7 +14,8 @@ use Rattle.moves.specs.declared.Style.the-variants as Style
 use Rattle.moves.specs.Means.{levelOf, modeOf}
 use Rattle.moves.specs.Effects.{Asked, Does}
 
--- wherever the reader expects what the mode tells, the move is what a token of the kind does, at whatever place
+-- wherever the reader expects what the mode tells, the move is what a token of the kind does, at whatever place;
+-- there is one such move (`one-move` in `proofs/One.antt`)
 pub record Moves (forms : Forms) (mode : Mode) (kind : Kind) (move : Move) : Type 0 where
   pub does : (c : Config) → modeOf c ≡ mode → Asked c kind → (at : Span) →
       Does (levelOf forms) c (tok (classKind kind) at) move

@@ -35,6 +35,7 @@ use Rattle.moves.specs.declared.Move.{Move}
 use Rattle.moves.specs.declared.Move.the-variants as Move
 use Rattle.moves.specs.Means.{levelOf, roleOf, shapeOf, before, last, children, openOf}
 use Rattle.moves.specs.Effects.{flat, counting, opening, held, Leads, told, Does}
+use Rattle.moves.proofs.Steps.{paired-held, paired-named}
 use Rattle.table.specs.Over.{Written, Stored, Assigned, Put, entryWords}
 use Rattle.table.proofs.Words.{roled-length}
 use Rattle.table.proofs.Written.{told-put, written-more, written-node, written-front, written-role, written-first}
@@ -207,7 +208,8 @@ module _ (text : List ℕ) (forms : Forms) where
     -- the comma behind `(name:value`
     pub tuple-on : {left : List ℕ} (r : Turn) (parent : ℕ) → Does (levelOf forms) c (seen t) Move.Tuple → (d : Tupled s t from left index r) →
         length left ≡ length from → Turns text forms opener lent left index parent K r
-    tuple-on {left} r parent (m, u, x, g) d e =
+    tuple-on {left} r parent (m, p, g) d e =
+        let u = paired-held p in
         let ns = before c index in
         let same = roled-length Nodes.name ns in
         subst (Turns text forms opener lent left index parent K) (sym (d .led .turn-is)) (
@@ -217,7 +219,7 @@ module _ (text : List ℕ) (forms : Forms) where
               e
               (h .count-is ∙ omega (arith, length-append (roled Nodes.name ns) (roled Nodes.value (last c index)), length-append ns (last c index), same, roled-length Nodes.value (last c index)))
               (written-role (roled Nodes.name ns) (last c index)
-              (written-first ns (last c index) (h .written) (h .length-is) (d .name-is) (λ q. not-root Role.Name q refl) (x index))
+              (written-first ns (last c index) (h .written) (h .length-is) (d .name-is) (λ q. not-root Role.Name q refl) (paired-named p index))
               (d .length-is ∙ h .length-is)
               (subst (λ (y : ℕ). Assigned (d .named) left y Role.Value) (h .last-is u ∙ ap (λ (n : ℕ). index + 1 + n) (sym same)) (d .led .role-is))
               (λ q. absurd (not-root Role.Value q refl))
