@@ -9,7 +9,7 @@ use Rattle.lexicon.specs.declared.Sign.{Sign}
 use Rattle.lexicon.specs.declared.Sign.the-variants as Sign
 use Rattle.grammar.specs.Tokens.{Span}
 use Rattle.grammar.specs.Tree
-use Rattle.grammar.specs.Tree.{Arrow, Joiner, Collection, Side, Value, Name}
+use Rattle.grammar.specs.Tree.{Arrow, Joiner, Collection, Side, Value}
 use Rattle.grammar.specs.Level as Level
 use Rattle.grammar.specs.Level.{Level}
 use Rattle.grammar.specs.Nodes as Nodes

@@ -56,7 +56,29 @@ fn open(detail: u32) -> Move
     }
 }
 
-// A star behind a low bound: `<` or `<=` stands before it, and `<`, `<=` or nothing behind it.
+// `<` before the star; `<`, `<=` or nothing stands behind it.
+fn less(high: Bound) -> Move
+    ensures { λ r. ⌜ ((forms : Forms) (shape : Shape) → Moves forms (Mode.Have (Frame.Square SquareFrame.Opened) shape) (Kind.Symbol (Sign.Star Bound.Less high)) r) ⌝ }
+{
+    match high {
+        Bound::Open => open(7),
+        Bound::Less => want(SquareFrame::Low(5), Role::Low),
+        Bound::LessEqual => want(SquareFrame::Low(4), Role::Low),
+    }
+}
+
+// `<=` before the star.
+fn less_equal(high: Bound) -> Move
+    ensures { λ r. ⌜ ((forms : Forms) (shape : Shape) → Moves forms (Mode.Have (Frame.Square SquareFrame.Opened) shape) (Kind.Symbol (Sign.Star Bound.LessEqual high)) r) ⌝ }
+{
+    match high {
+        Bound::Open => open(6),
+        Bound::Less => want(SquareFrame::Low(3), Role::Low),
+        Bound::LessEqual => want(SquareFrame::Low(2), Role::Low),
+    }
+}
+
+// A star behind a low bound.
 fn star(frame: SquareFrame, low: Bound, high: Bound) -> Move
     ensures { λ r. ⌜ ((forms : Forms) (shape : Shape) → Moves forms (Mode.Have (Frame.Square frame) shape) (Kind.Symbol (Sign.Star low high)) r) ⌝ }
 {
@@ -65,16 +87,8 @@ fn star(frame: SquareFrame, low: Bound, high: Bound) -> Move
     };
     match low {
         Bound::Open => Move::Wrong,
-        Bound::Less => match high {
-            Bound::Open => open(7),
-            Bound::Less => want(SquareFrame::Low(5), Role::Low),
-            Bound::LessEqual => want(SquareFrame::Low(4), Role::Low),
-        },
-        Bound::LessEqual => match high {
-            Bound::Open => open(6),
-            Bound::Less => want(SquareFrame::Low(3), Role::Low),
-            Bound::LessEqual => want(SquareFrame::Low(2), Role::Low),
-        },
+        Bound::Less => less(high),
+        Bound::LessEqual => less_equal(high),
     }
 }
 

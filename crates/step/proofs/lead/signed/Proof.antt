@@ -1,7 +1,6 @@
 -- `step::lead::signed` meets its contract, bracket by bracket.
 -- Assumes nothing.
 use mathlib.Core.Path.{refl, ap}
-use Rattle.moves.specs.declared.Frame.{Frame}
 use Rattle.moves.specs.declared.Mode.the-variants as Mode
 use Rattle.moves.proofs.Moved.{along}
 use Rattle.step.proofs.lead.signed.Statement.{statement}
