@@ -2,4 +2,5 @@
 mod literal;
 pub mod next;
 mod symbol;
+pub mod whole;
 mod zero;
