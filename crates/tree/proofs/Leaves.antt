@@ -20,7 +20,6 @@ use Rattle.grammar.specs.Nodes as Nodes
 use Rattle.grammar.specs.Nodes.{NodeKind, kindNumber, atomKind, atomDetail, nodes, leaf}
 use Rattle.grammar.proofs.Frames.{Stack, have, namesOf}
 use Rattle.grammar.proofs.Machine.{textValue, wantClass}
-use Rattle.reading.specs.Sizes.{baseLimits}
 use Rattle.reading.proofs.At.{plain, kindOf, class-kind, literal-on, bad-here}
 use Rattle.moves.specs.declared.Role.the-variants as Role
 use Rattle.moves.specs.declared.Shape.{Shape}
@@ -29,9 +28,10 @@ use Rattle.moves.specs.Means.{levelOf, shapeOf}
 use Rattle.table.specs.declared.Entry.{Entry}
 use Rattle.table.specs.Over.{entryWords, Stored, Written}
 use Rattle.table.proofs.Written.{told-put, written-node}
-use Rattle.tree.specs.declared.answer.Read.the-variants as Read
+use Rattle.look.specs.declared.answer.Read.the-variants as Read
+use Rattle.begin.specs.Signs.{literal}
 use Rattle.tree.specs.declared.leaf.Telling.{Telling}
-use Rattle.tree.specs.Readers.{literal, spanOf, Literal}
+use Rattle.tree.specs.Readers.{spanOf, Literal}
 use Rattle.tree.specs.Tellings.{wordingDetail, wordingShape, leafKind, leafDetail, leafShape, LeafTold}
 
 -- ---- what the node tells
@@ -133,9 +133,9 @@ module _ (t : Token.Token) (lent left : List ℕ) (index parent : ℕ) where
   literal-bad b =
       record {
         sized = tt;
-        outcome = λ text forms K d at a h.
+        outcome = λ text limits forms K d at a h.
             let v = literal-value (levelOf forms) (t .kind) (spanOf t) K (classKind (t .kind)) refl h in
-            bad-here baseLimits (levelOf forms) text (a .stands) t (a .comes) (v .is-plain) b (v .steps);
+            bad-here limits (levelOf forms) text (a .stands) t (a .comes) (v .is-plain) b (v .steps);
       }
 
   -- the node of a token that is a value by itself
@@ -147,13 +147,13 @@ module _ (t : Token.Token) (lent left : List ℕ) (index parent : ℕ) where
   literal-read r b says stored =
       record {
         sized = (refl, refl);
-        outcome = λ text forms K d at a h.
+        outcome = λ text limits forms K d at a h.
             let v = literal-value (levelOf forms) (t .kind) (spanOf t) K (classKind (t .kind)) refl h in
             let node : Nodes.Node = record { kind = v .kind; at = spanOf t; parent = parent; role = Nodes.root; detail = leafDetail (t .kind) } in
             record {
               tree = v .tree;
               depth = d;
-              stands = literal-on baseLimits (levelOf forms) text (a .stands) t (a .comes) (v .is-plain) b (v .steps);
+              stands = literal-on limits (levelOf forms) text (a .stands) t (a .comes) (v .is-plain) b (v .steps);
               stops = λ u k x. v .no-names;
               shape-is = v .shape-is ∙ sym (says .shape-is);
               bare = λ g x. (v .bare g (sym (says .shape-is) ∙ x), refl);

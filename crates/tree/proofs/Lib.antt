@@ -1,6 +1,4 @@
 -- The laws of the readers.
-pub mod Bounds
-pub mod Looking
 pub mod Beginning
 pub mod Leaves
 pub mod Nestings

@@ -7,19 +7,11 @@ use mathlib.Core.Option.{Option, none, some}
 use Prim.Native.Nat.{ℕ, _≤_, _<_}
 use native.Mathlib.Omega.{arith}
 use lib.ListN.{length}
-use types.Run.{OneOf, miss}
-use denote.Enum.Declared.{tagOf}
-use Rattle.lexicon.proofs.Next as NextType
-use Rattle.lexicon.proofs.Kind as KindType
 use Rattle.lexicon.specs.declared.Form.{Form}
 use Rattle.lexicon.specs.declared.Form.the-variants as Form
 use Rattle.lexicon.specs.declared.Kind.{Kind}
 use Rattle.lexicon.specs.declared.Kind.the-variants as Kind
 use Rattle.lexicon.specs.declared.Token as Token
-use Rattle.lexicon.specs.declared.Next.{Next}
-use Rattle.lexicon.specs.declared.Next.the-variants as Next
-use Rattle.lexicon.specs.Token.{Comes}
-use Rattle.lexicon.proofs.Determined.{one-answer}
 use Rattle.grammar.specs.Tokens
 use Rattle.grammar.specs.Tokens.{Span, Wording, wording, Class, classKind}
 use Rattle.grammar.specs.Tree
@@ -28,7 +20,7 @@ use Rattle.grammar.specs.Nodes as Nodes
 use Rattle.grammar.specs.Nodes.{namesStart, namesSpan}
 use Rattle.grammar.proofs.Frames.{Stack, have, wantText, nextNames}
 use Rattle.grammar.proofs.Machine.{wantClass, haveClass, textClass}
-use Rattle.reading.specs.Sizes.{baseLimits}
+use Rattle.reading.specs.declared.Limits.{Limits}
 use Rattle.reading.proofs.At.{plain, kindOf, class-kind, mayBeBad, never-bad, not-wanting, literal-on, none-here, end-here, not-here, bad-here}
 use Rattle.moves.specs.declared.Forms.{Forms}
 use Rattle.moves.specs.declared.Role.the-variants as Role
@@ -37,35 +29,15 @@ use Rattle.moves.specs.Means.{levelOf}
 use Rattle.table.specs.declared.Entry.{Entry}
 use Rattle.table.specs.Over.{entryWords, Stored}
 use Rattle.table.proofs.Written.{told-put, written-node}
-use Rattle.tree.specs.declared.answer.Read.the-variants as Read
-use Rattle.tree.specs.declared.leaf.Further.{Further}
-use Rattle.tree.specs.declared.leaf.Further.the-variants as Further
-use Rattle.tree.specs.declared.leaf.Named.{Named}
-use Rattle.tree.specs.declared.leaf.Named.the-variants as Named
-use Rattle.tree.specs.declared.answer.Read.{Read}
-use Rattle.tree.specs.declared.answer.Got.{Got}
-use Rattle.tree.specs.declared.answer.Got.the-variants as Got
-use Rattle.tree.specs.Looks.{Gets, NotNext}
+use Rattle.look.specs.declared.answer.Read.the-variants as Read
+use Rattle.look.specs.declared.names.Named.{Named}
+use Rattle.look.specs.declared.names.Named.the-variants as Named
+use Rattle.look.specs.declared.answer.Read.{Read}
+use Rattle.look.specs.Looks.{NotNext}
 use Rattle.tree.specs.Readers.{spanOf, Stands, Faulty, Asks, Nesting}
-use Rattle.tree.specs.Tellings.{ColonsNext, ColonsHere, NameNext, NameHere, OtherHere, BadHere, unnamedBy, namelessBy}
-use Rattle.tree.proofs.Bounds.{token-bounds}
-
--- ---- a test that leaves a variant out tells that one of the others is there, by their places in the enum
-
-pub no-token : (r : Next) → OneOf (1 ∷ 2 ∷ []) (tagOf NextType.the-type r) → (t : Token.Token) → r ≡ Next.Token t → ⊥
-no-token r h t e = miss (1 ∷ 2 ∷ []) 0 tt (subst (λ (x : Next). OneOf (1 ∷ 2 ∷ []) (tagOf NextType.the-type x)) e h)
-
-abbrev notColons : List ℕ
-notColons = 0 ∷ 1 ∷ 2 ∷ 3 ∷ 4 ∷ 5 ∷ 6 ∷ 7 ∷ 8 ∷ 9 ∷ []
-
-pub no-colons : (k : Kind) → OneOf notColons (tagOf KindType.the-type k) → k ≡ Kind.TwoColons → ⊥
-no-colons k h e = miss notColons 10 tt (subst (λ (x : Kind). OneOf notColons (tagOf KindType.the-type x)) e h)
-
-abbrev notText : List ℕ
-notText = 0 ∷ 1 ∷ 2 ∷ 3 ∷ 4 ∷ 5 ∷ 7 ∷ 8 ∷ 9 ∷ 10 ∷ []
-
-pub no-text : (k : Kind) → OneOf notText (tagOf KindType.the-type k) → (f : Form) → k ≡ Kind.Text f → ⊥
-no-text k h f e = miss notText 6 tt (subst (λ (x : Kind). OneOf notText (tagOf KindType.the-type x)) e h)
+use Rattle.look.specs.Names.{ColonsHere, NameNext, NameHere, OtherHere, BadHere, namelessBy}
+use Rattle.look.proofs.Naming.{name-bounds}
+use Rattle.look.proofs.Bounds.{token-bounds}
 
 -- ---- spans
 
@@ -101,121 +73,76 @@ no-step (Tokens.mark m) n o s K h = refl
 no-step Tokens.later n o s K h = refl
 
 module _ (text : List ℕ) where
-  -- ---- whether `::` comes
-
-  pub other-next : (at : ℕ) (k : Kind) (r : Next) → Comes text at r → ((t : Token.Token) → r ≡ Next.Token t → t .kind ≡ k → ⊥) → NotNext text k at
-  other-next at k r c h = record { none = λ u d e. h u (one-answer text at r (Next.Token u) c d) e }
-
-  pub other-kind : (at : ℕ) (k : Kind) (r : Next) (t : Token.Token) → Comes text at r → r ≡ Next.Token t → (t .kind ≡ k → ⊥) → NotNext text k at
-  other-kind at k r t c q h = other-next at k r c (λ u x e. let same : t ≡ u = cc in h (ap (λ (y : Token.Token). y .kind) same ∙ e))
-
-  -- ---- whether a Text comes
-
-  got-token : (at : ℕ) (r : Got) {t : Token.Token} → Gets text at r → r ≡ Got.Token t → Comes text at (Next.Token t)
-  got-token at r g e = subst (λ (x : Got). Gets text at x) e g
-
-  pub name-missing : (at : ℕ) (r : Got) {n q : ℕ} → Gets text at r → r ≡ Got.Refused n q → NameNext text at (Named.Refused n q)
-  name-missing at r g e = ⊎-elim (λ x. inl x) (λ x. inr (inl x)) (subst (λ (x : Got). Gets text at x) e g)
-
-  -- the same, handed on
-  pub unnamed-next : (at : ℕ) (r : Got) (z : Named) {n q : ℕ} → Gets text at r → r ≡ Got.Refused n q → z ≡ unnamedBy r → NameNext text at z
-  unnamed-next at r z g e x = subst (λ (y : Named). NameNext text at y) (sym (x ∙ ap unnamedBy e)) (name-missing at r g e)
-
-  pub name-other : (at : ℕ) (r : Got) {t : Token.Token} → Gets text at r → r ≡ Got.Token t → ((f : Form) → t .kind ≡ Kind.Text f → ⊥) →
-      NameNext text at (Named.Refused 6 (t .first))
-  name-other at r {t} g e h = inr (inr (inl (refl, record { token = t; comes = got-token at r g e; no-text = h; place-is = refl })))
-
-  pub name-bad : (at : ℕ) (r : Got) {t : Token.Token} {f : Form} → Gets text at r → r ≡ Got.Token t → t .kind ≡ Kind.Text f → t .bad ≡ true →
-      NameNext text at (Named.Refused 5 (t .first))
-  name-bad at r {t} {f} g e k b = inr (inr (inr (refl, record { word = t; comes = got-token at r g e; form = f; word-is = k; bad = b; place-is = refl })))
-
-  pub name-good : (at : ℕ) (r : Got) {t : Token.Token} {f : Form} → Gets text at r → r ≡ Got.Token t → t .kind ≡ Kind.Text f → t .bad ≡ false →
-      NameHere text at (t .end)
-  name-good at r {t} {f} g e k b = record { word = t; comes = got-token at r g e; form = f; word-is = k; good = b; end-is = refl }
-
-  -- the answers, taken apart
-  pub name-here : (at : ℕ) (r : Named) {end : ℕ} → NameNext text at r → r ≡ Named.At end → NameHere text at end
-  name-here at r n e = subst (λ (x : Named). NameNext text at x) e n
-
-  pub colons-here : (at : ℕ) (r : Further) {end : ℕ} → ColonsNext text at r → r ≡ Further.At end → ColonsHere text at end
-  colons-here at r g e = subst (λ (x : Further). ColonsNext text at x) e g
-
-  pub no-colons-here : (at : ℕ) (r : Further) → ColonsNext text at r → r ≡ Further.Nothing → NotNext text Kind.TwoColons at
-  no-colons-here at r g e = subst (λ (x : Further). ColonsNext text at x) e g
-
-  pub name-bounds : {at end : ℕ} → NameHere text at end → (at < end) × (end ≤ length text)
-  name-bounds n = let z = token-bounds text (n .comes) in (omega (arith, z .0, z .1, n .end-is), omega (arith, z .2, n .end-is))
-
   module _ (t : Token.Token) where
     -- ---- behind `::`; the first one is the token t
 
-    record Wants (forms : Forms) (K : Stack) (d at : ℕ) : Type 0 where
+    record Wants (limits : Limits) (forms : Forms) (K : Stack) (d at : ℕ) : Type 0 where
       names : Option Names
       sign : Span
-      stands : Stands text forms d at (wantText names sign K)
+      stands : Stands text limits forms d at (wantText names sign K)
       start-is : startOf names sign ≡ t .first
 
     -- at the loop's head
     pub record Behind (at : ℕ) : Type 0 where
       pub low : t .end ≤ at
       pub high : at ≤ length text
-      wants : (forms : Forms) (K : Stack) (d from : ℕ) → Asks text forms K d from t → t .kind ≡ Kind.TwoColons → Wants forms K d at
+      wants : (limits : Limits) (forms : Forms) (K : Stack) (d from : ℕ) → Asks text limits forms K d from t → t .kind ≡ Kind.TwoColons → Wants limits forms K d at
 
     pub behind-first : t .end ≤ length text → Behind (t .end)
     behind-first h =
         record {
           low = omega arith;
           high = h;
-          wants = λ forms K d from a e.
+          wants = λ limits forms K d from a e.
               record {
                 names = none;
                 sign = spanOf t;
-                stands = literal-on baseLimits (levelOf forms) text (a .stands) t (a .comes) (ap (λ (k : Kind). plain (classKind k)) e)
-                    (never-bad baseLimits (levelOf forms) text t (a .comes) (ap mayBeBad e)) (ap (λ (k : Kind). wantClass (levelOf forms) (classKind k) (spanOf t) K) e);
+                stands = literal-on limits (levelOf forms) text (a .stands) t (a .comes) (ap (λ (k : Kind). plain (classKind k)) e)
+                    (never-bad limits (levelOf forms) text t (a .comes) (ap mayBeBad e)) (ap (λ (k : Kind). wantClass (levelOf forms) (classKind k) (spanOf t) K) e);
                 start-is = refl;
               };
         }
 
     -- ---- behind the Text
 
-    record Has (forms : Forms) (K : Stack) (d end : ℕ) : Type 0 where
+    record Has (limits : Limits) (forms : Forms) (K : Stack) (d end : ℕ) : Type 0 where
       names : Names
-      stands : Stands text forms d end (have (Tree.plain (Tree.nesting names)) K)
+      stands : Stands text limits forms d end (have (Tree.plain (Tree.nesting names)) K)
       span-is : namesSpan names ≡ record { first = t .first; end = end }
 
-    has : {at end : ℕ} → Behind at → NameHere text at end → (forms : Forms) (K : Stack) (d from : ℕ) → Asks text forms K d from t →
-        t .kind ≡ Kind.TwoColons → Has forms K d end
-    has {at} {end} b n forms K d from a e =
-        let w = b .wants forms K d from a e in
+    has : {at end : ℕ} → Behind at → NameHere text at end → (limits : Limits) (forms : Forms) (K : Stack) (d from : ℕ) → Asks text limits forms K d from t →
+        t .kind ≡ Kind.TwoColons → Has limits forms K d end
+    has {at} {end} b n limits forms K d from a e =
+        let w = b .wants limits forms K d from a e in
         let u = n .word in
         let names = nextNames (w .names) (w .sign) (wording (n .form)) (spanOf u) in
         record {
           names = names;
           stands =
-              subst (λ (x : ℕ). Stands text forms d x (have (Tree.plain (Tree.nesting names)) K)) (sym (n .end-is))
-              (literal-on baseLimits (levelOf forms) text (w .stands) u (n .comes) (ap (λ (k : Kind). plain (classKind k)) (n .word-is)) (n .good)
+              subst (λ (x : ℕ). Stands text limits forms d x (have (Tree.plain (Tree.nesting names)) K)) (sym (n .end-is))
+              (literal-on limits (levelOf forms) text (w .stands) u (n .comes) (ap (λ (k : Kind). plain (classKind k)) (n .word-is)) (n .good)
               (ap (λ (k : Kind). textClass (classKind k) (w .names) (w .sign) (spanOf u) K) (n .word-is)));
           span-is = span-of (w .names) (w .sign) (wording (n .form)) (spanOf u) ∙ (λ i. record { first = w .start-is i; end = sym (n .end-is) i });
         }
 
     pub behind-next : {at end next : ℕ} → Behind at → NameHere text at end → ColonsHere text end next → Behind next × (at < next)
     behind-next {at} {end} {next} b n k =
-        let y = name-bounds n in
+        let y = name-bounds text n in
         let z = token-bounds text (k .comes) in
         let u = k .sign in
         let far : at < next = omega (arith, y .0, z .0, z .1, k .end-is) in (
           record {
             low = omega (arith, b .low, far);
             high = omega (arith, z .2, k .end-is);
-            wants = λ forms K d from a e.
-                let w = has b n forms K d from a e in
+            wants = λ limits forms K d from a e.
+                let w = has b n limits forms K d from a e in
                 record {
                   names = some (w .names);
                   sign = spanOf u;
                   stands =
-                      subst (λ (x : ℕ). Stands text forms d x (wantText (some (w .names)) (spanOf u) K)) (sym (k .end-is))
-                      (literal-on baseLimits (levelOf forms) text (w .stands) u (k .comes) (ap (λ (x : Kind). plain (classKind x)) (k .sign-is))
-                      (never-bad baseLimits (levelOf forms) text u (k .comes) (ap mayBeBad (k .sign-is)))
+                      subst (λ (x : ℕ). Stands text limits forms d x (wantText (some (w .names)) (spanOf u) K)) (sym (k .end-is))
+                      (literal-on limits (levelOf forms) text (w .stands) u (k .comes) (ap (λ (x : Kind). plain (classKind x)) (k .sign-is))
+                      (never-bad limits (levelOf forms) text u (k .comes) (ap mayBeBad (k .sign-is)))
                       (ap (λ (x : Kind). haveClass (levelOf forms) (classKind x) (Tree.plain (Tree.nesting (w .names))) (spanOf u) K) (k .sign-is)));
                   start-is = first-of (w .names) ∙ ap (λ (s : Span). s .first) (w .span-is);
                 };
@@ -233,11 +160,11 @@ module _ (text : List ℕ) where
       pub nesting-read : {from : List ℕ} {at end : ℕ} → t .first < t .end → Behind at → NameHere text at end → NotNext text Kind.TwoColons end →
           from ≡ lent → Stored from left index (entryWords (named end)) → Nesting text t lent left index parent (Read.Value end 1 Shape.Name)
       nesting-read {from} {at} {end} h b n stop same stored =
-          let y = name-bounds n in
+          let y = name-bounds text n in
           record {
             sized = (omega (arith, h, b .low, y .0), omega (arith, b .low, y .0), y .1);
-            outcome = λ forms K d at a e.
-                let w = has b n forms K d at a e in
+            outcome = λ limits forms K d at a e.
+                let w = has b n limits forms K d at a e in
                 let node : Nodes.Node = record { kind = Nodes.aNesting; at = namesSpan (w .names); parent = parent; role = Nodes.root; detail = 0 } in
                 record {
                   tree = Tree.plain (Tree.nesting (w .names));
@@ -266,32 +193,32 @@ module _ (text : List ℕ) where
       nesting-refused {at} {number} {place} r b n q =
           record {
             sized = tt;
-            outcome = λ forms K d from a e. refused forms K d (b .wants forms K d from a e);
+            outcome = λ limits forms K d from a e. refused limits forms K d (b .wants limits forms K d from a e);
           }
         where
-          numbered : (forms : Forms) {m : ℕ} → number ≡ m → Faulty text forms m place → Faulty text forms number place
-          numbered forms e f = subst (λ (x : ℕ). Faulty text forms x place) (sym e) f
+          numbered : (limits : Limits) (forms : Forms) {m : ℕ} → number ≡ m → Faulty text limits forms m place → Faulty text limits forms number place
+          numbered limits forms e f = subst (λ (x : ℕ). Faulty text limits forms x place) (sym e) f
 
-          other : (forms : Forms) (K : Stack) (d : ℕ) → Wants forms K d at → OtherHere text at place → Faulty text forms 6 place
-          other forms K d w o =
+          other : (limits : Limits) (forms : Forms) (K : Stack) (d : ℕ) → Wants limits forms K d at → OtherHere text at place → Faulty text limits forms 6 place
+          other limits forms K d w o =
               let u = o .token in
-              subst (λ (x : ℕ). Faulty text forms 6 x) (sym (o .place-is))
-              (not-here baseLimits (levelOf forms) text (w .stands) u (o .comes) (not-wanting refl)
+              subst (λ (x : ℕ). Faulty text limits forms 6 x) (sym (o .place-is))
+              (not-here limits (levelOf forms) text (w .stands) u (o .comes) (not-wanting refl)
               (no-step (classKind (u .kind)) (w .names) (w .sign) (spanOf u) K
               (λ x c. let f = text-form x in o .no-text (f .0) (class-kind (u .kind) c ∙ f .1))))
 
-          bad : (forms : Forms) (K : Stack) (d : ℕ) → Wants forms K d at → BadHere text at place → Faulty text forms 5 place
-          bad forms K d w o =
+          bad : (limits : Limits) (forms : Forms) (K : Stack) (d : ℕ) → Wants limits forms K d at → BadHere text at place → Faulty text limits forms 5 place
+          bad limits forms K d w o =
               let u = o .word in
-              subst (λ (x : ℕ). Faulty text forms 5 x) (sym (o .place-is))
-              (bad-here baseLimits (levelOf forms) text (w .stands) u (o .comes) (ap (λ (k : Kind). plain (classKind k)) (o .word-is)) (o .bad)
+              subst (λ (x : ℕ). Faulty text limits forms 5 x) (sym (o .place-is))
+              (bad-here limits (levelOf forms) text (w .stands) u (o .comes) (ap (λ (k : Kind). plain (classKind k)) (o .word-is)) (o .bad)
               (ap (λ (k : Kind). textClass (classKind k) (w .names) (w .sign) (spanOf u) K) (o .word-is)))
 
-          refused : (forms : Forms) (K : Stack) (d : ℕ) → Wants forms K d at → Faulty text forms number place
-          refused forms K d w =
-              ⊎-elim (λ x. numbered forms (x .0) (none-here baseLimits (levelOf forms) text (w .stands) place (x .1)))
-              (λ y. ⊎-elim (λ x. numbered forms (x .0) (end-here baseLimits (levelOf forms) text (w .stands) place (x .1) refl))
-              (λ z. ⊎-elim (λ x. numbered forms (x .0) (other forms K d w (x .1))) (λ x. numbered forms (x .0) (bad forms K d w (x .1))) z) y)
+          refused : (limits : Limits) (forms : Forms) (K : Stack) (d : ℕ) → Wants limits forms K d at → Faulty text limits forms number place
+          refused limits forms K d w =
+              ⊎-elim (λ x. numbered limits forms (x .0) (none-here limits (levelOf forms) text (w .stands) place (x .1)))
+              (λ y. ⊎-elim (λ x. numbered limits forms (x .0) (end-here limits (levelOf forms) text (w .stands) place (x .1) refl))
+              (λ z. ⊎-elim (λ x. numbered limits forms (x .0) (other limits forms K d w (x .1))) (λ x. numbered limits forms (x .0) (bad limits forms K d w (x .1))) z) y)
               (subst (λ (x : Named). NameNext text at x) q n)
 
       pub nameless-read : {at number place : ℕ} (r : Named) (z : Read) → Behind at → NameNext text at r → r ≡ Named.Refused number place → z ≡ namelessBy r →

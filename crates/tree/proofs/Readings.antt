@@ -25,7 +25,7 @@ use Rattle.grammar.proofs.Frames as Frames
 use Rattle.grammar.proofs.Frames.{Config, Stack, want, have}
 use Rattle.grammar.proofs.Machine.{haveClass}
 use Rattle.grammar.proofs.NodeLaws.{some-node, same-size}
-use Rattle.reading.specs.Sizes.{baseLimits}
+use Rattle.reading.specs.declared.Limits.{Limits}
 use Rattle.reading.specs.Tokens.{seen, openMark}
 use Rattle.reading.proofs.Rows.{pick}
 use Rattle.reading.proofs.Decide.{whole}
@@ -47,21 +47,25 @@ use Rattle.moves.specs.Moves.{Moves}
 use Rattle.table.specs.Over.{Written, Raised, Reserved}
 use Rattle.table.proofs.Written.{written-nothing, written-more}
 use Rattle.table.proofs.Raised.{raised-value, raised-length, reserved-written, reserved-length}
-use Rattle.tree.specs.declared.answer.Read.{Read}
-use Rattle.tree.specs.declared.answer.Read.the-variants as Read
-use Rattle.tree.specs.declared.answer.Got.{Got}
-use Rattle.tree.specs.declared.answer.Got.the-variants as Got
-use Rattle.tree.specs.declared.begin.Begin.{Begin}
-use Rattle.tree.specs.declared.begin.Begin.the-variants as Begin
+use Rattle.look.specs.declared.answer.Read.{Read}
+use Rattle.look.specs.declared.answer.Read.the-variants as Read
+use Rattle.look.specs.declared.answer.Got.{Got}
+use Rattle.look.specs.declared.answer.Got.the-variants as Got
+use Rattle.begin.specs.declared.Begin.{Begin}
+use Rattle.begin.specs.declared.Begin.the-variants as Begin
 use Rattle.tree.specs.declared.bracket.State as State
 use Rattle.tree.specs.declared.bracket.Turn.{Turn}
 use Rattle.tree.specs.declared.bracket.Turn.the-variants as Turn
-use Rattle.tree.specs.Looks.{Gets, NoHead, noMark, isClose, handedOn}
+use Rattle.look.specs.Looks.{Gets, NoHead, handedOn}
+use Rattle.look.proofs.Looking.{got-token}
+use Rattle.begin.specs.Signs.{noMark, isClose}
+use Rattle.begin.specs.Begins.{Begins as Starts}
+use Rattle.begin.proofs.Signs.{close-class}
 use Rattle.tree.specs.Readers
-use Rattle.tree.specs.Readers.{widest, spanOf, opened, Fit, Sized, Inner, From, Turned, Born, Stands, Faulty, Asks, IsValue, Outcome, Reads, Entered, Begun, BeginsSo, Holds, Turns, Bore, Member, Bracketed, Rounded, entering, signs, Ends, Alone, Slim, Literal, Nesting, Taken}
+use Rattle.tree.specs.Readers.{widest, spanOf, opened, Fit, Sized, Inner, Turned, Born, Stands, Faulty, Asks, IsValue, Outcome, Reads, Holds, Turns, Bore, Member, Bracketed, Rounded, entering, signs, Ends, Alone, Slim, Literal, Nesting, Taken}
 use Rattle.tree.specs.Turning.{Narrow, Outer}
-use Rattle.tree.proofs.Bounds.{token-bounds}
-use Rattle.tree.proofs.Looking.{got-token, close-class}
+use Rattle.look.proofs.Bounds.{token-bounds}
+use Rattle.tree.proofs.Beginning.{From, Entered, Begun, BeginsSo, begins-so}
 use Rattle.tree.proofs.Turns.{isBare}
 
 pub not-false : (b : Bool) → not b ≡ false → b ≡ true
@@ -146,23 +150,23 @@ mark-not k m e q = false≢true (sym (ap noMark q) ∙ e)
 abbrev pub behindFirst : ℕ → ℕ → ℕ → ℕ → Shape → State.State
 behindFirst d index end n shape = record { mode = Mode.Have (Frame.Round Round.Opened) shape; at = end; deep = d + 1; nodes = n; last = index + 1 }
 
-module _ (text : List ℕ) (forms : Forms) where
+module _ (text : List ℕ) (limits : Limits) (forms : Forms) where
   -- what the token before a value leaves open is open behind it
-  same-depth : {d e p q : ℕ} {v : Value} {K : Stack} → Stands text forms d p (want K) → Stands text forms e q (have v K) → e ≡ d
+  same-depth : {d e p q : ℕ} {v : Value} {K : Stack} → Stands text limits forms d p (want K) → Stands text limits forms e q (have v K) → e ≡ d
   same-depth a b =
       sym (b .deep) ∙ depth-is (levelOf forms) (b .tokens) (b .stands .reached) ∙ sym (depth-is (levelOf forms) (a .tokens) (a .stands .reached)) ∙ a .deep
 
-  pub value-sized : {d end n index parent : ℕ} {shape : Shape} {t : Token.Token} {r : Read} {lent left : List ℕ} → Reads text forms d t lent left index parent r → r ≡ Read.Value end n shape →
+  pub value-sized : {d end n index parent : ℕ} {shape : Shape} {t : Token.Token} {r : Read} {lent left : List ℕ} → Reads text limits forms d t lent left index parent r → r ≡ Read.Value end n shape →
       (t .first + n ≤ end) × (t .end ≤ end) × (end ≤ length text)
   value-sized {t = t} x q = subst (λ (w : Read). Sized text t w) q (x .sized)
 
   -- where a token must come, none does
-  pub refused-here : {d at n q : ℕ} {c : Config} (g : Got) → Stands text forms d at c → whole c ≡ false → Gets text at g → g ≡ Got.Refused n q → Faulty text forms n q
+  pub refused-here : {d at n q : ℕ} {c : Config} (g : Got) → Stands text limits forms d at c → whole c ≡ false → Gets text at g → g ≡ Got.Refused n q → Faulty text limits forms n q
   refused-here {d} {at} {n} {q} {c} g a w x e = go (subst (λ (y : Got). Gets text at y) e x)
     where
-      go : Gets text at (Got.Refused n q) → Faulty text forms n q
-      go (inl (y, k)) = subst (λ (z : ℕ). Faulty text forms z q) (sym y) (none-here baseLimits (levelOf forms) text a q k)
-      go (inr (y, k)) = subst (λ (z : ℕ). Faulty text forms z q) (sym y) (end-here baseLimits (levelOf forms) text a q k w)
+      go : Gets text at (Got.Refused n q) → Faulty text limits forms n q
+      go (inl (y, k)) = subst (λ (z : ℕ). Faulty text limits forms z q) (sym y) (none-here limits (levelOf forms) text a q k)
+      go (inr (y, k)) = subst (λ (z : ℕ). Faulty text limits forms z q) (sym y) (end-here limits (levelOf forms) text a q k w)
 
   -- the same, handed on
   handed-refusal : {n q : ℕ} (g : Got) {h : Read} → g ≡ Got.Refused n q → h ≡ handedOn g → h ≡ Read.Refused n q
@@ -171,30 +175,30 @@ module _ (text : List ℕ) (forms : Forms) where
   -- ---- a value
 
   module _ (d : ℕ) (t : Token.Token) (lent left : List ℕ) (index parent : ℕ) (f : Fit text t index parent) where
-    module _ (b : Begin) (x : BeginsSo text forms d t b) where
-      begun-as : (z : Begin) → b ≡ z → (K : Stack) (at : ℕ) → Asks text forms K d at t → Begun text forms K d t z
-      begun-as z e K at a = subst (λ (y : Begin). Begun text forms K d t y) e (x .begun K at a)
+    module _ (b : Begin) (x : Starts text limits forms d t b) where
+      begun-as : (z : Begin) → b ≡ z → (K : Stack) (at : ℕ) → Asks text limits forms K d at t → Begun text limits forms K d t z
+      begun-as z e K at a = subst (λ (y : Begin). Begun text limits forms K d t y) e (begins-so text limits forms d t x .begun K at a)
 
       alone-sized : (r : Read) → Alone t r → Sized text t r
       alone-sized (Read.Value end n shape) (y, z) = (omega (arith, y, z, f .some-byte), omega (arith, z), omega (arith, z, f .inside-text))
       alone-sized (Read.Refused n q) y = tt
 
-      pub value-leaf : (r : Read) → b ≡ Begin.Literal → Literal t lent left index parent r → Reads text forms d t lent left index parent r
-      value-leaf r e l = record { sized = alone-sized r (l .sized); outcome = λ K at a. l .outcome text forms K d at a (begun-as Begin.Literal e K at a) }
+      pub value-leaf : (r : Read) → b ≡ Begin.Literal → Literal t lent left index parent r → Reads text limits forms d t lent left index parent r
+      value-leaf r e l = record { sized = alone-sized r (l .sized); outcome = λ K at a. l .outcome text limits forms K d at a (begun-as Begin.Literal e K at a) }
 
-      pub value-names : (r : Read) → b ≡ Begin.Names → Nesting text t lent left index parent r → Reads text forms d t lent left index parent r
-      value-names r e l = record { sized = l .sized; outcome = λ K at a. l .outcome forms K d at a (begun-as Begin.Names e K at a) }
+      pub value-names : (r : Read) → b ≡ Begin.Names → Nesting text t lent left index parent r → Reads text limits forms d t lent left index parent r
+      value-names r e l = record { sized = l .sized; outcome = λ K at a. l .outcome limits forms K d at a (begun-as Begin.Names e K at a) }
 
-      pub value-round : (g : Got) (r : Read) → b ≡ Begin.Round g → Rounded text forms d t lent left index parent r → Reads text forms d t lent left index parent r
+      pub value-round : (g : Got) (r : Read) → b ≡ Begin.Round g → Rounded text limits forms d t lent left index parent r → Reads text limits forms d t lent left index parent r
       value-round g r e l = record { sized = l .sized; outcome = λ K at a. let z = begun-as (Begin.Round g) e K at a in l .outcome K (z .0) (z .1) }
 
-      pub value-refused : {n q : ℕ} → b ≡ Begin.Refused n q → Reads text forms d t lent left index parent (Read.Refused n q)
+      pub value-refused : {n q : ℕ} → b ≡ Begin.Refused n q → Reads text limits forms d t lent left index parent (Read.Refused n q)
       value-refused {n} {q} e = record { sized = tt; outcome = λ K at a. begun-as (Begin.Refused n q) e K at a }
 
-      entered-holds : {K : Stack} {mode : Mode} {at : ℕ} (g : Entered text forms K d t mode at) → Holds text forms t lent lent index K (g .config) (entering mode at d index)
+      entered-holds : {K : Stack} {mode : Mode} {at : ℕ} (g : Entered text limits forms K d t mode at) → Holds text limits forms t lent lent index K (g .config) (entering mode at d index)
       entered-holds {K} {mode} {at} g =
           record {
-            stands = subst (λ (y : ℕ). Stands text forms y at (g .config)) (omega arith) (g .stands);
+            stands = subst (λ (y : ℕ). Stands text limits forms y at (g .config)) (omega arith) (g .stands);
             within = g .within;
             mode-is = g .mode-is;
             stack-is = g .stack-is;
@@ -209,21 +213,21 @@ module _ (text : List ℕ) (forms : Forms) where
             written = subst (λ (ns : List Node). Written lent lent (index + 1) ns) (sym (g .no-member index)) written-nothing;
           }
 
-      pub value-bracket : {mode : Mode} {at : ℕ} (s : State.State) (r : Read) → b ≡ Begin.Bracket mode at → s ≡ entering mode at d index → Bracketed text forms t s lent left index parent r →
-          Reads text forms d t lent left index parent r
+      pub value-bracket : {mode : Mode} {at : ℕ} (s : State.State) (r : Read) → b ≡ Begin.Bracket mode at → s ≡ entering mode at d index → Bracketed text limits forms t s lent left index parent r →
+          Reads text limits forms d t lent left index parent r
       value-bracket {mode} {at} s r e i l =
           record {
             sized = l .sized;
             outcome = λ K p a.
                 let g = begun-as (Begin.Bracket mode at) e K p a in
-                l .outcome lent K (g .config) (subst (λ (x : State.State). Holds text forms t lent lent index K (g .config) x) (sym i) (entered-holds g));
+                l .outcome lent K (g .config) (subst (λ (x : State.State). Holds text limits forms t lent lent index K (g .config) x) (sym i) (entered-holds g));
           }
 
   -- ---- `(`
 
   -- the bracket's own node takes the slot that was left to it
   reserved-outcome : (K : Stack) (t : Token.Token) {lent spare : List ℕ} (left : List ℕ) {index : ℕ} (parent : ℕ) (z : Read) → Reserved lent spare index →
-      Outcome text forms K t spare left index parent z → Outcome text forms K t lent left index parent z
+      Outcome text limits forms K t spare left index parent z → Outcome text limits forms K t lent left index parent z
   reserved-outcome K t left {index} parent (Read.Value end n shape) r o =
       record {
         tree = o .tree;
@@ -238,16 +242,16 @@ module _ (text : List ℕ) (forms : Forms) where
   reserved-outcome K t left parent (Read.Refused n q) r o = o
 
   module _ (d : ℕ) (t : Token.Token) (lent : List ℕ) (index parent : ℕ) where
-    pub round-missing : {n q : ℕ} {left : List ℕ} (g : Got) (h : Read) → Gets text (t .end) g → g ≡ Got.Refused n q → h ≡ handedOn g → Rounded text forms d t lent left index parent h
+    pub round-missing : {n q : ℕ} {left : List ℕ} (g : Got) (h : Read) → Gets text (t .end) g → g ≡ Got.Refused n q → h ≡ handedOn g → Rounded text limits forms d t lent left index parent h
     round-missing {left = left} g h x e y =
-        subst (Rounded text forms d t lent left index parent) (sym (handed-refusal g e y)) (record { sized = tt; outcome = λ K a n. refused-here g a refl x e })
+        subst (Rounded text limits forms d t lent left index parent) (sym (handed-refusal g e y)) (record { sized = tt; outcome = λ K a n. refused-here g a refl x e })
 
     opened-holds : {K : Stack} {u : Token.Token} → Comes text (t .end) (Next.Token u) → noMark (classKind (u .kind)) ≡ false →
-        Stands text forms (suc d) (t .end) (want (opened text forms t K)) →
-        Holds text forms t lent lent index K (want (opened text forms t K)) (entering (Mode.Want (Frame.Round Round.Opened)) (t .end) d index)
+        Stands text limits forms (suc d) (t .end) (want (opened t K)) →
+        Holds text limits forms t lent lent index K (want (opened t K)) (entering (Mode.Want (Frame.Round Round.Opened)) (t .end) d index)
     opened-holds {K} {u} k m a =
         record {
-          stands = subst (λ (y : ℕ). Stands text forms y (t .end) (want (opened text forms t K))) (omega arith) a;
+          stands = subst (λ (y : ℕ). Stands text limits forms y (t .end) (want (opened t K))) (omega arith) a;
           within = refl;
           mode-is = refl;
           stack-is = refl;
@@ -264,40 +268,40 @@ module _ (text : List ℕ) (forms : Forms) where
 
     -- no value begins behind it
     pub round-bracket : {u : Token.Token} {left : List ℕ} (s : State.State) (r : Read) → Comes text (t .end) (Next.Token u) → noMark (classKind (u .kind)) ≡ false →
-        s ≡ entering (Mode.Want (Frame.Round Round.Opened)) (t .end) d index → Bracketed text forms t s lent left index parent r → Rounded text forms d t lent left index parent r
+        s ≡ entering (Mode.Want (Frame.Round Round.Opened)) (t .end) d index → Bracketed text limits forms t s lent left index parent r → Rounded text limits forms d t lent left index parent r
     round-bracket s r k m i l =
         record {
           sized = l .sized;
           outcome = λ K a n.
-              l .outcome lent K (want (opened text forms t K))
-              (subst (λ (x : State.State). Holds text forms t lent lent index K (want (opened text forms t K)) x) (sym i) (opened-holds k m a));
+              l .outcome lent K (want (opened t K))
+              (subst (λ (x : State.State). Holds text limits forms t lent lent index K (want (opened t K)) x) (sym i) (opened-holds k m a));
         }
 
     -- a value begins behind it
     module _ {u : Token.Token} {mid : List ℕ} (k : Comes text (t .end) (Next.Token u)) (m : noMark (classKind (u .kind)) ≡ true) (r : Read)
-        (y : Reads text forms (d + 1) u lent mid index parent r) where
-      first-read : (z : Read) → r ≡ z → (K : Stack) → Stands text forms (suc d) (t .end) (want (opened text forms t K)) → Outcome text forms (opened text forms t K) u lent mid index parent z
+        (y : Reads text limits forms (d + 1) u lent mid index parent r) where
+      first-read : (z : Read) → r ≡ z → (K : Stack) → Stands text limits forms (suc d) (t .end) (want (opened t K)) → Outcome text limits forms (opened t K) u lent mid index parent z
       first-read z q K a =
-          subst (λ (w : Read). Outcome text forms (opened text forms t K) u lent mid index parent w) q
-          (y .outcome (opened text forms t K) (t .end)
+          subst (λ (w : Read). Outcome text limits forms (opened t K) u lent mid index parent w) q
+          (y .outcome (opened t K) (t .end)
           (record {
-            stands = subst (λ (x : ℕ). Stands text forms x (t .end) (want (opened text forms t K))) (omega arith) a;
+            stands = subst (λ (x : ℕ). Stands text limits forms x (t .end) (want (opened t K))) (omega arith) a;
             comes = k;
             no-sign = λ x e. absurd (mark-not (classKind (u .kind)) x m e);
           }))
 
-      pub first-refused : {n p : ℕ} {left : List ℕ} → r ≡ Read.Refused n p → Rounded text forms d t lent left index parent r
+      pub first-refused : {n p : ℕ} {left : List ℕ} → r ≡ Read.Refused n p → Rounded text limits forms d t lent left index parent r
       first-refused {n} {p} {left} q =
-          subst (Rounded text forms d t lent left index parent) (sym q) (record { sized = tt; outcome = λ K a i. first-read (Read.Refused n p) q K a })
+          subst (Rounded text limits forms d t lent left index parent) (sym q) (record { sized = tt; outcome = λ K a i. first-read (Read.Refused n p) q K a })
 
       module _ {end n : ℕ} {shape : Shape} (q : r ≡ Read.Value end n shape) (h : Got) (x : Gets text end h) where
-        pub first-open : {i p : ℕ} {left : List ℕ} (z : Read) → h ≡ Got.Refused i p → z ≡ handedOn h → Rounded text forms d t lent left index parent z
+        pub first-open : {i p : ℕ} {left : List ℕ} (z : Read) → h ≡ Got.Refused i p → z ≡ handedOn h → Rounded text limits forms d t lent left index parent z
         first-open {left = left} z e y' =
-            subst (Rounded text forms d t lent left index parent) (sym (handed-refusal h e y'))
+            subst (Rounded text limits forms d t lent left index parent) (sym (handed-refusal h e y'))
             (record { sized = tt; outcome = λ K a i. refused-here h (first-read (Read.Value end n shape) q K a .stands) refl x e })
 
         -- and `)` behind the value: a group
-        pub first-group : {w : Token.Token} → t .first < t .end → h ≡ Got.Token w → isClose (classKind (w .kind)) ≡ true → Rounded text forms d t lent mid index parent (Read.Value (w .end) n Shape.Other)
+        pub first-group : {w : Token.Token} → t .first < t .end → h ≡ Got.Token w → isClose (classKind (w .kind)) ≡ true → Rounded text limits forms d t lent mid index parent (Read.Value (w .end) n Shape.Other)
         first-group {w} z e c =
             let k' = got-token text end e x in
             let i = close-class (classKind (w .kind)) c in
@@ -312,7 +316,7 @@ module _ (text : List ℕ) (forms : Forms) where
                   record {
                     tree = Tree.plain (Tree.group (spanOf t) (v .tree) (spanOf w));
                     depth = openMark Tokens.roundClose (v .depth);
-                    stands = sign-on baseLimits (levelOf forms) text (v .stands) w k' Tokens.roundClose i (ap (λ (p : Class). haveClass (levelOf forms) p (v .tree) (spanOf w) (opened text forms t K)) i);
+                    stands = sign-on limits (levelOf forms) text (v .stands) w k' Tokens.roundClose i (ap (λ (p : Class). haveClass (levelOf forms) p (v .tree) (spanOf w) (opened t K)) i);
                     stops = λ p p' p''. refl;
                     shape-is = refl;
                     bare = λ p p'. absurd (false≢true (ap isBare p'));
@@ -322,13 +326,13 @@ module _ (text : List ℕ) (forms : Forms) where
             }
 
         -- no `)` behind it: the value is a bracket's first
-        first-holds : {K : Stack} {w : Token.Token} {spare up : List ℕ} → Stands text forms (suc d) (t .end) (want (opened text forms t K)) → NoHead text (t .end) →
-            h ≡ Got.Token w → isClose (classKind (w .kind)) ≡ false → (v : IsValue text forms (opened text forms t K) u end n shape lent mid index parent) →
+        first-holds : {K : Stack} {w : Token.Token} {spare up : List ℕ} → Stands text limits forms (suc d) (t .end) (want (opened t K)) → NoHead text (t .end) →
+            h ≡ Got.Token w → isClose (classKind (w .kind)) ≡ false → (v : IsValue text limits forms (opened t K) u end n shape lent mid index parent) →
             length up ≡ length spare → Written spare up (index + 1) (nodes (v .tree) index Nodes.root (index + 1)) →
-            Holds text forms t spare up index K (have (v .tree) (opened text forms t K)) (behindFirst d index end n shape)
+            Holds text limits forms t spare up index K (have (v .tree) (opened t K)) (behindFirst d index end n shape)
         first-holds {K} {w} {spare} {up} a f e c v len wr =
             record {
-              stands = subst (λ (z : ℕ). Stands text forms z end (have (v .tree) (opened text forms t K))) (same-depth a (v .stands) ∙ omega arith) (v .stands);
+              stands = subst (λ (z : ℕ). Stands text limits forms z end (have (v .tree) (opened t K))) (same-depth a (v .stands) ∙ omega arith) (v .stands);
               within = refl;
               mode-is = ap (λ (z : Shape). Mode.Have (Frame.Round Round.Opened) z) (v .shape-is);
               stack-is = refl;
@@ -350,7 +354,7 @@ module _ (text : List ℕ) (forms : Forms) where
             }
 
         pub first-bracket : {w : Token.Token} {up left : List ℕ} (z : Read) → Fit text t index parent → h ≡ Got.Token w → isClose (classKind (w .kind)) ≡ false → length mid ≡ length lent →
-            Raised mid up index n → Bracketed text forms t (behindFirst d index end n shape) up left index parent z → Rounded text forms d t lent left index parent z
+            Raised mid up index n → Bracketed text limits forms t (behindFirst d index end n shape) up left index parent z → Rounded text limits forms d t lent left index parent z
         first-bracket {w} {up} {left} z i e c len raised l =
             record {
               sized = l .sized;
@@ -360,19 +364,19 @@ module _ (text : List ℕ) (forms : Forms) where
                   let p = value-sized y q in
                   let s = raised-value (v .tree) (v .written) len (subst (λ (j : ℕ). Raised mid up index j) (v .count-is) raised) (i .parent-fits)
                   (omega (arith, sym (v .count-is), i .index-fits, i .some-byte, i .short, o .0, p .0, p .2)) in
-                  reserved-outcome K t left parent z (s .1) (l .outcome (s .0) K (have (v .tree) (opened text forms t K)) (first-holds a f e c v (raised-length raised ∙ len ∙ sym (reserved-length (s .1))) (s .2)));
+                  reserved-outcome K t left parent z (s .1) (l .outcome (s .0) K (have (v .tree) (opened t K)) (first-holds a f e c v (raised-length raised ∙ len ∙ sym (reserved-length (s .1))) (s .2)));
             }
 
   -- ---- a value in a bracket
 
   -- behind it the bracket goes on
   child-holds : {opener : Token.Token} {s : State.State} {lent from left : List ℕ} {index end m : ℕ} {K : Stack} {frame : Frame} {shape : Shape} {top : Frames.Frame} {S : Stack} (t : Token.Token) →
-      (h : Holds text forms opener lent from index K (want (top ∷ S)) s) → Comes text (s .at) (Next.Token t) → ((y : Mark) → classKind (t .kind) ≡ Tokens.mark y → ⊥) →
-      frameOf top ≡ frame → (v : IsValue text forms (top ∷ S) t end m shape from left (index + 1 + s .nodes) index) → length left ≡ length from →
-      Holds text forms opener lent left index K (have (v .tree) (top ∷ S)) (record { mode = Mode.Have frame shape; at = end; deep = s .deep; nodes = s .nodes + m; last = index + 1 + s .nodes })
+      (h : Holds text limits forms opener lent from index K (want (top ∷ S)) s) → Comes text (s .at) (Next.Token t) → ((y : Mark) → classKind (t .kind) ≡ Tokens.mark y → ⊥) →
+      frameOf top ≡ frame → (v : IsValue text limits forms (top ∷ S) t end m shape from left (index + 1 + s .nodes) index) → length left ≡ length from →
+      Holds text limits forms opener lent left index K (have (v .tree) (top ∷ S)) (record { mode = Mode.Have frame shape; at = end; deep = s .deep; nodes = s .nodes + m; last = index + 1 + s .nodes })
   child-holds {opener} {s} {lent} {from} {left} {index} {end} {m} {K} {frame} {shape} {top} {S} t h k n fr v len =
       record {
-        stands = subst (λ (d : ℕ). Stands text forms d end (have (v .tree) (top ∷ S))) (same-depth (h .stands) (v .stands)) (v .stands);
+        stands = subst (λ (d : ℕ). Stands text limits forms d end (have (v .tree) (top ∷ S))) (same-depth (h .stands) (v .stands)) (v .stands);
         within = refl;
         mode-is = λ i. Mode.Have (fr i) (v .shape-is i);
         stack-is = h .stack-is;
@@ -395,21 +399,21 @@ module _ (text : List ℕ) (forms : Forms) where
       size : s .nodes ≡ length (framed top index)
       size = h .count-is ∙ ap (λ (ns : List Node). length ns) (append-nil (framed top index))
 
-  module _ {s : State.State} {t : Token.Token} {frame : Frame} {from left : List ℕ} {index : ℕ} (r : Read) (x : Reads text forms (s .deep) t from left (index + 1 + s .nodes) index r) where
-    child-read : {opener : Token.Token} {lent : List ℕ} {K : Stack} {c : Config} (z : Read) → r ≡ z → Holds text forms opener lent from index K c s → Comes text (s .at) (Next.Token t) →
-        (g : Begins (levelOf forms) c (seen t) frame) → Outcome text forms (g .top ∷ g .stack) t from left (index + 1 + s .nodes) index z
+  module _ {s : State.State} {t : Token.Token} {frame : Frame} {from left : List ℕ} {index : ℕ} (r : Read) (x : Reads text limits forms (s .deep) t from left (index + 1 + s .nodes) index r) where
+    child-read : {opener : Token.Token} {lent : List ℕ} {K : Stack} {c : Config} (z : Read) → r ≡ z → Holds text limits forms opener lent from index K c s → Comes text (s .at) (Next.Token t) →
+        (g : Begins (levelOf forms) c (seen t) frame) → Outcome text limits forms (g .top ∷ g .stack) t from left (index + 1 + s .nodes) index z
     child-read {opener} {lent} {K} {c} z q h k g =
-        subst (λ (w : Read). Outcome text forms (g .top ∷ g .stack) t from left (index + 1 + s .nodes) index w) q
+        subst (λ (w : Read). Outcome text limits forms (g .top ∷ g .stack) t from left (index + 1 + s .nodes) index w) q
         (x .outcome (g .top ∷ g .stack) (s .at)
-        (record { stands = subst (λ (w : Config). Stands text forms (s .deep) (s .at) w) (g .config-is) (h .stands); comes = k; no-sign = λ m e. absurd (g .no-sign m e) }))
+        (record { stands = subst (λ (w : Config). Stands text limits forms (s .deep) (s .at) w) (g .config-is) (h .stands); comes = k; no-sign = λ m e. absurd (g .no-sign m e) }))
 
-    pub child-refused : {n p : ℕ} → r ≡ Read.Refused n p → Bore text forms s t frame from left index (Turn.Ended r)
+    pub child-refused : {n p : ℕ} → r ≡ Read.Refused n p → Bore text limits forms s t frame from left index (Turn.Ended r)
     child-refused {n} {p} q =
-        subst (λ (w : Read). Bore text forms s t frame from left index (Turn.Ended w)) (sym q)
+        subst (λ (w : Read). Bore text limits forms s t frame from left index (Turn.Ended w)) (sym q)
         (record { born = tt; turns = λ opener parent lent K c h k g. child-read (Read.Refused n p) q h k g })
 
     pub child-on : {end n : ℕ} {shape : Shape} → r ≡ Read.Value end n shape → length left ≡ length from →
-        Bore text forms s t frame from left index (Turn.On (record { mode = Mode.Have frame shape; at = end; deep = s .deep; nodes = s .nodes + n; last = index + 1 + s .nodes }))
+        Bore text limits forms s t frame from left index (Turn.On (record { mode = Mode.Have frame shape; at = end; deep = s .deep; nodes = s .nodes + n; last = index + 1 + s .nodes }))
     child-on {end} {n} {shape} q len =
         let z = value-sized x q in
         record {
@@ -417,19 +421,19 @@ module _ (text : List ℕ) (forms : Forms) where
           turns = λ opener parent lent K c h k g.
               let v = child-read (Read.Value end n shape) q h k g in (
                 have (v .tree) (g .top ∷ g .stack),
-                child-holds t (subst (λ (w : Config). Holds text forms opener lent from index K w s) (g .config-is) h) k (g .no-sign)
+                child-holds t (subst (λ (w : Config). Holds text limits forms opener lent from index K w s) (g .config-is) h) k (g .no-sign)
                     (want-same (sym (ap modeOf (g .config-is)) ∙ g .mode-is)) v len,
               );
         }
 
   -- ---- one turn
 
-  asked-of : {opener t : Token.Token} {s : State.State} {lent from : List ℕ} {index : ℕ} {K : Stack} {c : Config} → Holds text forms opener lent from index K c s →
+  asked-of : {opener t : Token.Token} {s : State.State} {lent from : List ℕ} {index : ℕ} {K : Stack} {c : Config} → Holds text limits forms opener lent from index K c s →
       Comes text (s .at) (Next.Token t) → Asked c (t .kind)
   asked-of {t = t} h k = record { within = h .within; no-head = λ e q. h .no-head e .none t k q; no-names = λ e q. h .no-names e .none t k q }
 
   -- the code's move is what the machine does
-  does-so : {opener t : Token.Token} {s : State.State} {lent from : List ℕ} {index : ℕ} {K : Stack} {c : Config} {taken : Move} → Holds text forms opener lent from index K c s →
+  does-so : {opener t : Token.Token} {s : State.State} {lent from : List ℕ} {index : ℕ} {K : Stack} {c : Config} {taken : Move} → Holds text limits forms opener lent from index K c s →
       Comes text (s .at) (Next.Token t) → Moves forms (s .mode) (t .kind) taken → Does (levelOf forms) c (seen t) taken
   does-so {t = t} {c = c} h k m = m .does c (h .mode-is) (asked-of h k) (spanOf t)
 
@@ -446,18 +450,18 @@ module _ (text : List ℕ) (forms : Forms) where
     born-turned (Turn.Ended (Read.Refused n q)) z = tt
 
   module _ {opener : Token.Token} {s : State.State} {from left : List ℕ} {index parent : ℕ} (i : Inner text opener s index parent) (g : Got) (x : Gets text (s .at) g) where
-    pub member-missing : {n q : ℕ} (z : Read) → g ≡ Got.Refused n q → z ≡ handedOn g → Member text forms opener s from left index parent (Turn.Ended z)
+    pub member-missing : {n q : ℕ} (z : Read) → g ≡ Got.Refused n q → z ≡ handedOn g → Member text limits forms opener s from left index parent (Turn.Ended z)
     member-missing z e y =
-        subst (λ (w : Read). Member text forms opener s from left index parent (Turn.Ended w)) (sym (handed-refusal g e y))
+        subst (λ (w : Read). Member text limits forms opener s from left index parent (Turn.Ended w)) (sym (handed-refusal g e y))
         (record { turned = tt; turns = λ lent K c h. refused-here g (h .stands) (inside-open c (h .within)) x e })
 
     module _ {t : Token.Token} {taken : Move} (e : g ≡ Got.Token t) (m : Moves forms (s .mode) (t .kind) taken) (r : Turn) where
-      pub member-taken : Ends opener t r → Taken opener s t taken from left index parent r → signs taken ≡ true → Member text forms opener s from left index parent r
+      pub member-taken : Ends opener t r → Taken limits opener s t taken from left index parent r → signs taken ≡ true → Member text limits forms opener s from left index parent r
       member-taken z y q =
           let k = got-token text (s .at) e x in
           record { turned = ends-turned i k r z; turns = λ lent K c h. y .turns text forms lent K c h k (does-so h k m) q }
 
-      pub member-child : {frame : Frame} → taken ≡ Move.Value frame → Bore text forms s t frame from left index r → Member text forms opener s from left index parent r
+      pub member-child : {frame : Frame} → taken ≡ Move.Value frame → Bore text limits forms s t frame from left index r → Member text limits forms opener s from left index parent r
       member-child {frame} q y =
           let k = got-token text (s .at) e x in
           record {
@@ -500,13 +504,13 @@ first-inner {text} f h k (a, b, c) =
     let y = token-bounds text k in
     record { fit = f; after = omega (arith, y .0, a); deep-fits = omega (arith, h, f .some-byte, y .0, y .1, b); inside-text = c }
 
-pub begin-from : {text : List ℕ} {forms : Forms} {d at index parent : ℕ} {t : Token.Token} {mode : Mode} (b : Begin) → Fit text t index parent → BeginsSo text forms d t b → b ≡ Begin.Bracket mode at →
+pub begin-from : {text : List ℕ} {limits : Limits} {forms : Forms} {d at index parent : ℕ} {t : Token.Token} {mode : Mode} (b : Begin) → Fit text t index parent → Starts text limits forms d t b → b ≡ Begin.Bracket mode at →
     (t .end ≤ at) × (at ≤ length text)
-begin-from {text} {t = t} b f x e = subst (λ (y : Begin). From text t y) e (x .from (f .inside-text))
+begin-from {text} {limits} {forms} {d} {t = t} b f x e = subst (λ (y : Begin). From text t y) e (begins-so text limits forms d t x .from (f .inside-text))
 
-pub begin-got : {text : List ℕ} {forms : Forms} {d index parent : ℕ} {t : Token.Token} {g : Got} (b : Begin) → Fit text t index parent → BeginsSo text forms d t b → b ≡ Begin.Round g →
+pub begin-got : {text : List ℕ} {limits : Limits} {forms : Forms} {d index parent : ℕ} {t : Token.Token} {g : Got} (b : Begin) → Fit text t index parent → Starts text limits forms d t b → b ≡ Begin.Round g →
     Gets text (t .end) g
-begin-got {text} {t = t} b f x e = subst (λ (y : Begin). From text t y) e (x .from (f .inside-text))
+begin-got {text} {limits} {forms} {d} {t = t} b f x e = subst (λ (y : Begin). From text t y) e (begins-so text limits forms d t x .from (f .inside-text))
 
 pub turn-narrow : {text : List ℕ} {opener t : Token.Token} {s : State.State} {index parent : ℕ} → Inner text opener s index parent → Comes text (s .at) (Next.Token t) → Narrow s t index
 turn-narrow {text} i k =
@@ -532,36 +536,36 @@ pub byte-falls : (text : List ℕ) (r : ℕ) {a b q t : ℕ} → leftAt text a r
 byte-falls text r e h k l = omega (arith, e, h, k, l)
 
 -- the loop over a bracket's members: from the state in which it was entered to where it stands
-pub record Going (text : List ℕ) (forms : Forms) (opener : Token.Token) (from : List ℕ) (index parent : ℕ) (entered : State.State) (left : List ℕ) (s : State.State) : Type 0 where
+pub record Going (text : List ℕ) (limits : Limits) (forms : Forms) (opener : Token.Token) (from : List ℕ) (index parent : ℕ) (entered : State.State) (left : List ℕ) (s : State.State) : Type 0 where
   pub inner : Inner text opener s index parent
   pub onward : entered .at ≤ s .at
   pub length-is : length left ≡ length from
-  pub holds : (lent : List ℕ) (K : Stack) (c : Config) → Holds text forms opener lent from index K c entered → (d : Config) × Holds text forms opener lent left index K d s
+  pub holds : (lent : List ℕ) (K : Stack) (c : Config) → Holds text limits forms opener lent from index K c entered → (d : Config) × Holds text limits forms opener lent left index K d s
 
-module _ {text : List ℕ} {forms : Forms} {opener : Token.Token} {from : List ℕ} {index parent : ℕ} {entered s : State.State} {left last : List ℕ} (g : Going text forms opener from index parent entered left s)
-    (r : Turn) (m : Member text forms opener s left last index parent r) where
+module _ {text : List ℕ} {limits : Limits} {forms : Forms} {opener : Token.Token} {from : List ℕ} {index parent : ℕ} {entered s : State.State} {left last : List ℕ} (g : Going text limits forms opener from index parent entered left s)
+    (r : Turn) (m : Member text limits forms opener s left last index parent r) where
   turned-as : (z : Turn) → r ≡ z → Turned text opener s z
   turned-as z e = subst (λ (y : Turn). Turned text opener s y) e (m .turned)
 
   pub going-less : {n : State.State} → r ≡ Turn.On n → length text - n .at < length text - s .at
   going-less {n} e = let z = turned-as (Turn.On n) e in omega (arith, z .2, z .3)
 
-  pub going-on : {n : State.State} → r ≡ Turn.On n → length last ≡ length left → Going text forms opener from index parent entered last n
+  pub going-on : {n : State.State} → r ≡ Turn.On n → length last ≡ length left → Going text limits forms opener from index parent entered last n
   going-on {n} e l =
       let z = turned-as (Turn.On n) e in
       record {
         inner = record { fit = g .inner .fit; after = z .0; deep-fits = z .1; inside-text = z .3 };
         onward = omega (arith, g .onward, z .2);
         length-is = l ∙ g .length-is;
-        holds = λ lent K c h. let x = g .holds lent K c h in subst (λ (y : Turn). Turns text forms opener lent last index parent K y) e (m .turns lent K (x .0) (x .1));
+        holds = λ lent K c h. let x = g .holds lent K c h in subst (λ (y : Turn). Turns text limits forms opener lent last index parent K y) e (m .turns lent K (x .0) (x .1));
       }
 
-  pub going-ends : {z : Read} → r ≡ Turn.Ended z → Bracketed text forms opener entered from last index parent z
+  pub going-ends : {z : Read} → r ≡ Turn.Ended z → Bracketed text limits forms opener entered from last index parent z
   going-ends {z} e =
       record {
         sized = turned-as (Turn.Ended z) e;
-        outcome = λ lent K c h. let x = g .holds lent K c h in subst (λ (y : Turn). Turns text forms opener lent last index parent K y) e (m .turns lent K (x .0) (x .1));
+        outcome = λ lent K c h. let x = g .holds lent K c h in subst (λ (y : Turn). Turns text limits forms opener lent last index parent K y) e (m .turns lent K (x .0) (x .1));
       }
 
-pub going-starts : {text : List ℕ} {forms : Forms} {opener : Token.Token} {from : List ℕ} {index parent : ℕ} {s : State.State} → Inner text opener s index parent → Going text forms opener from index parent s from s
+pub going-starts : {text : List ℕ} {limits : Limits} {forms : Forms} {opener : Token.Token} {from : List ℕ} {index parent : ℕ} {s : State.State} → Inner text opener s index parent → Going text limits forms opener from index parent s from s
 going-starts i = record { inner = i; onward = omega arith; length-is = refl; holds = λ lent K c h. (c, h) }

@@ -20,7 +20,7 @@ use Rattle.grammar.specs.Nodes.{Node, nodes, over}
 use Rattle.grammar.proofs.NodeLaws.{roled, relabel, some-node}
 use Rattle.grammar.proofs.Frames as Frames
 use Rattle.grammar.proofs.Frames.{Config, Stack, want, have, namesOf}
-use Rattle.reading.specs.Sizes.{baseLimits}
+use Rattle.reading.specs.declared.Limits.{Limits}
 use Rattle.reading.specs.Tokens.{seen, openMark}
 use Rattle.reading.proofs.At.{At, opens, sign-on, literal-on, open-on, never-bad, mayBeBad, plain, kindOf, curly-known, sign-wrong, not-here, deep-here, class-kind}
 use Rattle.moves.specs.declared.Forms.{Forms}
@@ -39,11 +39,11 @@ use Rattle.moves.proofs.Steps.{paired-held, paired-named}
 use Rattle.table.specs.Over.{Written, Stored, Assigned, Put, entryWords}
 use Rattle.table.proofs.Words.{roled-length}
 use Rattle.table.proofs.Written.{told-put, written-more, written-node, written-front, written-role, written-first}
-use Rattle.tree.specs.declared.answer.Read.the-variants as Read
+use Rattle.look.specs.declared.answer.Read.the-variants as Read
 use Rattle.tree.specs.declared.bracket.State as State
 use Rattle.tree.specs.declared.bracket.Turn.{Turn}
 use Rattle.tree.specs.declared.bracket.Turn.the-variants as Turn
-use Rattle.tree.specs.Looks.{isClose}
+use Rattle.begin.specs.Signs.{isClose}
 use Rattle.tree.specs.declared.leaf.Telling as Telling
 use Rattle.tree.specs.Tellings.{leafDetail, LeafTold}
 use Rattle.tree.specs.Readers.{spanOf, Ends, Taken, signs, Holds, Turns}
@@ -136,7 +136,7 @@ flat-depth Tokens.leftArrow d e = refl
 flat-depth Tokens.dots d e = refl
 flat-depth (Tokens.star a b) d e = refl
 
-module _ (text : List ℕ) (forms : Forms) where
+module _ (text : List ℕ) (limits : Limits) (forms : Forms) where
   -- ---- the words: a role told
 
   role-written : {lent from left : List ℕ} {k : ℕ} (index : ℕ) (c : Config) (r : Role) →
@@ -159,10 +159,10 @@ module _ (text : List ℕ) (forms : Forms) where
   -- ---- on
 
   leads-holds : {opener : Token.Token} {lent from left : List ℕ} {index d at n k : ℕ} {K : Stack} {c : Config} {s : State.State} {mode : Mode} {then : ℕ → List Node} (t : Token.Token) →
-      Holds text forms opener lent from index K c s → (g : Leads (levelOf forms) c (seen t) mode then) →
-      At baseLimits (levelOf forms) text d at (g .to) → length left ≡ length from → n ≡ length (then index) →
+      Holds text limits forms opener lent from index K c s → (g : Leads (levelOf forms) c (seen t) mode then) →
+      At limits (levelOf forms) text d at (g .to) → length left ≡ length from → n ≡ length (then index) →
       Written lent left (index + 1) (then index) →
-      Holds text forms opener lent left index K (g .to) (record { mode = mode; at = at; deep = d; nodes = n; last = k })
+      Holds text limits forms opener lent left index K (g .to) (record { mode = mode; at = at; deep = d; nodes = n; last = k })
   leads-holds {lent = lent} {left = left} {index = index} t h g a e n w =
       record {
         stands = a;
@@ -181,41 +181,41 @@ module _ (text : List ℕ) (forms : Forms) where
       }
 
   module _ {opener : Token.Token} {lent from : List ℕ} {index : ℕ} {K : Stack} {c : Config} {s : State.State} (t : Token.Token)
-      (h : Holds text forms opener lent from index K c s) (k : Comes text (s .at) (Next.Token t)) where
+      (h : Holds text limits forms opener lent from index K c s) (k : Comes text (s .at) (Next.Token t)) where
     -- a sign leads on, in the same depth
     pub led-on : {left : List ℕ} {mode : Mode} {role : Role} (r : Turn) (parent : ℕ) → Does (levelOf forms) c (seen t) (Move.To mode role) → length left ≡ length from →
-        Led s t mode role from left r → Turns text forms opener lent left index parent K r
+        Led s t mode role from left r → Turns text limits forms opener lent left index parent K r
     led-on {left} {mode} {role} r parent (m, u, g) e l =
-        subst (Turns text forms opener lent left index parent K) (sym (l .turn-is)) (
+        subst (Turns text limits forms opener lent left index parent K) (sym (l .turn-is)) (
           g .to,
           leads-holds t h g
-              (subst (λ (d : ℕ). At baseLimits (levelOf forms) text d (t .end) (g .to)) (flat-depth (m .sign) (s .deep) (m .flat-is)) (sign-on baseLimits (levelOf forms) text (h .stands) t k (m .sign) (m .class-is) (g .steps)))
+              (subst (λ (d : ℕ). At limits (levelOf forms) text d (t .end) (g .to)) (flat-depth (m .sign) (s .deep) (m .flat-is)) (sign-on limits (levelOf forms) text (h .stands) t k (m .sign) (m .class-is) (g .steps)))
               e (h .count-is ∙ sym (told-length c (roleOf role) index))
               (role-written index c role (h .written) (h .length-is) (l .role-is) (h .last-is) u),
         )
 
     -- `}` of a counted collection
     pub shut-on : {left : List ℕ} {style : Style} {role : Role} (r : Turn) (parent : ℕ) → Does (levelOf forms) c (seen t) (Move.Shut style role) → length left ≡ length from →
-        Shuts s t style role from left r → Turns text forms opener lent left index parent K r
+        Shuts s t style role from left r → Turns text limits forms opener lent left index parent K r
     shut-on {left} {style} {role} r parent (m, u, g) e l =
-        subst (Turns text forms opener lent left index parent K) (sym (l .turn-is)) (
+        subst (Turns text limits forms opener lent left index parent K) (sym (l .turn-is)) (
           g .to,
-          leads-holds t h g (sign-on baseLimits (levelOf forms) text (h .stands) t k Tokens.curlyClose m (g .steps))
+          leads-holds t h g (sign-on limits (levelOf forms) text (h .stands) t k Tokens.curlyClose m (g .steps))
               e (h .count-is ∙ sym (told-length c (roleOf role) index))
               (role-written index c role (h .written) (h .length-is) (l .role-is) (h .last-is) u),
         )
 
     -- the comma behind `(name:value`
     pub tuple-on : {left : List ℕ} (r : Turn) (parent : ℕ) → Does (levelOf forms) c (seen t) Move.Tuple → (d : Tupled s t from left index r) →
-        length left ≡ length from → Turns text forms opener lent left index parent K r
+        length left ≡ length from → Turns text limits forms opener lent left index parent K r
     tuple-on {left} r parent (m, p, g) d e =
         let u = paired-held p in
         let ns = before c index in
         let same = roled-length Nodes.name ns in
-        subst (Turns text forms opener lent left index parent K) (sym (d .led .turn-is)) (
+        subst (Turns text limits forms opener lent left index parent K) (sym (d .led .turn-is)) (
           g .to,
           leads-holds t h g
-              (subst (λ (y : ℕ). At baseLimits (levelOf forms) text y (t .end) (g .to)) (flat-depth (m .sign) (s .deep) (m .flat-is)) (sign-on baseLimits (levelOf forms) text (h .stands) t k (m .sign) (m .class-is) (g .steps)))
+              (subst (λ (y : ℕ). At limits (levelOf forms) text y (t .end) (g .to)) (flat-depth (m .sign) (s .deep) (m .flat-is)) (sign-on limits (levelOf forms) text (h .stands) t k (m .sign) (m .class-is) (g .steps)))
               e
               (h .count-is ∙ omega (arith, length-append (roled Nodes.name ns) (roled Nodes.value (last c index)), length-append ns (last c index), same, roled-length Nodes.value (last c index)))
               (written-role (roled Nodes.name ns) (last c index)
@@ -227,57 +227,57 @@ module _ (text : List ℕ) (forms : Forms) where
         )
 
     -- `{` behind a head
-    pub deeper-on : {style : Style} (r : Turn) (parent : ℕ) → Does (levelOf forms) c (seen t) (Move.Deeper style) → Deepened s t style r → Turns text forms opener lent from index parent K r
+    pub deeper-on : {style : Style} (r : Turn) (parent : ℕ) → Does (levelOf forms) c (seen t) (Move.Deeper style) → Deepened s t limits style r → Turns text limits forms opener lent from index parent K r
     deeper-on {style} r parent (m, g) (inl (d, e)) =
-        subst (Turns text forms opener lent from index parent K) (sym e)
-        (deep-here baseLimits (levelOf forms) text (h .stands) t k (ap opens m) (curly-known baseLimits (levelOf forms) text (h .stands) t m) d (g .steps))
+        subst (Turns text limits forms opener lent from index parent K) (sym e)
+        (deep-here limits (levelOf forms) text (h .stands) t k (ap opens m) (curly-known limits (levelOf forms) text (h .stands) t m) d (g .steps))
     deeper-on {style} r parent (m, g) (inr (d, e)) =
-        subst (Turns text forms opener lent from index parent K) (sym e) (
+        subst (Turns text limits forms opener lent from index parent K) (sym e) (
           g .to,
           leads-holds t h g
-              (subst (λ (y : ℕ). At baseLimits (levelOf forms) text y (t .end) (g .to)) (omega arith) (open-on baseLimits (levelOf forms) text (h .stands) t k (ap opens m) (curly-known baseLimits (levelOf forms) text (h .stands) t m) d (g .steps)))
+              (subst (λ (y : ℕ). At limits (levelOf forms) text y (t .end) (g .to)) (omega arith) (open-on limits (levelOf forms) text (h .stands) t k (ap opens m) (curly-known limits (levelOf forms) text (h .stands) t m) d (g .steps)))
               refl (h .count-is) (h .written),
         )
 
     -- no sign takes the token
-    pub wrong-here : (r : Turn) (left : List ℕ) (parent : ℕ) → Does (levelOf forms) c (seen t) Move.Wrong → r ≡ Turn.Ended (Read.Refused 6 (t .first)) → Turns text forms opener lent left index parent K r
+    pub wrong-here : (r : Turn) (left : List ℕ) (parent : ℕ) → Does (levelOf forms) c (seen t) Move.Wrong → r ≡ Turn.Ended (Read.Refused 6 (t .first)) → Turns text limits forms opener lent left index parent K r
     wrong-here r left parent (e, inl n) q =
-        subst (Turns text forms opener lent left index parent K) (sym q) (not-here baseLimits (levelOf forms) text (h .stands) t k n e)
+        subst (Turns text limits forms opener lent left index parent K) (sym q) (not-here limits (levelOf forms) text (h .stands) t k n e)
     wrong-here r left parent (e, inr (m, x)) q =
-        subst (Turns text forms opener lent left index parent K) (sym q) (sign-wrong baseLimits (levelOf forms) text (h .stands) t k m x e)
+        subst (Turns text limits forms opener lent left index parent K) (sym q) (sign-wrong limits (levelOf forms) text (h .stands) t k m x e)
 
     -- a count, which is a node by itself
     pub count-on : {left : List ℕ} {style : Style} (r : Turn) (parent : ℕ) → Does (levelOf forms) c (seen t) (Move.Count style) → length left ≡ length from →
-        Counted s t style from left index r → Turns text forms opener lent left index parent K r
+        Counted s t style from left index r → Turns text limits forms opener lent left index parent K r
     count-on {left} {style} r parent n e d =
         let g = n .leads in
         let tells = atom-tells (t .kind) (n .class-is) in
         let node : Node = record { kind = Nodes.atomKind (n .atom); at = spanOf t; parent = index; role = Nodes.count; detail = Nodes.atomDetail (n .atom) } in
         let put : Put from left (index + 1 + s .nodes) node =
         told-put {e = countEntry t index} {n = node} (record { kind = sym (tells .kind-is); first = refl; end = refl; parent = refl; role = refl; detail = sym (tells .detail-is) }) (d .stored) in
-        subst (Turns text forms opener lent left index parent K) (sym (d .turn-is)) (
+        subst (Turns text limits forms opener lent left index parent K) (sym (d .turn-is)) (
           g .to,
           leads-holds t h g
-              (literal-on baseLimits (levelOf forms) text (h .stands) t k (ap plain (n .class-is))
-              (never-bad baseLimits (levelOf forms) text t k (ap mayBeBad (class-kind (t .kind) (n .class-is)) ∙ count-kind (n .atom) (n .is-count))) (g .steps))
+              (literal-on limits (levelOf forms) text (h .stands) t k (ap plain (n .class-is))
+              (never-bad limits (levelOf forms) text t k (ap mayBeBad (class-kind (t .kind) (n .class-is)) ∙ count-kind (n .atom) (n .is-count))) (g .steps))
               e (omega (arith, h .count-is, length-append (children c index) (node ∷ [])))
               (written-more (h .written) (h .length-is) (written-node node (subst (λ (x : ℕ). Put from left (index + 1 + x) node) (h .count-is) put))),
         )
 
     -- the bracket's end
     pub close-on : {left : List ℕ} {kind detail : ℕ} {role : Role} (r : Turn) (parent : ℕ) → Does (levelOf forms) c (seen t) (Move.Close kind detail role) →
-        (d : Closed s t (opener .first) kind detail role from left index parent r) → Turns text forms opener lent left index parent K r
+        (d : Closed s t (opener .first) kind detail role from left index parent r) → Turns text limits forms opener lent left index parent K r
     close-on {left} {kind} {detail} {role} r parent (m, u, g) d =
         let v = g .value in
         let members = before c index ++ roled (roleOf role) (last c index) in
         let node : Node = record { kind = g .which; at = over (openOf c) (spanOf t); parent = parent; role = Nodes.root; detail = detail } in
         let put : Put (d .told) left index node =
         told-put {e = closeEntry t (opener .first) kind detail parent} {n = node} (record { kind = g .kind-is; first = ap (λ (x : Span). x .first) (h .open-is); end = refl; parent = refl; role = refl; detail = refl }) (d .stored) in
-        subst (Turns text forms opener lent left index parent K) (sym (d .turn-is))
+        subst (Turns text limits forms opener lent left index parent K) (sym (d .turn-is))
         (record {
           tree = v;
           depth = openMark (m .sign) (s .deep);
-          stands = subst (λ (x : Stack). At baseLimits (levelOf forms) text (openMark (m .sign) (s .deep)) (t .end) (have v x)) (h .stack-is) (sign-on baseLimits (levelOf forms) text (h .stands) t k (m .sign) (m .class-is) (g .steps));
+          stands = subst (λ (x : Stack). At limits (levelOf forms) text (openMark (m .sign) (s .deep)) (t .end) (have v x)) (h .stack-is) (sign-on limits (levelOf forms) text (h .stands) t k (m .sign) (m .class-is) (g .steps));
           stops = λ x y z. other-names v (g .shape-is);
           shape-is = g .shape-is;
           bare = λ x y. absurd (false≢true (ap isBare y));
@@ -303,8 +303,8 @@ count-stored {from} {left} {i} {index} t tells says d =
 
 -- ---- a turn, by its move
 
-abbrev Promise : Token.Token → State.State → Token.Token → Move → List ℕ → List ℕ → ℕ → ℕ → Turn → Type 0
-Promise opener s t taken from left index parent r = Ends opener t r × Taken opener s t taken from left index parent r
+abbrev Promise : Limits → Token.Token → State.State → Token.Token → Move → List ℕ → List ℕ → ℕ → ℕ → Turn → Type 0
+Promise limits opener s t taken from left index parent r = Ends opener t r × Taken limits opener s t taken from left index parent r
 
 pred-fits : (d : ℕ) {m : ℕ} → d ≤ m → pred d ≤ m
 pred-fits zero h = h
@@ -314,49 +314,49 @@ pred-fits (suc d) h = omega (arith, h)
 advanced : {opener t : Token.Token} {s : State.State} {index parent : ℕ} → Narrow s t index → Outer opener s index parent → (opener .end + s .nodes ≤ t .end) × (s .deep ≤ t .end) × (t .end ≡ t .end)
 advanced n o = (omega (arith, o .after, n .token-after, n .token-byte), omega (arith, o .deep-fits, n .token-after, n .token-byte), refl)
 
-module _ {opener t : Token.Token} {s : State.State} {index parent : ℕ} (n : Narrow s t index) (o : Outer opener s index parent) {taken : Move} {from left : List ℕ} {r : Turn} where
+module _ {limits : Limits} {opener t : Token.Token} {s : State.State} {index parent : ℕ} (n : Narrow s t index) (o : Outer opener s index parent) {taken : Move} {from left : List ℕ} {r : Turn} where
   -- the promise, from what the move does
   taking : {move : Move} {turn : Turn} → taken ≡ move → r ≡ turn → Ends opener t turn →
-      ((text : List ℕ) (forms : Forms) (lent : List ℕ) (K : Stack) (c : Config) → Holds text forms opener lent from index K c s →
-      Comes text (s .at) (Next.Token t) → Does (levelOf forms) c (seen t) move → Turns text forms opener lent left index parent K r) → Promise opener s t taken from left index parent r
+      ((text : List ℕ) (forms : Forms) (lent : List ℕ) (K : Stack) (c : Config) → Holds text limits forms opener lent from index K c s →
+      Comes text (s .at) (Next.Token t) → Does (levelOf forms) c (seen t) move → Turns text limits forms opener lent left index parent K r) → Promise limits opener s t taken from left index parent r
   taking {move} {turn} e q x f = (
     subst (λ (y : Turn). Ends opener t y) (sym q) x,
     record { turns = λ text forms lent K c h k d g. f text forms lent K c h k (subst (λ (y : Move). Does (levelOf forms) c (seen t) y) e d) },
   )
 
-  pub take-value : {f : Frame} → taken ≡ Move.Value f → r ≡ Turn.Ended (Read.Refused 6 (t .first)) → Promise opener s t taken from left index parent r
+  pub take-value : {f : Frame} → taken ≡ Move.Value f → r ≡ Turn.Ended (Read.Refused 6 (t .first)) → Promise limits opener s t taken from left index parent r
   take-value e q = (subst (λ (y : Turn). Ends opener t y) (sym q) tt, record { turns = λ text forms lent K c h k d g. absurd (false≢true (sym (ap signs e) ∙ g)) })
 
-  pub take-led : {mode : Mode} {role : Role} → taken ≡ Move.To mode role → length left ≡ length from → Led s t mode role from left r → Promise opener s t taken from left index parent r
-  take-led e x l = taking e (l .turn-is) (advanced n o) (λ text forms lent K c h k d. led-on text forms t h k r parent d x l)
+  pub take-led : {mode : Mode} {role : Role} → taken ≡ Move.To mode role → length left ≡ length from → Led s t mode role from left r → Promise limits opener s t taken from left index parent r
+  take-led e x l = taking e (l .turn-is) (advanced n o) (λ text forms lent K c h k d. led-on text limits forms t h k r parent d x l)
 
-  pub take-tuple : taken ≡ Move.Tuple → length left ≡ length from → Tupled s t from left index r → Promise opener s t taken from left index parent r
-  take-tuple e x l = taking e (l .led .turn-is) (advanced n o) (λ text forms lent K c h k d. tuple-on text forms t h k r parent d l x)
+  pub take-tuple : taken ≡ Move.Tuple → length left ≡ length from → Tupled s t from left index r → Promise limits opener s t taken from left index parent r
+  take-tuple e x l = taking e (l .led .turn-is) (advanced n o) (λ text forms lent K c h k d. tuple-on text limits forms t h k r parent d l x)
 
-  pub take-count : {style : Style} → taken ≡ Move.Count style → length left ≡ length from → Counted s t style from left index r → Promise opener s t taken from left index parent r
+  pub take-count : {style : Style} → taken ≡ Move.Count style → length left ≡ length from → Counted s t style from left index r → Promise limits opener s t taken from left index parent r
   take-count e x l =
-      taking e (l .turn-is) (omega (arith, o .after, n .token-after, n .token-byte), omega (arith, o .deep-fits, n .token-after, n .token-byte), refl) (λ text forms lent K c h k d. count-on text forms t h k r parent d x l)
+      taking e (l .turn-is) (omega (arith, o .after, n .token-after, n .token-byte), omega (arith, o .deep-fits, n .token-after, n .token-byte), refl) (λ text forms lent K c h k d. count-on text limits forms t h k r parent d x l)
 
-  pub take-shut : {style : Style} {role : Role} → taken ≡ Move.Shut style role → length left ≡ length from → Shuts s t style role from left r → Promise opener s t taken from left index parent r
+  pub take-shut : {style : Style} {role : Role} → taken ≡ Move.Shut style role → length left ≡ length from → Shuts s t style role from left r → Promise limits opener s t taken from left index parent r
   take-shut e x l =
-      taking e (l .turn-is) (advanced n o .0, pred-fits (s .deep) (omega (arith, o .deep-fits, n .token-after, n .token-byte)), refl) (λ text forms lent K c h k d. shut-on text forms t h k r parent d x l)
+      taking e (l .turn-is) (advanced n o .0, pred-fits (s .deep) (omega (arith, o .deep-fits, n .token-after, n .token-byte)), refl) (λ text forms lent K c h k d. shut-on text limits forms t h k r parent d x l)
 
-  pub take-close : {kind detail : ℕ} {role : Role} → taken ≡ Move.Close kind detail role → Closed s t (opener .first) kind detail role from left index parent r → Promise opener s t taken from left index parent r
+  pub take-close : {kind detail : ℕ} {role : Role} → taken ≡ Move.Close kind detail role → Closed s t (opener .first) kind detail role from left index parent r → Promise limits opener s t taken from left index parent r
   take-close e l =
-      taking e (l .turn-is) (omega (arith, o .after, o .some-byte, n .token-after, n .token-byte), refl) (λ text forms lent K c h k d. close-on text forms t h k r parent d l)
+      taking e (l .turn-is) (omega (arith, o .after, o .some-byte, n .token-after, n .token-byte), refl) (λ text forms lent K c h k d. close-on text limits forms t h k r parent d l)
 
-  pub take-group : taken ≡ Move.Group → r ≡ Turn.Ended (Read.Refused 6 (t .first)) → Promise opener s t taken from left index parent r
-  take-group e q = taking e q tt (λ text forms lent K c h k d. absurd (group-never text forms t h k d))
+  pub take-group : taken ≡ Move.Group → r ≡ Turn.Ended (Read.Refused 6 (t .first)) → Promise limits opener s t taken from left index parent r
+  take-group e q = taking e q tt (λ text forms lent K c h k d. absurd (group-never text limits forms t h k d))
 
-  pub take-wrong : taken ≡ Move.Wrong → r ≡ Turn.Ended (Read.Refused 6 (t .first)) → Promise opener s t taken from left index parent r
-  take-wrong e q = taking e q tt (λ text forms lent K c h k d. wrong-here text forms t h k r left parent d q)
+  pub take-wrong : taken ≡ Move.Wrong → r ≡ Turn.Ended (Read.Refused 6 (t .first)) → Promise limits opener s t taken from left index parent r
+  take-wrong e q = taking e q tt (λ text forms lent K c h k d. wrong-here text limits forms t h k r left parent d q)
 
 -- moves that write nothing
-module _ {opener t : Token.Token} {s : State.State} {index parent : ℕ} (n : Narrow s t index) (o : Outer opener s index parent) {taken : Move} {from : List ℕ} {r : Turn} where
-  pub take-deeper : {style : Style} → taken ≡ Move.Deeper style → Deepened s t style r → Promise opener s t taken from from index parent r
+module _ {limits : Limits} {opener t : Token.Token} {s : State.State} {index parent : ℕ} (n : Narrow s t index) (o : Outer opener s index parent) {taken : Move} {from : List ℕ} {r : Turn} where
+  pub take-deeper : {style : Style} → taken ≡ Move.Deeper style → Deepened s t limits style r → Promise limits opener s t taken from from index parent r
   take-deeper {style} e d = go d
     where
-      go : Deepened s t style r → Promise opener s t taken from from index parent r
-      go (inl (x, q)) = taking n o e q tt (λ text forms lent K c h k f. deeper-on text forms t h k r parent f (inl (x, q)))
+      go : Deepened s t limits style r → Promise limits opener s t taken from from index parent r
+      go (inl (x, q)) = taking n o e q tt (λ text forms lent K c h k f. deeper-on text limits forms t h k r parent f (inl (x, q)))
       go (inr (x, q)) =
-          taking n o e q (omega (arith, o .after, n .token-after, n .token-byte), omega (arith, o .deep-fits, n .token-after, n .token-byte), refl) (λ text forms lent K c h k f. deeper-on text forms t h k r parent f (inr (x, q)))
+          taking n o e q (omega (arith, o .after, n .token-after, n .token-byte), omega (arith, o .deep-fits, n .token-after, n .token-byte), refl) (λ text forms lent K c h k f. deeper-on text limits forms t h k r parent f (inr (x, q)))

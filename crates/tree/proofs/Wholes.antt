@@ -5,11 +5,7 @@ use mathlib.Core.Option.{none, some}
 use Prim.Native.Nat.{ℕ, _+_, _*_, _≤_, _<_}
 use native.Mathlib.Omega.{arith}
 use lib.ListN.{length, drop}
-use types.Run.{OneOf, miss}
-use denote.Enum.Declared.{tagOf}
-use Rattle.lexicon.proofs.Next as NextType
 use Rattle.lexicon.specs.declared.Token as Token
-use Rattle.lexicon.specs.declared.Next.{Next}
 use Rattle.lexicon.specs.declared.Next.the-variants as Next
 use Rattle.lexicon.specs.declared.Encoding.{Encoding}
 use Rattle.lexicon.specs.declared.Encoding.the-variants as Encoding
@@ -26,8 +22,7 @@ use Rattle.grammar.proofs.Machine.{haveClass, namesGo}
 use Rattle.reading.specs.declared.Answer.{Answer}
 use Rattle.reading.specs.declared.Limits.{Limits}
 use Rattle.reading.specs.declared.Rules.{Rules}
-use Rattle.reading.specs.Sizes.{baseLimits, room}
-use Rattle.reading.specs.Faults.{FirstFault}
+use Rattle.reading.specs.Sizes.{room}
 use Rattle.reading.specs.Answers.{LevelOf, Accepted, Answers, answer, noLevel, tooLong, notUtf8, faulty, noRoom, accepted}
 use Rattle.reading.proofs.First.{all-or-fault}
 use Rattle.reading.proofs.Unique.{one-tree}
@@ -38,32 +33,24 @@ use Rattle.moves.specs.declared.Shape.{Shape}
 use Rattle.moves.specs.Means.{levelOf}
 use Rattle.table.specs.Over.{Written}
 use Rattle.table.proofs.Written.{written-whole}
-use Rattle.tree.specs.declared.answer.Read.{Read}
-use Rattle.tree.specs.declared.answer.Read.the-variants as Read
-use Rattle.tree.specs.declared.answer.Got.{Got}
-use Rattle.tree.specs.declared.answer.Got.the-variants as Got
-use Rattle.tree.specs.declared.level.Leveled.{Leveled}
-use Rattle.tree.specs.declared.level.Leveled.the-variants as Leveled
-use Rattle.tree.specs.Looks.{Gets, handedOn, LevelFound}
+use Rattle.look.specs.declared.answer.Read.{Read}
+use Rattle.look.specs.declared.answer.Read.the-variants as Read
+use Rattle.look.specs.declared.answer.Got.{Got}
+use Rattle.look.specs.declared.answer.Got.the-variants as Got
+use Rattle.begin.specs.declared.level.Leveled.{Leveled}
+use Rattle.begin.specs.declared.level.Leveled.the-variants as Leveled
+use Rattle.look.specs.Looks.{Gets, handedOn}
+use Rattle.look.specs.Ends.{Behind, further, nothing, atEnd}
+use Rattle.look.proofs.Looking.{got-token}
+use Rattle.begin.specs.Levels.{LevelFound}
 use Rattle.tree.specs.Readers.{widest, spanOf, Faulty, Fit, IsValue, Outcome, Reads}
-use Rattle.tree.specs.Whole.{Followed, Behind, further, nothing, atEnd, Whole, JudgedAs, Judged, Told, beyondBy, refusal}
-use Rattle.tree.proofs.Bounds.{token-bounds}
-use Rattle.tree.proofs.Looking.{got-token}
+use Rattle.tree.specs.Whole.{Whole, JudgedAs, Judged, Told, refusal}
+use Rattle.look.proofs.Bounds.{token-bounds}
 use Rattle.tree.proofs.Readings.{refused-here}
 
 -- what the room holds are words of the table
 roomy : (rules : Rules) (n words : ℕ) → n ≤ room rules words → n * nodeWords ≤ words
 roomy rules n words h = omega (arith, h)
-
--- ---- what stands behind the value
-
-pub behind-beyond : (text : List ℕ) (at : ℕ) (read : Read) (r : Next) {z : Read} → Comes text at r → OneOf (0 ∷ 2 ∷ []) (tagOf NextType.the-type r) → z ≡ beyondBy r → Behind text at read z
-behind-beyond text at read (Next.Token t) k x e = subst (λ (y : Read). Behind text at read y) (sym e) (further k)
-behind-beyond text at read (Next.End q) k x e = absurd (miss (0 ∷ 2 ∷ []) 1 tt x)
-behind-beyond text at read (Next.NoToken q) k x e = subst (λ (y : Read). Behind text at read y) (sym e) (nothing k)
-
-pub behind-end : (text : List ℕ) (at : ℕ) (read : Read) (r : Next) {q : ℕ} → Comes text at r → r ≡ Next.End q → Behind text at read read
-behind-end text at read r k e = atEnd (subst (λ (x : Next). Comes text at x) e k)
 
 -- no token goes on with the value of a text
 stuck : (l : Level) (k : Class) (v : Value) (s : Span) → (k ≡ Tokens.names → namesOf v ≡ none) → haveClass l k v s [] ≡ none
@@ -81,84 +68,79 @@ whole-fit text k h =
     let y = token-bounds text k in
     (record { short = h; some-byte = y .1; inside-text = y .2; index-fits = omega arith; parent-fits = omega arith }, omega arith)
 
-module _ (text : List ℕ) (forms : Forms) where
+module _ (text : List ℕ) (limits : Limits) (forms : Forms) where
   -- an accepted text has no fault
-  accepted-faultless : {v : Value} → Accepted baseLimits text (levelOf forms) v → (n q : ℕ) → Faulty text forms n q → ⊥
-  accepted-faultless a n q f = all-or-fault text baseLimits (levelOf forms) (a .passed) f
+  accepted-faultless : {v : Value} → Accepted limits text (levelOf forms) v → (n q : ℕ) → Faulty text limits forms n q → ⊥
+  accepted-faultless a n q f = all-or-fault text limits (levelOf forms) (a .passed) f
 
   -- ---- the value of a text
 
   module _ {lent left : List ℕ} {p : ℕ} (f : Front text p) (g : Got) (x : Gets text p g) where
-    pub whole-missing : {n q : ℕ} (h : Read) → g ≡ Got.Refused n q → h ≡ handedOn g → Judged text forms lent left h
+    pub whole-missing : {n q : ℕ} (h : Read) → g ≡ Got.Refused n q → h ≡ handedOn g → Judged text limits forms lent left h
     whole-missing h e y =
-        subst (Judged text forms lent left) (sym (y ∙ ap handedOn e)) (record { judged = refused-here text forms g (at-start baseLimits (levelOf forms) text f) refl x e })
+        subst (Judged text limits forms lent left) (sym (y ∙ ap handedOn e)) (record { judged = refused-here text limits forms g (at-start limits (levelOf forms) text f) refl x e })
 
     module _ {t : Token.Token} (e : g ≡ Got.Token t) where
-      module _ (r : Read) (y : Reads text forms 0 t lent left 0 0 r) where
-        value-read : (z : Read) → r ≡ z → Outcome text forms [] t lent left 0 0 z
+      module _ (r : Read) (y : Reads text limits forms 0 t lent left 0 0 r) where
+        value-read : (z : Read) → r ≡ z → Outcome text limits forms [] t lent left 0 0 z
         value-read z q =
-            subst (λ (w : Read). Outcome text forms [] t lent left 0 0 w) q
-            (y .outcome [] p (record { stands = at-start baseLimits (levelOf forms) text f; comes = got-token text p e x; no-sign = λ m i. refl }))
+            subst (λ (w : Read). Outcome text limits forms [] t lent left 0 0 w) q
+            (y .outcome [] p (record { stands = at-start limits (levelOf forms) text f; comes = got-token text p e x; no-sign = λ m i. refl }))
 
-        pub whole-refused : {n q : ℕ} → r ≡ Read.Refused n q → Judged text forms lent left r
-        whole-refused {n} {q} i = subst (Judged text forms lent left) (sym i) (record { judged = value-read (Read.Refused n q) i })
+        pub whole-refused : {n q : ℕ} → r ≡ Read.Refused n q → Judged text limits forms lent left r
+        whole-refused {n} {q} i = subst (Judged text limits forms lent left) (sym i) (record { judged = value-read (Read.Refused n q) i })
 
-        pub whole-read : {end n : ℕ} {shape : Shape} (z : Read) → r ≡ Read.Value end n shape → Behind text end (Read.Value end n shape) z → Judged text forms lent left z
+        pub whole-read : {end n : ℕ} {shape : Shape} (z : Read) → r ≡ Read.Value end n shape → Behind text end (Read.Value end n shape) z → Judged text limits forms lent left z
         whole-read {end} {n} {shape} z i b = record { judged = go z b }
           where
-            v : IsValue text forms [] t end n shape lent left 0 0
+            v : IsValue text limits forms [] t end n shape lent left 0 0
             v = value-read (Read.Value end n shape) i
 
-            go : (w : Read) → Behind text end (Read.Value end n shape) w → JudgedAs text forms lent left w
+            go : (w : Read) → Behind text end (Read.Value end n shape) w → JudgedAs text limits forms lent left w
             go w (further {t = u} k) =
-                not-here baseLimits (levelOf forms) text (v .stands) u k (not-wanting refl)
+                not-here limits (levelOf forms) text (v .stands) u k (not-wanting refl)
                 (stuck (levelOf forms) (classKind (u .kind)) (v .tree) (spanOf u) (λ q. v .stops u k (class-kind (u .kind) q)))
-            go w (nothing {q = q} k) = none-here baseLimits (levelOf forms) text (v .stands) q k
+            go w (nothing {q = q} k) = none-here limits (levelOf forms) text (v .stands) q k
             go w (atEnd {q = q} k) =
-                record { tree = v .tree; accepted = At.accepted baseLimits (levelOf forms) text (v .stands) q k .0; count-is = v .count-is; written = v .written }
+                record { tree = v .tree; accepted = At.accepted limits (levelOf forms) text (v .stands) q k .0; count-is = v .count-is; written = v .written }
 
-  -- ---- the answer
+-- ---- the answer
 
-  module _ {rules : Rules} (k : Followed rules) {lent : List ℕ} (h : length text ≤ rules .text) where
-    pub told-refused : {none left' : List ℕ} {n q : ℕ} {r : Answer} (z : Read) → Judged text forms none left' z → z ≡ Read.Refused n q → r ≡ refusal z → Told text rules forms lent lent r
-    told-refused {none} {left'} {n} {q} z j e i =
-        let f = subst (λ (w : Read). JudgedAs text forms none left' w) e (j .judged) in
-        let g = subst (λ (x : Limits). FirstFault x (levelOf forms) text n q) (sym (k .same-limits)) f in
-        record { answers = λ number o w. subst (λ (s : Answer). Answers rules text lent number s lent) (sym (i ∙ ap refusal e)) (record { tree = _; reading = faulty o h w g; left-is = refl }) }
+module _ (text : List ℕ) (forms : Forms) (rules : Rules) (lent : List ℕ) (h : length text ≤ rules .text) where
+  pub told-refused : {none left' : List ℕ} {n q : ℕ} {r : Answer} (z : Read) → Judged text (rules .limits) forms none left' z → z ≡ Read.Refused n q → r ≡ refusal z → Told text rules forms lent lent r
+  told-refused {none} {left'} z j e i =
+      let f = subst (λ (w : Read). JudgedAs text (rules .limits) forms none left' w) e (j .judged) in
+      record { answers = λ number o w. subst (λ (s : Answer). Answers rules text lent number s lent) (sym (i ∙ ap refusal e)) (record { tree = _; reading = faulty o h w f; left-is = refl }) }
 
-  module _ {none left' : List ℕ} {end n : ℕ} {shape : Shape} (z : Read) (j : Judged text forms none left' z) (e : z ≡ Read.Value end n shape) where
-    judged-whole : Whole text forms none left' n
-    judged-whole = subst (λ (w : Read). JudgedAs text forms none left' w) e (j .judged)
+  module _ {none left' : List ℕ} {end n : ℕ} {shape : Shape} (z : Read) (j : Judged text (rules .limits) forms none left' z) (e : z ≡ Read.Value end n shape) where
+    judged-whole : Whole text (rules .limits) forms none left' n
+    judged-whole = subst (λ (w : Read). JudgedAs text (rules .limits) forms none left' w) e (j .judged)
 
-    judged-accepted : {rules : Rules} → Followed rules → Accepted (rules .limits) text (levelOf forms) (judged-whole .tree)
-    judged-accepted k = subst (λ (x : Limits). Accepted x text (levelOf forms) (judged-whole .tree)) (sym (k .same-limits)) (judged-whole .accepted)
+    pub told-full : {m : ℕ} → m ≡ room rules (length lent) → m < n → Told text rules forms lent lent (answer 8 (length text) n)
+    told-full q l =
+        let v = judged-whole in
+        record {
+          answers = λ number o w.
+              subst (λ (c : ℕ). Answers rules text lent number (answer 8 (length text) c) lent) (sym (v .count-is))
+              (record { tree = _; reading = noRoom o h w (v .accepted) (omega (arith, q, l, v .count-is)); left-is = refl });
+        }
 
-    module _ {rules : Rules} (k : Followed rules) {lent : List ℕ} (h : length text ≤ rules .text) where
-      pub told-full : {m : ℕ} → m ≡ room rules (length lent) → m < n → Told text rules forms lent lent (answer 8 (length text) n)
-      told-full q l =
-          let v = judged-whole in
-          record {
-            answers = λ number o w.
-                subst (λ (c : ℕ). Answers rules text lent number (answer 8 (length text) c) lent) (sym (v .count-is))
-                (record { tree = _; reading = noRoom o h w (judged-accepted k) (omega (arith, q, l, v .count-is)); left-is = refl });
-          }
+    written-as : {m : ℕ} {left : List ℕ} (y : Read) → m ≡ room rules (length lent) → n ≤ m → JudgedAs text (rules .limits) forms lent left y → Told text rules forms lent left (answer 0 (length text) n)
+    written-as {m} {left} (Read.Refused c q) i l d = absurd (accepted-faultless text (rules .limits) forms (judged-whole .accepted) c q d)
+    written-as {m} {left} (Read.Value end' c shape') i l d =
+        let v = judged-whole in
+        let same : v .tree ≡ d .tree = one-tree (rules .limits) text refl (v .accepted) (d .accepted) in
+        let fits : n ≤ room rules (length lent) = omega (arith, i, l) in
+        let w : left ≡ tableWords (table (v .tree)) ++ drop (nodeWords * length (table (v .tree))) lent =
+        written-whole (subst (λ (t : Value). Written lent left 0 (table t)) (sym same) (d .written)) (roomy rules (length (table (v .tree))) (length lent) (omega (arith, fits, v .count-is))) in
+        record {
+          answers = λ number o u.
+              subst (λ (x : ℕ). Answers rules text lent number (answer 0 (length text) x) left) (sym (v .count-is))
+              (record { tree = some (v .tree); reading = accepted o h u (v .accepted) (omega (arith, fits, v .count-is)); left-is = w });
+        }
 
-      written-as : {m : ℕ} {left : List ℕ} (y : Read) → m ≡ room rules (length lent) → n ≤ m → JudgedAs text forms lent left y → Told text rules forms lent left (answer 0 (length text) n)
-      written-as {m} {left} (Read.Refused c q) i l d = absurd (accepted-faultless (judged-whole .accepted) c q d)
-      written-as {m} {left} (Read.Value end' c shape') i l d =
-          let v = judged-whole in
-          let same : v .tree ≡ d .tree = one-tree baseLimits text refl (v .accepted) (d .accepted) in
-          let fits : n ≤ room rules (length lent) = omega (arith, i, l) in
-          let w : left ≡ tableWords (table (v .tree)) ++ drop (nodeWords * length (table (v .tree))) lent =
-          written-whole (subst (λ (t : Value). Written lent left 0 (table t)) (sym same) (d .written)) (roomy rules (length (table (v .tree))) (length lent) (omega (arith, fits, v .count-is))) in
-          record {
-            answers = λ number o u.
-                subst (λ (x : ℕ). Answers rules text lent number (answer 0 (length text) x) left) (sym (v .count-is))
-                (record { tree = some (v .tree); reading = accepted o h u (judged-accepted k) (omega (arith, fits, v .count-is)); left-is = w });
-          }
-
-      pub told-written : {m : ℕ} {left : List ℕ} (y : Read) → m ≡ room rules (length lent) → n ≤ m → Judged text forms lent left y → Told text rules forms lent left (answer 0 (length text) n)
-      told-written y i l d = written-as y i l (d .judged)
+    pub told-written : {m : ℕ} {left : List ℕ} (y : Read) → m ≡ room rules (length lent) → n ≤ m → Judged text (rules .limits) forms lent left y → Told text rules forms lent left (answer 0 (length text) n)
+    told-written y i l d = written-as y i l (d .judged)
 
 -- ---- the tests over the whole text
 

@@ -20,7 +20,7 @@ use Rattle.grammar.specs.Nodes.{nodes}
 use Rattle.grammar.proofs.Frames as Frames
 use Rattle.grammar.proofs.Frames.{Config, Stack, want, have, namesOf}
 use Rattle.grammar.proofs.Machine.{wantMark}
-use Rattle.reading.specs.Sizes.{baseLimits}
+use Rattle.reading.specs.declared.Limits.{Limits}
 use Rattle.reading.specs.Tokens.{seen}
 use Rattle.reading.specs.Faults.{FirstFault}
 use Rattle.reading.proofs.At as Place
@@ -34,14 +34,13 @@ use Rattle.moves.specs.declared.Move.the-variants as Move
 use Rattle.moves.specs.Means.{levelOf, shapeOf, modeOf, inside, openOf, below, before, children}
 use Rattle.moves.specs.Effects.{headBare, nested, held, opening, Does, Begins}
 use Rattle.table.specs.Over.{Written}
-use Rattle.tree.specs.declared.answer.Read.{Read}
-use Rattle.tree.specs.declared.answer.Read.the-variants as Read
-use Rattle.tree.specs.declared.begin.Begin.{Begin}
-use Rattle.tree.specs.declared.begin.Begin.the-variants as Begin
+use Rattle.look.specs.declared.answer.Read.{Read}
+use Rattle.look.specs.declared.answer.Read.the-variants as Read
 use Rattle.tree.specs.declared.bracket.State as State
 use Rattle.tree.specs.declared.bracket.Turn.{Turn}
 use Rattle.tree.specs.declared.bracket.Turn.the-variants as Turn
-use Rattle.tree.specs.Looks.{Gets, NotNext, NoHead, noMark, isClose}
+use Rattle.look.specs.Looks.{NotNext, NoHead}
+use Rattle.begin.specs.Signs.{noMark, isClose, literal}
 
 -- the bytes of a text at most, whatever the rules: up to here every place and every count of nodes fits a word of the table
 abbrev pub widest : ℕ
@@ -69,20 +68,13 @@ signs (Move.Close k d r) = true
 signs Move.Group = true
 signs Move.Wrong = true
 
--- a literal
-abbrev pub literal : Class → Bool
-literal (Tokens.atom a) = true
-literal (Tokens.text w) = true
-literal Tokens.names = false
-literal Tokens.round = false
-literal Tokens.curly = false
-literal Tokens.square = false
-literal (Tokens.mark m) = false
-literal Tokens.later = false
-
 -- where a token stands
 abbrev pub spanOf : Token.Token → Span
 spanOf t = seen t .at
+
+-- directly behind `(`
+abbrev pub opened : Token.Token → Stack → Stack
+opened t K = Frames.inRound (Frames.opened (spanOf t)) ∷ K
 
 module _ (text : List ℕ) where
   -- ---- numbers: a value's nodes are at most its bytes, so no sum is too large
@@ -109,14 +101,6 @@ module _ (text : List ℕ) where
   Refuses (Read.Value end n shape) = ⊥
   Refuses (Read.Refused n q) = Unit {0}
 
-  -- what comes behind `(`; from where another bracket is read on
-  abbrev pub From : Token.Token → Begin → Type 0
-  From t Begin.Literal = Unit {0}
-  From t Begin.Names = Unit {0}
-  From t (Begin.Round g) = Gets text (t .end) g
-  From t (Begin.Bracket mode at) = (t .end ≤ at) × (at ≤ length text)
-  From t (Begin.Refused n q) = Unit {0}
-
   -- one turn leads on
   abbrev pub Turned : Token.Token → State.State → Turn → Type 0
   Turned opener s (Turn.On n) = (opener .end + n .nodes ≤ n .at) × (n .deep ≤ n .at) × (s .at < n .at) × (n .at ≤ length text)
@@ -126,12 +110,12 @@ module _ (text : List ℕ) where
   Born s t (Turn.On n) = (t .first + n .nodes ≤ n .at + s .nodes) × (n .deep ≡ s .deep) × (t .end ≤ n .at) × (n .at ≤ length text)
   Born s t (Turn.Ended r) = Refuses r
 
-  module _ (forms : Forms) where
+  module _ (limits : Limits) (forms : Forms) where
     abbrev pub Stands : ℕ → ℕ → Config → Type 0
-    Stands d p c = Place.At baseLimits (levelOf forms) text d p c
+    Stands d p c = Place.At limits (levelOf forms) text d p c
 
     abbrev pub Faulty : ℕ → ℕ → Type 0
-    Faulty n q = FirstFault baseLimits (levelOf forms) text n q
+    Faulty n q = FirstFault limits (levelOf forms) text n q
 
     -- no `::` goes on with the value that ends here
     abbrev pub Stops : Value → ℕ → Type 0
@@ -164,34 +148,6 @@ module _ (text : List ℕ) where
     pub record Reads (d : ℕ) (t : Token.Token) (lent left : List ℕ) (index parent : ℕ) (r : Read) : Type 0 where
       pub sized : Sized t r
       pub outcome : (K : Stack) (at : ℕ) → Asks K d at t → Outcome K t lent left index parent r
-
-    -- ---- how it begins
-
-    pub record Entered (K : Stack) (d : ℕ) (t : Token.Token) (mode : Mode) (at : ℕ) : Type 0 where
-      pub config : Config
-      pub stands : Stands (suc d) at config
-      pub within : inside config ≡ true
-      pub mode-is : modeOf config ≡ mode
-      pub stack-is : below config ≡ K
-      pub open-is : openOf config ≡ spanOf t
-      pub no-member : (i : ℕ) → children config i ≡ []
-      pub no-value : held config ≡ false
-      pub no-first : opening config ≡ false
-
-    -- directly behind `(`
-    abbrev pub opened : Token.Token → Stack → Stack
-    opened t K = Frames.inRound (Frames.opened (spanOf t)) ∷ K
-
-    abbrev pub Begun : Stack → ℕ → Token.Token → Begin → Type 0
-    Begun K d t Begin.Literal = literal (classKind (t .kind)) ≡ true
-    Begun K d t Begin.Names = t .kind ≡ Kind.TwoColons
-    Begun K d t (Begin.Round g) = Stands (suc d) (t .end) (want (opened t K)) × NoHead text (t .end)
-    Begun K d t (Begin.Bracket mode at) = Entered K d t mode at
-    Begun K d t (Begin.Refused n q) = Faulty n q
-
-    pub record BeginsSo (d : ℕ) (t : Token.Token) (r : Begin) : Type 0 where
-      pub from : t .end ≤ length text → From t r
-      pub begun : (K : Stack) (at : ℕ) → Asks K d at t → Begun K d t r
 
     -- ---- inside a bracket
 
@@ -254,14 +210,14 @@ pub record Slim (t : Token.Token) (index parent : ℕ) : Type 0 where
 
 pub record Literal (t : Token.Token) (lent left : List ℕ) (index parent : ℕ) (r : Read) : Type 0 where
   pub sized : Alone t r
-  pub outcome : (text : List ℕ) (forms : Forms) (K : Stack) (d at : ℕ) → Asks text forms K d at t → literal (classKind (t .kind)) ≡ true → Outcome text forms K t lent left index parent r
+  pub outcome : (text : List ℕ) (limits : Limits) (forms : Forms) (K : Stack) (d at : ℕ) → Asks text limits forms K d at t → literal (classKind (t .kind)) ≡ true → Outcome text limits forms K t lent left index parent r
 
 pub record Nesting (text : List ℕ) (t : Token.Token) (lent left : List ℕ) (index parent : ℕ) (r : Read) : Type 0 where
   pub sized : Sized text t r
-  pub outcome : (forms : Forms) (K : Stack) (d at : ℕ) → Asks text forms K d at t → t .kind ≡ Kind.TwoColons → Outcome text forms K t lent left index parent r
+  pub outcome : (limits : Limits) (forms : Forms) (K : Stack) (d at : ℕ) → Asks text limits forms K d at t → t .kind ≡ Kind.TwoColons → Outcome text limits forms K t lent left index parent r
 
 -- ---- the promise of a turn that reads no value
 
-pub record Taken (opener : Token.Token) (s : State.State) (t : Token.Token) (taken : Move) (from left : List ℕ) (index parent : ℕ) (r : Turn) : Type 0 where
-  pub turns : (text : List ℕ) (forms : Forms) (lent : List ℕ) (K : Stack) (c : Config) → Holds text forms opener lent from index K c s → Comes text (s .at) (Next.Token t) →
-      Does (levelOf forms) c (seen t) taken → signs taken ≡ true → Turns text forms opener lent left index parent K r
+pub record Taken (limits : Limits) (opener : Token.Token) (s : State.State) (t : Token.Token) (taken : Move) (from left : List ℕ) (index parent : ℕ) (r : Turn) : Type 0 where
+  pub turns : (text : List ℕ) (forms : Forms) (lent : List ℕ) (K : Stack) (c : Config) → Holds text limits forms opener lent from index K c s → Comes text (s .at) (Next.Token t) →
+      Does (levelOf forms) c (seen t) taken → signs taken ≡ true → Turns text limits forms opener lent left index parent K r

@@ -5,7 +5,7 @@ use mathlib.Core.List.{List}
 use Prim.Native.Nat.{ℕ, _+_, _≤_, _<_, pred}
 use lib.ListN.{length}
 use Rattle.lexicon.specs.declared.Token as Token
-use Rattle.reading.specs.Sizes.{baseLimits}
+use Rattle.reading.specs.declared.Limits.{Limits}
 use Rattle.moves.specs.declared.Role.{Role}
 use Rattle.moves.specs.declared.Role.the-variants as Role
 use Rattle.moves.specs.declared.Shape.the-variants as Shape
@@ -20,7 +20,7 @@ use Rattle.table.specs.declared.Entry as Entry
 use Rattle.table.specs.Over.{Stored, entryWords, Assigned}
 use Rattle.tree.specs.Tellings.{leafKind, leafDetail}
 use Rattle.tree.specs.Readers.{widest}
-use Rattle.tree.specs.declared.answer.Read.the-variants as Read
+use Rattle.look.specs.declared.answer.Read.the-variants as Read
 use Rattle.tree.specs.declared.bracket.State as State
 use Rattle.tree.specs.declared.bracket.Turn.{Turn}
 use Rattle.tree.specs.declared.bracket.Turn.the-variants as Turn
@@ -70,10 +70,10 @@ module _ (s : State.State) (t : Token.Token) where
     pub turn-is : r ≡ Turn.On (behind s (Mode.Counted style) t (s .deep) (s .nodes + 1))
     pub stored : Stored from left (index + 1 + s .nodes) (entryWords (countEntry t index))
 
-  abbrev pub Deepened : Style → Turn → Type 0
-  Deepened style r =
-      ((baseLimits .depth ≤ s .deep) × (r ≡ Turn.Ended (Read.Refused 11 (t .first)))) ⊎
-      ((s .deep < baseLimits .depth) × (r ≡ Turn.On (behind s (Mode.Want (Frame.Curly (Curly.Members style Front.Start))) t (s .deep + 1) (s .nodes))))
+  abbrev pub Deepened : Limits → Style → Turn → Type 0
+  Deepened limits style r =
+      ((limits .depth ≤ s .deep) × (r ≡ Turn.Ended (Read.Refused 11 (t .first)))) ⊎
+      ((s .deep < limits .depth) × (r ≡ Turn.On (behind s (Mode.Want (Frame.Curly (Curly.Members style Front.Start))) t (s .deep + 1) (s .nodes))))
 
   pub record Shuts (style : Style) (role : Role) (from left : List ℕ) (r : Turn) : Type 0 where
     pub turn-is : r ≡ Turn.On (behind s (Mode.Headed style) t (pred (s .deep)) (s .nodes))

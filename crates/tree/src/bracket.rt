@@ -1,9 +1,8 @@
 // Inside a bracket: where the reader stands, and what a sign or a count does there.
 // A function with a `requires` is this crate's own: the numbers that it asks for hold in every text that is read.
-use crate::answer::Read;
-use crate::begin::DEPTH;
 use crate::leaf::told;
 use lexicon::Token;
+use look::answer::Read;
 use moves::CurlyFrame;
 use moves::Frame;
 use moves::Front;
@@ -13,12 +12,13 @@ use moves::Role;
 use moves::RoundFrame;
 use moves::Shape;
 use moves::Style;
+use reading::Limits;
 use table::Entry;
 use table::assign;
 use table::put;
 ghost use mathlib.Core.Path.{_≡_};
 ghost use Prim.Native.Nat.{pred, _≤_};
-ghost use Rattle.tree.specs.declared.answer.Read.the-variants as Read;
+ghost use Rattle.look.specs.declared.answer.Read.the-variants as Read;
 ghost use Rattle.tree.specs.declared.bracket.Turn.the-variants as Turn;
 ghost use Rattle.tree.specs.Readers.{widest, entering as enteringOf, Ends, Taken};
 ghost use Rattle.tree.specs.Turning.{Narrow, Outer, Led, Tupled, Counted, Deepened, Shuts, Closed};
@@ -109,10 +109,10 @@ fn count(s: State, style: Style, t: Token, table: &mut [u32], index: usize) -> T
 }
 
 // `{` behind a head, if there may be one bracket more.
-fn deeper(s: State, style: Style, t: Token) -> Turn
-    ensures { λ r. ⌜ Deepened s t style r ⌝ }
+fn deeper(limits: Limits, s: State, style: Style, t: Token) -> Turn
+    ensures { λ r. ⌜ Deepened s t limits style r ⌝ }
 {
-    if s.deep >= DEPTH {
+    if s.deep >= limits.depth {
         return Turn::Ended(Read::Refused {
             number: 11,
             place: t.first,
@@ -200,6 +200,7 @@ fn wrong(t: Token) -> Turn
 
 // Carries out the move of a token that begins no value. A group does not come here: its end is looked for behind its value.
 pub(crate) fn take(
+    limits: Limits,
     opener: Token,
     s: State,
     t: Token,
@@ -210,14 +211,14 @@ pub(crate) fn take(
 ) -> Turn
     requires { ⌜ Narrow s t index × Outer opener s index parent ⌝ }
     ensures numbers { λ r. ⌜ Ends opener t r ⌝ }
-    ensures turns { λ r. ⌜ Taken opener s t taken (now (table .entry)) (now (table .exit)) index parent r ⌝ }
+    ensures turns { λ r. ⌜ Taken limits opener s t taken (now (table .entry)) (now (table .exit)) index parent r ⌝ }
 {
     match taken {
         Move::Value(_) => wrong(t),
         Move::To { mode, role } => lead_on(s, mode, role, t, table),
         Move::Tuple => tuple(s, t, table, index),
         Move::Count(style) => count(s, style, t, table, index),
-        Move::Deeper(style) => deeper(s, style, t),
+        Move::Deeper(style) => deeper(limits, s, style, t),
         Move::Shut { style, role } => shut(s, style, role, t, table),
         Move::Close { kind, detail, role } => close(
             opener.first,

@@ -1,24 +1,25 @@
 // Values without members: literals and Nestings.
 // A function with a `requires` is this crate's own: the numbers that it asks for hold in every text that is read, and a node's words then
 // hold them.
-use crate::answer::Got;
-use crate::answer::Read;
-use crate::answer::get;
 use lexicon::Form;
 use lexicon::Kind;
-use lexicon::Next;
 use lexicon::Token;
+use look::answer::Read;
+use look::names::Further;
+use look::names::Named;
+use look::names::name;
+use look::names::nameless;
+use look::names::two_colons;
 use moves::Role;
 use moves::Shape;
 use table::Entry;
 use table::put;
-use token::next::next;
 ghost use mathlib.Core.Path.{_≡_};
 ghost use Rattle.grammar.specs.Tokens.{wording};
 ghost use Rattle.grammar.specs.Nodes.{truthDetail};
 ghost use Rattle.moves.specs.declared.Shape.the-variants as Shape;
 ghost use Rattle.tree.specs.Readers.{Fit, Slim, Literal, Nesting};
-ghost use Rattle.tree.specs.Tellings.{wordingDetail, wordingShape, ToldAs, LeafTold, ColonsNext, NameNext, unnamedBy, namelessBy};
+ghost use Rattle.tree.specs.Tellings.{wordingDetail, wordingShape, ToldAs, LeafTold};
 
 // What a literal's node tells, and what the literal is to a colon.
 pub struct Telling {
@@ -118,81 +119,6 @@ pub(crate) fn leaf(t: Token, table: &mut [u32], index: usize, parent: usize) -> 
         end: t.end,
         nodes: 1,
         shape,
-    }
-}
-
-// Where `::` ends, if it comes next.
-pub enum Further {
-    At(usize),
-    Nothing,
-}
-
-fn two_colons(text: &[u8], at: usize) -> Further
-    ensures { λ r. ⌜ ColonsNext (now (text .entry)) at r ⌝ }
-{
-    let answer = next(text, at);
-    let Next::Token(t) = answer else {
-        return Further::Nothing;
-    };
-    let kind = t.kind;
-    let Kind::TwoColons = kind else {
-        return Further::Nothing;
-    };
-    Further::At(t.end)
-}
-
-// The Text behind `::`: where it ends.
-pub enum Named {
-    At(usize),
-    Refused { number: u32, place: usize },
-}
-
-fn name(text: &[u8], at: usize) -> Named
-    ensures { λ r. ⌜ NameNext (now (text .entry)) at r ⌝ }
-{
-    let got = get(text, at);
-    let Got::Token(t) = got else {
-        return unnamed(got);
-    };
-    let kind = t.kind;
-    let Kind::Text(_) = kind else {
-        return Named::Refused {
-            number: 6,
-            place: t.first,
-        };
-    };
-    if t.bad {
-        return Named::Refused {
-            number: 5,
-            place: t.first,
-        };
-    }
-    Named::At(t.end)
-}
-
-// The refusal of a token, as that of a name.
-fn unnamed(got: Got) -> Named
-    ensures { λ r. ⌜ r ≡ unnamedBy got ⌝ }
-{
-    match got {
-        Got::Token(t) => Named::Refused {
-            number: 6,
-            place: t.first,
-        },
-        Got::Refused { number, place } => Named::Refused { number, place },
-    }
-}
-
-// The refusal of a name, as that of a value.
-fn nameless(named: Named) -> Read
-    ensures { λ r. ⌜ r ≡ namelessBy named ⌝ }
-{
-    match named {
-        Named::At(end) => Read::Refused {
-            number: 6,
-            place: end,
-        },
-        Named::Refused { number, place } => Read::Refused { number, place },
     }
 }
 

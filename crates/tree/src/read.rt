@@ -1,20 +1,18 @@
 // The reading: tests 1, 2 and 3 over the whole text, then the tokens from left to right, last the room.
 // A function with a `requires` is this crate's own: the text's length is tested before it is called.
-use crate::answer::Got;
-use crate::answer::Read;
-use crate::answer::get;
-use crate::answer::handed;
-use crate::begin::DEPTH;
-use crate::level::Leveled;
-use crate::level::level_of;
 use crate::value::value;
+use begin::level::Leveled;
+use begin::level::level_of;
 use lexicon::Encoding;
-use lexicon::Next;
+use look::answer::Got;
+use look::answer::Read;
+use look::answer::get;
+use look::answer::handed;
+use look::end::ended;
 use moves::Forms;
 use reading::Answer;
 use reading::Limits;
 use reading::Rules;
-use token::next::next;
 use token::whole::front;
 use token::whole::utf8;
 ghost use mathlib.Core.Path.{_≡_};
@@ -23,13 +21,13 @@ ghost use lib.ListN.{length};
 ghost use Rattle.reading.specs.Sizes.{base, room as roomOf};
 ghost use Rattle.reading.specs.Answers.{Answers, answer};
 ghost use Rattle.tree.specs.Readers.{widest};
-ghost use Rattle.tree.specs.Whole.{Followed, Behind, Judged, Told, beyondBy, refusal};
+ghost use Rattle.tree.specs.Whole.{Judged, Told, refusal};
 
 // The sizes of document 01.
 const RULES: Rules = Rules {
     text: 32768,
     nodes: 1024,
-    limits: Limits { depth: DEPTH },
+    limits: Limits { depth: 32 },
 };
 
 const WORDS: usize = 6;
@@ -55,41 +53,16 @@ fn room(rules: Rules, words: usize) -> usize
     rules.nodes
 }
 
-// Behind the value of a text stands nothing but the end.
-fn ended(text: &[u8], at: usize, read: Read) -> Read
-    ensures { λ r. ⌜ Behind (now (text .entry)) at read r ⌝ }
-{
-    let then = next(text, at);
-    let Next::End(_) = then else {
-        return beyond(then);
-    };
-    read
-}
-
-// What stands behind the value of a text, if not the end, is refused.
-fn beyond(then: Next) -> Read
-    ensures { λ r. ⌜ r ≡ beyondBy then ⌝ }
-{
-    match then {
-        Next::Token(t) => Read::Refused {
-            number: 6,
-            place: t.first,
-        },
-        Next::End(place) => Read::Refused { number: 6, place },
-        Next::NoToken(place) => Read::Refused { number: 4, place },
-    }
-}
-
 // The value of a text, whose nodes stand from the table's start on.
-fn whole(text: &[u8], forms: Forms, table: &mut [u32]) -> Read
+fn whole(text: &[u8], limits: Limits, forms: Forms, table: &mut [u32]) -> Read
     requires { ⌜ length (now text) ≤ widest ⌝ }
-    ensures { λ r. ⌜ Judged (now (text .entry)) forms (now (table .entry)) (now (table .exit)) r ⌝ }
+    ensures { λ r. ⌜ Judged (now (text .entry)) limits forms (now (table .entry)) (now (table .exit)) r ⌝ }
 {
     let got = get(text, front(text));
     let Got::Token(t) = got else {
         return handed(got);
     };
-    let read = value(text, forms, t, 0, table, 0, 0);
+    let read = value(text, limits, forms, t, 0, table, 0, 0);
     let Read::Value {
         end,
         nodes: _,
@@ -117,11 +90,11 @@ fn given(read: Read) -> Answer
 
 // The text is judged and its nodes counted before the lent table is written.
 fn tokens(rules: Rules, text: &[u8], forms: Forms, table: &mut [u32]) -> Answer
-    requires { ⌜ Followed rules × (length (now text) ≤ rules .text) ⌝ }
+    requires { ⌜ (rules .text ≤ widest) × (length (now text) ≤ rules .text) ⌝ }
     ensures { λ r. ⌜ Told (now (text .entry)) rules forms (now (table .entry)) (now (table .exit)) r ⌝ }
 {
     let mut none = [0; 0];
-    let judged = whole(text, forms, &mut none);
+    let judged = whole(text, rules.limits, forms, &mut none);
     let Read::Value {
         end: _,
         nodes,
@@ -137,7 +110,7 @@ fn tokens(rules: Rules, text: &[u8], forms: Forms, table: &mut [u32]) -> Answer
             count: nodes,
         };
     }
-    let _written = whole(text, forms, table);
+    let _written = whole(text, rules.limits, forms, table);
     Answer {
         number: 0,
         place: text.len(),
@@ -147,7 +120,7 @@ fn tokens(rules: Rules, text: &[u8], forms: Forms, table: &mut [u32]) -> Answer
 
 // The reading of a text at a level, by rules that this reader can follow.
 fn reading(rules: Rules, number: u32, text: &[u8], table: &mut [u32]) -> Answer
-    requires { ⌜ Followed rules ⌝ }
+    requires { ⌜ rules .text ≤ widest ⌝ }
     ensures { λ r. ⌜ Answers rules (now (text .entry)) (now (table .entry)) number r (now (table .exit)) ⌝ }
 {
     let named = level_of(number);

@@ -1,26 +1,27 @@
 // A value holds members and a member holds values: the readers call each other, and bytes are left fewer at each call.
 // A function with a `requires` is this crate's own: the numbers that it asks for hold in every text that is read.
-use crate::answer::Got;
-use crate::answer::Read;
-use crate::answer::get;
-use crate::answer::handed;
-use crate::begin::Begin;
-use crate::begin::begins;
 use crate::bracket::State;
 use crate::bracket::Turn;
 use crate::bracket::entering;
 use crate::bracket::take;
 use crate::leaf::leaf;
 use crate::leaf::names;
-use crate::sign::begins_value;
-use crate::sign::is_close;
+use begin::Begin;
+use begin::begins;
+use begin::sign::begins_value;
+use begin::sign::is_close;
 use lexicon::Token;
+use look::answer::Got;
+use look::answer::Read;
+use look::answer::get;
+use look::answer::handed;
 use moves::Forms;
 use moves::Frame;
 use moves::Mode;
 use moves::Move;
 use moves::RoundFrame;
 use moves::Shape;
+use reading::Limits;
 use step::step::step;
 use table::raise;
 ghost use mathlib.Core.Path.{_≡_};
@@ -30,13 +31,15 @@ ghost use lib.ListN.{length};
 ghost use Rattle.lexicon.specs.declared.Next.the-variants as Next;
 ghost use Rattle.lexicon.specs.Token.{Comes};
 ghost use Rattle.grammar.specs.Tokens.{classKind};
-ghost use Rattle.tree.specs.Looks.{Gets, noMark};
+ghost use Rattle.look.specs.Looks.{Gets};
+ghost use Rattle.begin.specs.Signs.{noMark};
 ghost use Rattle.tree.specs.Readers.{widest, Fit, Inner, Reads, Rounded, Bracketed, Member, Bore};
 ghost use Rattle.tree.specs.Turning.{Narrow};
 
 // The value that the token t begins, at a place for a value; its nodes stand from the index on, under the parent.
 pub(crate) fn value(
     text: &[u8],
+    limits: Limits,
     forms: Forms,
     t: Token,
     depth: usize,
@@ -45,16 +48,16 @@ pub(crate) fn value(
     parent: usize,
 ) -> Read
     requires { ⌜ Fit (now text) t index parent × (depth ≤ t .first) ⌝ }
-    ensures { λ r. ⌜ Reads (now (text .entry)) forms depth t (now (table .entry)) (now (table .exit)) index parent r ⌝ }
+    ensures { λ r. ⌜ Reads (now (text .entry)) limits forms depth t (now (table .entry)) (now (table .exit)) index parent r ⌝ }
 {
-    let begun = begins(text, forms, t, depth);
+    let begun = begins(text, limits, forms, t, depth);
     match begun {
         Begin::Literal => leaf(t, table, index, parent),
         Begin::Names => names(text, t, table, index, parent),
-        Begin::Round(first) => round(text, forms, t, first, depth, table, index, parent),
+        Begin::Round(first) => round(text, limits, forms, t, first, depth, table, index, parent),
         Begin::Bracket { mode, at } => {
             let entered = entering(mode, at, depth, index);
-            bracket(text, forms, t, entered, table, index, parent)
+            bracket(text, limits, forms, t, entered, table, index, parent)
         }
         Begin::Refused { number, place } => Read::Refused { number, place },
     }
@@ -63,6 +66,7 @@ pub(crate) fn value(
 // Behind `(` without a head.
 fn round(
     text: &[u8],
+    limits: Limits,
     forms: Forms,
     opener: Token,
     first: Got,
@@ -72,14 +76,14 @@ fn round(
     parent: usize,
 ) -> Read
     requires { ⌜ Fit (now text) opener index parent × (depth ≤ opener .first) × Gets (now text) (opener .end) first ⌝ }
-    ensures { λ r. ⌜ Rounded (now (text .entry)) forms depth opener (now (table .entry)) (now (table .exit)) index parent r ⌝ }
+    ensures { λ r. ⌜ Rounded (now (text .entry)) limits forms depth opener (now (table .entry)) (now (table .exit)) index parent r ⌝ }
 {
     let Got::Token(t) = first else {
         return handed(first);
     };
     let kind = t.kind;
     if begins_value(kind) {
-        return first_value(text, forms, opener, t, depth, table, index, parent);
+        return first_value(text, limits, forms, opener, t, depth, table, index, parent);
     }
     let entered = entering(
         Mode::Want(Frame::Round(RoundFrame::Opened)),
@@ -87,13 +91,14 @@ fn round(
         depth,
         index,
     );
-    bracket(text, forms, opener, entered, table, index, parent)
+    bracket(text, limits, forms, opener, entered, table, index, parent)
 }
 
 // The first value behind `(`. A group makes no node, so the value is written as if it stood in one; where it does not, its nodes are moved
 // up by one for the bracket's own.
 fn first_value(
     text: &[u8],
+    limits: Limits,
     forms: Forms,
     opener: Token,
     t: Token,
@@ -103,9 +108,9 @@ fn first_value(
     parent: usize,
 ) -> Read
     requires { ⌜ Fit (now text) opener index parent × (depth ≤ opener .first) × Comes (now text) (opener .end) (Next.Token t) × (noMark (classKind (t .kind)) ≡ true) ⌝ }
-    ensures { λ r. ⌜ Rounded (now (text .entry)) forms depth opener (now (table .entry)) (now (table .exit)) index parent r ⌝ }
+    ensures { λ r. ⌜ Rounded (now (text .entry)) limits forms depth opener (now (table .entry)) (now (table .exit)) index parent r ⌝ }
 {
-    let read = value(text, forms, t, depth + 1, table, index, parent);
+    let read = value(text, limits, forms, t, depth + 1, table, index, parent);
     let Read::Value { end, nodes, shape } = read else {
         return read;
     };
@@ -132,12 +137,13 @@ fn first_value(
         nodes,
         last: index + 1,
     };
-    bracket(text, forms, opener, behind, table, index, parent)
+    bracket(text, limits, forms, opener, behind, table, index, parent)
 }
 
 // What stands in a bracket from where it is entered, up to and with its end.
 fn bracket(
     text: &[u8],
+    limits: Limits,
     forms: Forms,
     opener: Token,
     entered: State,
@@ -146,11 +152,11 @@ fn bracket(
     parent: usize,
 ) -> Read
     requires { ⌜ Inner (now text) opener entered index parent ⌝ }
-    ensures { λ r. ⌜ Bracketed (now (text .entry)) forms opener entered (now (table .entry)) (now (table .exit)) index parent r ⌝ }
+    ensures { λ r. ⌜ Bracketed (now (text .entry)) limits forms opener entered (now (table .entry)) (now (table .exit)) index parent r ⌝ }
 {
     let mut state = entered;
     loop {
-        let turn = member(text, forms, opener, state, table, index, parent);
+        let turn = member(text, limits, forms, opener, state, table, index, parent);
         match turn {
             Turn::On(next) => {
                 state = next;
@@ -165,6 +171,7 @@ fn bracket(
 // One value or one sign of a bracket.
 fn member(
     text: &[u8],
+    limits: Limits,
     forms: Forms,
     opener: Token,
     s: State,
@@ -173,7 +180,7 @@ fn member(
     parent: usize,
 ) -> Turn
     requires { ⌜ Inner (now text) opener s index parent ⌝ }
-    ensures { λ r. ⌜ Member (now (text .entry)) forms opener s (now (table .entry)) (now (table .exit)) index parent r ⌝ }
+    ensures { λ r. ⌜ Member (now (text .entry)) limits forms opener s (now (table .entry)) (now (table .exit)) index parent r ⌝ }
 {
     let got = get(text, s.at);
     let Got::Token(t) = got else {
@@ -183,14 +190,15 @@ fn member(
     let kind = t.kind;
     let taken = step(forms, mode, kind);
     let Move::Value(frame) = taken else {
-        return take(opener, s, t, taken, table, index, parent);
+        return take(limits, opener, s, t, taken, table, index, parent);
     };
-    child(text, forms, s, frame, t, table, index)
+    child(text, limits, forms, s, frame, t, table, index)
 }
 
 // A value in a bracket: its role is told by what stands behind it.
 fn child(
     text: &[u8],
+    limits: Limits,
     forms: Forms,
     s: State,
     frame: Frame,
@@ -199,10 +207,10 @@ fn child(
     index: usize,
 ) -> Turn
     requires { ⌜ Narrow s t index × (s .deep ≤ s .at) × (t .end ≤ length (now text)) × (length (now text) ≤ widest) ⌝ }
-    ensures { λ r. ⌜ Bore (now (text .entry)) forms s t frame (now (table .entry)) (now (table .exit)) index r ⌝ }
+    ensures { λ r. ⌜ Bore (now (text .entry)) limits forms s t frame (now (table .entry)) (now (table .exit)) index r ⌝ }
 {
     let last = index + 1 + s.nodes;
-    let read = value(text, forms, t, s.deep, table, last, index);
+    let read = value(text, limits, forms, t, s.deep, table, last, index);
     let Read::Value { end, nodes, shape } = read else {
         return Turn::Ended(read);
     };

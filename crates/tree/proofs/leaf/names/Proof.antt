@@ -3,7 +3,8 @@ use mathlib.Core.Path.{_≡_, refl}
 use Prim.Native.Nat.{_-_}
 use native.Mathlib.Omega.{arith}
 use lib.ListN.{length}
-use Rattle.tree.proofs.Nestings.{Behind, name-here, colons-here, no-colons-here, behind-first, behind-next, name-bounds, nesting-read, nameless-read}
+use Rattle.look.proofs.Naming.{name-here, colons-here, no-colons-here, name-bounds}
+use Rattle.tree.proofs.Nestings.{Behind, behind-first, behind-next, nesting-read, nameless-read}
 use borrow.Author.Needs.{needs}
 use Rattle.tree.proofs.leaf.names.Statement.{statement}
 use Rattle.tree.proofs.leaf.names.Tie as tie

@@ -1,12 +1,11 @@
 -- `tree::read::read` meets its contract: it is the reading by the rules of 01. Assumes nothing.
-use mathlib.Core.Path.{refl}
 use borrow.Author.Needs.{needs}
 use native.Mathlib.Omega.{arith}
 use Rattle.tree.proofs.read.read.Statement.{statement}
 use Rattle.tree.proofs.read.read.Tie as tie
 
 reading-requires : tie.Need-reading-requires
-reading-requires c κs = record { narrow = omega arith; same-limits = refl }
+reading-requires c κs = omega arith
 
 same-length : tie.Need-same-length
 same-length c = search needs

@@ -20,13 +20,13 @@ given-requires : tie.Need-given-requires
 given-requires c κs = search needs
 
 returns : tie.Need-returns
-returns c = told-refused _ _ (c .before .before .before .before .before .before .before .before .pre .0) (c .before .before .before .before .before .before .before .before .pre .1) (c .before .before .before .before .whole .result) (c .before .before .before .before .whole .ensures) (c .before .enum-told .given .1) (c .given .ensures)
+returns c = told-refused _ _ _ _ (c .before .before .before .before .before .before .before .before .pre .1) (c .before .before .before .before .whole .result) (c .before .before .before .before .whole .ensures) (c .before .enum-told .given .1) (c .given .ensures)
 
 room-requires : tie.Need-room-requires
 room-requires c κs = search needs
 
 returns-2 : tie.Need-returns-2
-returns-2 c = told-full _ _ (c .before .before .before .before .before .before .whole .result) (c .before .before .before .before .before .before .whole .ensures) (c .before .before .before .judged .given .1) (c .before .before .before .before .before .before .before .before .before .before .pre .0) (c .before .before .before .before .before .before .before .before .before .before .pre .1) (c .before .room .ensures) (c .if1 .taken)
+returns-2 c = told-full _ _ _ _ (c .before .before .before .before .before .before .before .before .before .before .pre .1) (c .before .before .before .before .before .before .whole .result) (c .before .before .before .before .before .before .whole .ensures) (c .before .before .before .judged .given .1) (c .before .room .ensures) (c .if1 .taken)
 
 whole-requires-2 : tie.Need-whole-requires-2
 whole-requires-2 c κs = search needs
@@ -35,7 +35,7 @@ same-length : tie.Need-same-length
 same-length c = search needs
 
 returns-3 : tie.Need-returns-3
-returns-3 c = told-written _ _ (c .before .before .before .before .before .before .before .before .before .before .whole .result) (c .before .before .before .before .before .before .before .before .before .before .whole .ensures) (c .before .before .before .before .before .before .before .judged .given .1) (c .before .before .before .before .before .before .before .before .before .before .before .before .before .before .pre .0) (c .before .before .before .before .before .before .before .before .before .before .before .before .before .before .pre .1) (c .before .before .whole2 .result) (c .before .before .before .before .before .room .ensures) (c .before .before .before .before .if1 .left) (c .before .before .whole2 .ensures)
+returns-3 c = told-written _ _ _ _ (c .before .before .before .before .before .before .before .before .before .before .before .before .before .before .pre .1) (c .before .before .before .before .before .before .before .before .before .before .whole .result) (c .before .before .before .before .before .before .before .before .before .before .whole .ensures) (c .before .before .before .before .before .before .before .judged .given .1) (c .before .before .whole2 .result) (c .before .before .before .before .before .room .ensures) (c .before .before .before .before .if1 .left) (c .before .before .whole2 .ensures)
 
 pub tokens-spec : {M : Type 1} → statement M
 tokens-spec =

@@ -5,8 +5,8 @@ use lib.ListN.{length}
 use mathlib.Core.Path.{sym, _∙_}
 use native.Mathlib.Omega.{arith}
 use borrow.Author.Needs.{needs}
-use Rattle.tree.proofs.Bounds.{token-bounds}
-use Rattle.tree.proofs.Looking.{got-token}
+use Rattle.look.proofs.Bounds.{token-bounds}
+use Rattle.look.proofs.Looking.{got-token}
 use Rattle.tree.proofs.Readings.{leftAt, rank-falls, byte-falls, inner-fit, fit-slim, enters-at, start-inner, first-inner, begin-from, begin-got, turn-narrow, turn-outer, child-fit, signs-told, value-sized, value-leaf, value-names, value-round, value-bracket, value-refused, round-missing, round-bracket, first-refused, first-open, first-group, first-bracket, child-refused, child-on, member-missing, member-taken, member-child, Going, going-starts, going-less, going-on, going-ends}
 use borrow.Fn.Kinds.{In}
 use borrow.Fn.PlainCycle.{Measures, is, falls, and}
@@ -30,35 +30,35 @@ use Rattle.tree.proofs.value.value.Kinds as value-kinds
 use Rattle.tree.proofs.value.+bracket+child+first_value+member+round+value.Lts-value as value-lts
 use Rattle.step.proofs.step.step.Reads as step-reads
 use Rattle.table.proofs.raise.Reads as raise-reads
-use Rattle.tree.proofs.answer.get.Reads as get-reads
-use Rattle.tree.proofs.answer.handed.Reads as handed-reads
-use Rattle.tree.proofs.begin.begins.Reads as begins-reads
+use Rattle.look.proofs.answer.get.Reads as get-reads
+use Rattle.look.proofs.answer.handed.Reads as handed-reads
+use Rattle.begin.proofs.begins.Reads as begins-reads
 use Rattle.tree.proofs.bracket.entering.Reads as entering-reads
 use Rattle.tree.proofs.bracket.take.Reads as take-reads
 use Rattle.tree.proofs.leaf.leaf.Reads as leaf-reads
 use Rattle.tree.proofs.leaf.names.Reads as names-reads
-use Rattle.tree.proofs.sign.begins_value.Reads as begins-value-reads
-use Rattle.tree.proofs.sign.is_close.Reads as is-close-reads
+use Rattle.begin.proofs.sign.begins_value.Reads as begins-value-reads
+use Rattle.begin.proofs.sign.is_close.Reads as is-close-reads
 use Rattle.tree.proofs.value.+bracket+child+first_value+member+round+value.{statement}
 use Rattle.tree.proofs.value.+bracket+child+first_value+member+round+value.Tie.{close}
 
 abbrev μ-bracket : Measures 2 bracket-kinds.ps ℕ
-μ-bracket κs a = leftAt (a .0 .now) (a .1 .1 .1 .0 .at) 3
+μ-bracket κs a = leftAt (a .0 .now) (a .1 .1 .1 .1 .0 .at) 3
 
 abbrev μ-child : Measures 2 child-kinds.ps ℕ
-μ-child κs a = leftAt (a .0 .now) (a .1 .1 .1 .1 .0 .end) 6
+μ-child κs a = leftAt (a .0 .now) (a .1 .1 .1 .1 .1 .0 .end) 6
 
 abbrev μ-first-value : Measures 2 first-value-kinds.ps ℕ
-μ-first-value κs a = leftAt (a .0 .now) (a .1 .1 .0 .end) 3
+μ-first-value κs a = leftAt (a .0 .now) (a .1 .1 .1 .0 .end) 3
 
 abbrev μ-member : Measures 2 member-kinds.ps ℕ
-μ-member κs a = leftAt (a .0 .now) (a .1 .1 .1 .0 .at) 2
+μ-member κs a = leftAt (a .0 .now) (a .1 .1 .1 .1 .0 .at) 2
 
 abbrev μ-round : Measures 2 round-kinds.ps ℕ
-μ-round κs a = leftAt (a .0 .now) (a .1 .1 .0 .end) 4
+μ-round κs a = leftAt (a .0 .now) (a .1 .1 .1 .0 .end) 4
 
 abbrev μ-value : Measures 2 value-kinds.ps ℕ
-μ-value κs a = leftAt (a .0 .now) (a .1 .1 .0 .end) 5
+μ-value κs a = leftAt (a .0 .now) (a .1 .1 .1 .0 .end) 5
 
 abbrev bracket-at : ℕ → In 2 bracket-kinds.ps
 bracket-at t = and 2 bracket-kinds.ps (is 2 bracket-kinds.ps μ-bracket t) bracket.Pre
@@ -99,10 +99,10 @@ abbrev value-below : ℕ → In 2 value-kinds.ps
 value-below t = and 2 value-kinds.ps (falls 2 value-kinds.ps _<_ μ-value t) value.Pre
 
 abbrev bracket-Inv-loop : bracket-lts.InvT-loop
-bracket-Inv-loop text forms opener table₀ index parent state₀ table state = Going text forms opener table₀ index parent state₀ table state
+bracket-Inv-loop text limits forms opener table₀ index parent state₀ table state = Going text limits forms opener table₀ index parent state₀ table state
 
 abbrev bracket-μ-loop : bracket-lts.MeasureT-loop
-bracket-μ-loop text forms opener table₀ index parent state₀ table state = length text - state .at
+bracket-μ-loop text limits forms opener table₀ index parent state₀ table state = length text - state .at
 
 bracket-loop-holds :
     (t : ℕ) →
@@ -152,7 +152,7 @@ bracket-loop-again :
     bracket.Post
     bracket-Inv-loop
     bracket-μ-loop
-bracket-loop-again t c = going-on (c .before .before .before .before .before .before .before .loop .inv) (c .before .before .before .before .before .member .result) (c .before .before .before .before .before .member .ensures) (c .before .turn .given .1) (c .before .before .before .before .before .member .kept .1 .1 .1 .1 .0)
+bracket-loop-again t c = going-on (c .before .before .before .before .before .before .before .loop .inv) (c .before .before .before .before .before .member .result) (c .before .before .before .before .before .member .ensures) (c .before .turn .given .1) (c .before .before .before .before .before .member .kept .1 .1 .1 .1 .1 .0)
 
 bracket-enum-known-turn-2 : (t : ℕ) → bracket-lts.Need-enum-known-turn-2 (
   member-below t,
@@ -206,11 +206,11 @@ child-same-length t c = search needs
 
 child-returns :
     (t : ℕ) → child-lts.Need-returns (value-below t, value.Post) (child-at t) child.Post
-child-returns t c = child-refused _ _ (c .before .before .before .before .value .result) (c .before .before .before .before .value .ensures) (c .enum-told .given .1)
+child-returns t c = child-refused _ _ _ (c .before .before .before .before .value .result) (c .before .before .before .before .value .ensures) (c .enum-told .given .1)
 
-child-add-t13 :
-    (t : ℕ) → child-lts.Need-add-t13 (value-below t, value.Post) (child-at t) child.Post
-child-add-t13 t c = let v = value-sized _ _ (c .before .before .before .before .before .before .value .ensures) (c .before .before .read .given .1) in record { fits = omega (arith, v .0, v .2, c .before .before .before .before .before .before .before .before .before .before .before .pre .1 .0 .after, c .before .before .before .before .before .before .before .before .before .before .before .pre .1 .0 .token-after, c .before .before .before .before .before .before .before .before .before .before .before .pre .1 .3) }
+child-add-t14 :
+    (t : ℕ) → child-lts.Need-add-t14 (value-below t, value.Post) (child-at t) child.Post
+child-add-t14 t c = let v = value-sized _ _ _ (c .before .before .before .before .before .before .value .ensures) (c .before .before .read .given .1) in record { fits = omega (arith, v .0, v .2, c .before .before .before .before .before .before .before .before .before .before .before .pre .1 .0 .after, c .before .before .before .before .before .before .before .before .before .before .before .pre .1 .0 .token-after, c .before .before .before .before .before .before .before .before .before .before .before .pre .1 .3) }
 
 child-same-length-2 :
     (t : ℕ) → child-lts.Need-same-length-2 (value-below t, value.Post) (child-at t) child.Post
@@ -218,7 +218,7 @@ child-same-length-2 t c = search needs
 
 child-returns-2 :
     (t : ℕ) → child-lts.Need-returns-2 (value-below t, value.Post) (child-at t) child.Post
-child-returns-2 t c = child-on _ _ (c .before .before .before .before .before .before .value .result) (c .before .before .before .before .before .before .value .ensures) (c .before .before .read .given .1) (c .before .before .before .before .before .before .value .kept .1 .1 .1 .1 .0)
+child-returns-2 t c = child-on _ _ _ (c .before .before .before .before .before .before .value .result) (c .before .before .before .before .before .before .value .ensures) (c .before .before .read .given .1) (c .before .before .before .before .before .before .value .kept .1 .1 .1 .1 .1 .0)
 
 first-value-add-value : (t : ℕ) → first-value-lts.Need-add-value (
   value-below t,
@@ -314,7 +314,7 @@ first-value-returns : (t : ℕ) → first-value-lts.Need-returns (
   bracket-below t,
   bracket.Post,
 ) (first-value-at t) first-value.Post
-first-value-returns t c = first-refused _ _ _ _ _ _ _ (c .before .before .before .before .before .before .before .before .pre .1 .2) (c .before .before .before .before .before .before .before .before .pre .1 .3) (c .before .before .before .before .value .result) (c .before .before .before .before .value .ensures) (c .enum-told .given .1)
+first-value-returns t c = first-refused _ _ _ _ _ _ _ _ (c .before .before .before .before .before .before .before .before .pre .1 .2) (c .before .before .before .before .before .before .before .before .pre .1 .3) (c .before .before .before .before .value .result) (c .before .before .before .before .value .ensures) (c .enum-told .given .1)
 
 first-value-get-requires : (t : ℕ) → first-value-lts.Need-get-requires (
   value-below t,
@@ -410,7 +410,7 @@ first-value-returns-2 : (t : ℕ) → first-value-lts.Need-returns-2 (
   bracket-below t,
   bracket.Post,
 ) (first-value-at t) first-value.Post
-first-value-returns-2 t c = first-open _ _ _ _ _ _ _ (c .before .before .before .before .before .before .before .before .before .before .before .before .before .pre .1 .2) (c .before .before .before .before .before .before .before .before .before .before .before .before .before .pre .1 .3) (c .before .before .before .before .before .before .before .before .before .value .result) (c .before .before .before .before .before .before .before .before .before .value .ensures) (c .before .before .before .before .before .read .given .1) (c .before .before .before .get .result) (c .before .before .before .get .ensures) (c .handed .result) (c .before .enum-told2 .given .1) (c .handed .ensures)
+first-value-returns-2 t c = first-open _ _ _ _ _ _ _ _ (c .before .before .before .before .before .before .before .before .before .before .before .before .before .pre .1 .2) (c .before .before .before .before .before .before .before .before .before .before .before .before .before .pre .1 .3) (c .before .before .before .before .before .before .before .before .before .value .result) (c .before .before .before .before .before .before .before .before .before .value .ensures) (c .before .before .before .before .before .read .given .1) (c .before .before .before .get .result) (c .before .before .before .get .ensures) (c .handed .result) (c .before .enum-told2 .given .1) (c .handed .ensures)
 
 first-value-is-close-requires : (t : ℕ) → first-value-lts.Need-is-close-requires (
   value-below t,
@@ -458,7 +458,7 @@ first-value-returns-3 : (t : ℕ) → first-value-lts.Need-returns-3 (
   bracket-below t,
   bracket.Post,
 ) (first-value-at t) first-value.Post
-first-value-returns-3 t c = first-group _ _ _ _ _ _ _ (c .before .before .before .before .before .before .before .before .before .before .before .before .before .before .before .pre .1 .2) (c .before .before .before .before .before .before .before .before .before .before .before .before .before .before .before .pre .1 .3) (c .before .before .before .before .before .before .before .before .before .before .before .value .result) (c .before .before .before .before .before .before .before .before .before .before .before .value .ensures) (c .before .before .before .before .before .before .before .read .given .1) (c .before .before .before .before .before .get .result) (c .before .before .before .before .before .get .ensures) (c .before .before .before .before .before .before .before .before .before .before .before .before .before .before .before .pre .1 .0 .some-byte) (c .before .before .before .then .given .1) (sym (c .before .is-close .ensures) ∙ c .if1 .taken)
+first-value-returns-3 t c = first-group _ _ _ _ _ _ _ _ (c .before .before .before .before .before .before .before .before .before .before .before .before .before .before .before .pre .1 .2) (c .before .before .before .before .before .before .before .before .before .before .before .before .before .before .before .pre .1 .3) (c .before .before .before .before .before .before .before .before .before .before .before .value .result) (c .before .before .before .before .before .before .before .before .before .before .before .value .ensures) (c .before .before .before .before .before .before .before .read .given .1) (c .before .before .before .before .before .get .result) (c .before .before .before .before .before .get .ensures) (c .before .before .before .before .before .before .before .before .before .before .before .before .before .before .before .pre .1 .0 .some-byte) (c .before .before .before .then .given .1) (sym (c .before .is-close .ensures) ∙ c .if1 .taken)
 
 first-value-raise-requires : (t : ℕ) → first-value-lts.Need-raise-requires (
   value-below t,
@@ -476,7 +476,7 @@ first-value-raise-requires : (t : ℕ) → first-value-lts.Need-raise-requires (
 ) (first-value-at t) first-value.Post
 first-value-raise-requires t c κs = search needs
 
-first-value-add-t17 : (t : ℕ) → first-value-lts.Need-add-t17 (
+first-value-add-t18 : (t : ℕ) → first-value-lts.Need-add-t18 (
   value-below t,
   value.Post,
   get-reads.Asked,
@@ -490,9 +490,9 @@ first-value-add-t17 : (t : ℕ) → first-value-lts.Need-add-t17 (
   bracket-below t,
   bracket.Post,
 ) (first-value-at t) first-value.Post
-first-value-add-t17 t c = let f = c .before .before .before .before .before .before .before .before .before .before .before .before .before .before .before .before .before .before .before .pre .1 .0 in record { fits = omega (arith, c .before .before .before .before .before .before .before .before .before .before .before .before .before .before .before .before .before .before .before .pre .1 .1, f .some-byte, f .inside-text, f .short) }
+first-value-add-t18 t c = let f = c .before .before .before .before .before .before .before .before .before .before .before .before .before .before .before .before .before .before .before .pre .1 .0 in record { fits = omega (arith, c .before .before .before .before .before .before .before .before .before .before .before .before .before .before .before .before .before .before .before .pre .1 .1, f .some-byte, f .inside-text, f .short) }
 
-first-value-add-t28 : (t : ℕ) → first-value-lts.Need-add-t28 (
+first-value-add-t29 : (t : ℕ) → first-value-lts.Need-add-t29 (
   value-below t,
   value.Post,
   get-reads.Asked,
@@ -506,7 +506,7 @@ first-value-add-t28 : (t : ℕ) → first-value-lts.Need-add-t28 (
   bracket-below t,
   bracket.Post,
 ) (first-value-at t) first-value.Post
-first-value-add-t28 t c = let f = c .before .before .before .before .before .before .before .before .before .before .before .before .before .before .before .before .before .before .before .pre .1 .0 in record { fits = omega (arith, f .index-fits, f .some-byte, f .inside-text, f .short) }
+first-value-add-t29 t c = let f = c .before .before .before .before .before .before .before .before .before .before .before .before .before .before .before .before .before .before .before .pre .1 .0 in record { fits = omega (arith, f .index-fits, f .some-byte, f .inside-text, f .short) }
 
 first-value-bracket-requires : (t : ℕ) → first-value-lts.Need-bracket-requires (
   value-below t,
@@ -522,7 +522,7 @@ first-value-bracket-requires : (t : ℕ) → first-value-lts.Need-bracket-requir
   bracket-below t,
   bracket.Post,
 ) (first-value-at t) first-value.Post
-first-value-bracket-requires t c κs = let k = c .before .before .before .before .before .before .before .before .before .before .before .before .before .before .before .before .before .before .before .before .pre .1 .2 in let y = token-bounds _ k in let v = value-sized _ _ (c .before .before .before .before .before .before .before .before .before .before .before .before .before .before .before .before .value .ensures) (c .before .before .before .before .before .before .before .before .before .before .before .before .read .given .1) in (byte-falls (c .before .before .before .before .before .before .before .before .before .before .before .before .before .before .before .before .before .before .before .before .args .text .now) 3 (c .before .before .before .before .before .before .before .before .before .before .before .before .before .before .before .before .before .before .before .before .pre .0) (omega (arith, y .0, y .1, v .1)) (v .2) (omega arith), first-inner (c .before .before .before .before .before .before .before .before .before .before .before .before .before .before .before .before .before .before .before .before .pre .1 .0) (c .before .before .before .before .before .before .before .before .before .before .before .before .before .before .before .before .before .before .before .before .pre .1 .1) k v)
+first-value-bracket-requires t c κs = let k = c .before .before .before .before .before .before .before .before .before .before .before .before .before .before .before .before .before .before .before .before .pre .1 .2 in let y = token-bounds _ k in let v = value-sized _ _ _ (c .before .before .before .before .before .before .before .before .before .before .before .before .before .before .before .before .value .ensures) (c .before .before .before .before .before .before .before .before .before .before .before .before .read .given .1) in (byte-falls (c .before .before .before .before .before .before .before .before .before .before .before .before .before .before .before .before .before .before .before .before .args .text .now) 3 (c .before .before .before .before .before .before .before .before .before .before .before .before .before .before .before .before .before .before .before .before .pre .0) (omega (arith, y .0, y .1, v .1)) (v .2) (omega arith), first-inner (c .before .before .before .before .before .before .before .before .before .before .before .before .before .before .before .before .before .before .before .before .pre .1 .0) (c .before .before .before .before .before .before .before .before .before .before .before .before .before .before .before .before .before .before .before .before .pre .1 .1) k v)
 
 first-value-same-length-4 : (t : ℕ) → first-value-lts.Need-same-length-4 (
   value-below t,
@@ -554,7 +554,7 @@ first-value-returns-4 : (t : ℕ) → first-value-lts.Need-returns-4 (
   bracket-below t,
   bracket.Post,
 ) (first-value-at t) first-value.Post
-first-value-returns-4 t c = first-bracket _ _ _ _ _ _ _ (c .before .before .before .before .before .before .before .before .before .before .before .before .before .before .before .before .before .before .before .before .before .before .before .pre .1 .2) (c .before .before .before .before .before .before .before .before .before .before .before .before .before .before .before .before .before .before .before .before .before .before .before .pre .1 .3) (c .before .before .before .before .before .before .before .before .before .before .before .before .before .before .before .before .before .before .before .value .result) (c .before .before .before .before .before .before .before .before .before .before .before .before .before .before .before .before .before .before .before .value .ensures) (c .before .before .before .before .before .before .before .before .before .before .before .before .before .before .before .read .given .1) (c .before .before .before .before .before .before .before .before .before .before .before .before .before .get .result) (c .before .before .before .before .before .before .before .before .before .before .before .before .before .get .ensures) (c .before .before .bracket .result) (c .before .before .before .before .before .before .before .before .before .before .before .before .before .before .before .before .before .before .before .before .before .before .before .pre .1 .0) (c .before .before .before .before .before .before .before .before .before .before .before .then .given .1) (sym (c .before .before .before .before .before .before .before .before .before .is-close .ensures) ∙ c .before .before .before .before .before .before .before .before .if1 .left) (c .before .before .before .before .before .before .before .before .before .before .before .before .before .before .before .before .before .before .before .value .kept .1 .1 .1 .1 .0) (c .before .before .before .before .before .before .raise .ensures) (c .before .before .bracket .ensures)
+first-value-returns-4 t c = first-bracket _ _ _ _ _ _ _ _ (c .before .before .before .before .before .before .before .before .before .before .before .before .before .before .before .before .before .before .before .before .before .before .before .pre .1 .2) (c .before .before .before .before .before .before .before .before .before .before .before .before .before .before .before .before .before .before .before .before .before .before .before .pre .1 .3) (c .before .before .before .before .before .before .before .before .before .before .before .before .before .before .before .before .before .before .before .value .result) (c .before .before .before .before .before .before .before .before .before .before .before .before .before .before .before .before .before .before .before .value .ensures) (c .before .before .before .before .before .before .before .before .before .before .before .before .before .before .before .read .given .1) (c .before .before .before .before .before .before .before .before .before .before .before .before .before .get .result) (c .before .before .before .before .before .before .before .before .before .before .before .before .before .get .ensures) (c .before .before .bracket .result) (c .before .before .before .before .before .before .before .before .before .before .before .before .before .before .before .before .before .before .before .before .before .before .before .pre .1 .0) (c .before .before .before .before .before .before .before .before .before .before .before .then .given .1) (sym (c .before .before .before .before .before .before .before .before .before .is-close .ensures) ∙ c .before .before .before .before .before .before .before .before .if1 .left) (c .before .before .before .before .before .before .before .before .before .before .before .before .before .before .before .before .before .before .before .value .kept .1 .1 .1 .1 .1 .0) (c .before .before .before .before .before .before .raise .ensures) (c .before .before .bracket .ensures)
 
 member-get-requires : (t : ℕ) → member-lts.Need-get-requires (
   get-reads.Asked,
@@ -624,7 +624,7 @@ member-returns : (t : ℕ) → member-lts.Need-returns (
   child-below t,
   child.Post,
 ) (member-at t) member.Post
-member-returns t c = member-missing _ _ (c .before .before .before .before .before .before .pre .1) (c .before .before .before .get .result) (c .before .before .before .get .ensures) (c .handed .result) (c .before .enum-told .given .1) (c .handed .ensures)
+member-returns t c = member-missing _ _ _ (c .before .before .before .before .before .before .pre .1) (c .before .before .before .get .result) (c .before .before .before .get .ensures) (c .handed .result) (c .before .enum-told .given .1) (c .handed .ensures)
 
 member-step-requires : (t : ℕ) → member-lts.Need-step-requires (
   get-reads.Asked,
@@ -694,7 +694,7 @@ member-returns-2 : (t : ℕ) → member-lts.Need-returns-2 (
   child-below t,
   child.Post,
 ) (member-at t) member.Post
-member-returns-2 t c = member-taken _ _ (c .before .before .before .before .before .before .before .before .before .before .before .before .pre .1) (c .before .before .before .before .before .before .before .before .before .get .result) (c .before .before .before .before .before .before .before .before .before .get .ensures) (c .before .before .before .before .before .before .before .got .given .1) (c .before .before .before .before .before .step .ensures) (c .before .before .take .result) (c .before .before .take .ensures .0) (c .before .before .take .ensures .1) (signs-told (c .before .before .before .before .before .step .result) (c .before .before .before .before .match2 .keys2))
+member-returns-2 t c = member-taken _ _ _ (c .before .before .before .before .before .before .before .before .before .before .before .before .pre .1) (c .before .before .before .before .before .before .before .before .before .get .result) (c .before .before .before .before .before .before .before .before .before .get .ensures) (c .before .before .before .before .before .before .before .got .given .1) (c .before .before .before .before .before .step .ensures) (c .before .before .take .result) (c .before .before .take .ensures .0) (c .before .before .take .ensures .1) (signs-told (c .before .before .before .before .before .step .result) (c .before .before .before .before .match2 .keys2))
 
 member-child-requires : (t : ℕ) → member-lts.Need-child-requires (
   get-reads.Asked,
@@ -736,7 +736,7 @@ member-returns-3 : (t : ℕ) → member-lts.Need-returns-3 (
   child-below t,
   child.Post,
 ) (member-at t) member.Post
-member-returns-3 t c = member-child _ _ (c .before .before .before .before .before .before .before .before .before .before .before .before .before .before .pre .1) (c .before .before .before .before .before .before .before .before .before .before .before .get .result) (c .before .before .before .before .before .before .before .before .before .before .before .get .ensures) (c .before .before .before .before .before .before .before .before .before .got .given .1) (c .before .before .before .before .before .before .before .step .ensures) (c .before .before .child .result) (c .before .before .before .before .before .taken .given .1) (c .before .before .child .ensures)
+member-returns-3 t c = member-child _ _ _ (c .before .before .before .before .before .before .before .before .before .before .before .before .before .before .pre .1) (c .before .before .before .before .before .before .before .before .before .before .before .get .result) (c .before .before .before .before .before .before .before .before .before .before .before .get .ensures) (c .before .before .before .before .before .before .before .before .before .got .given .1) (c .before .before .before .before .before .before .before .step .ensures) (c .before .before .child .result) (c .before .before .before .before .before .taken .given .1) (c .before .before .child .ensures)
 
 round-enum-known-first : (t : ℕ) → round-lts.Need-enum-known-first (
   handed-reads.Asked,
@@ -792,7 +792,7 @@ round-returns : (t : ℕ) → round-lts.Need-returns (
   bracket-below t,
   bracket.Post,
 ) (round-at t) round.Post
-round-returns t c = round-missing _ _ _ _ _ _ _ (c .before .before .before .before .before .args .first) (c .handed .result) (c .before .before .before .before .before .pre .1 .2) (c .before .enum-told .given .1) (c .handed .ensures)
+round-returns t c = round-missing _ _ _ _ _ _ _ _ (c .before .before .before .before .before .args .first) (c .handed .result) (c .before .before .before .before .before .pre .1 .2) (c .before .enum-told .given .1) (c .handed .ensures)
 
 round-begins-value-requires : (t : ℕ) → round-lts.Need-begins-value-requires (
   handed-reads.Asked,
@@ -904,7 +904,7 @@ round-returns-3 : (t : ℕ) → round-lts.Need-returns-3 (
   bracket-below t,
   bracket.Post,
 ) (round-at t) round.Post
-round-returns-3 t c = round-bracket _ _ _ _ _ _ _ (c .before .before .before .before .entering .result) (c .before .before .bracket .result) (got-token _ _ (c .before .before .before .before .before .before .before .before .first .given .1) (c .before .before .before .before .before .before .before .before .before .before .before .before .pre .1 .2)) (sym (c .before .before .before .before .before .before .begins-value .ensures) ∙ c .before .before .before .before .before .if1 .left) (c .before .before .before .before .entering .ensures) (c .before .before .bracket .ensures)
+round-returns-3 t c = round-bracket _ _ _ _ _ _ _ _ (c .before .before .before .before .entering .result) (c .before .before .bracket .result) (got-token _ _ (c .before .before .before .before .before .before .before .before .first .given .1) (c .before .before .before .before .before .before .before .before .before .before .before .before .pre .1 .2)) (sym (c .before .before .before .before .before .before .begins-value .ensures) ∙ c .before .before .before .before .before .if1 .left) (c .before .before .before .before .entering .ensures) (c .before .before .bracket .ensures)
 
 value-begins-requires : (t : ℕ) → value-lts.Need-begins-requires (
   begins-reads.Asked,
@@ -1112,7 +1112,7 @@ value-returns : (t : ℕ) → value-lts.Need-returns (
   bracket-below t,
   bracket.Post,
 ) (value-at t) value.Post
-value-returns t c = value-leaf _ _ _ _ _ _ _ _ (c .before .before .before .before .before .before .before .before .before .pre .1 .0) (c .before .before .before .before .before .before .begins .result) (c .before .before .before .before .before .before .begins .ensures) (c .before .before .leaf .result) (c .before .before .before .before .enum-told .given .1) (c .before .before .leaf .ensures)
+value-returns t c = value-leaf _ _ _ _ _ _ _ _ _ (c .before .before .before .before .before .before .before .before .before .pre .1 .0) (c .before .before .before .before .before .before .begins .result) (c .before .before .before .before .before .before .begins .ensures) (c .before .before .leaf .result) (c .before .before .before .before .enum-told .given .1) (c .before .before .leaf .ensures)
 
 value-same-length-2 : (t : ℕ) → value-lts.Need-same-length-2 (
   begins-reads.Asked,
@@ -1144,7 +1144,7 @@ value-returns-2 : (t : ℕ) → value-lts.Need-returns-2 (
   bracket-below t,
   bracket.Post,
 ) (value-at t) value.Post
-value-returns-2 t c = value-names _ _ _ _ _ _ _ _ (c .before .before .before .before .before .before .before .before .before .pre .1 .0) (c .before .before .before .before .before .before .begins .result) (c .before .before .before .before .before .before .begins .ensures) (c .before .before .names .result) (c .before .before .before .before .enum-told2 .given .1) (c .before .before .names .ensures)
+value-returns-2 t c = value-names _ _ _ _ _ _ _ _ _ (c .before .before .before .before .before .before .before .before .before .pre .1 .0) (c .before .before .before .before .before .before .begins .result) (c .before .before .before .before .before .before .begins .ensures) (c .before .before .names .result) (c .before .before .before .before .enum-told2 .given .1) (c .before .before .names .ensures)
 
 value-same-length-3 : (t : ℕ) → value-lts.Need-same-length-3 (
   begins-reads.Asked,
@@ -1176,7 +1176,7 @@ value-returns-3 : (t : ℕ) → value-lts.Need-returns-3 (
   bracket-below t,
   bracket.Post,
 ) (value-at t) value.Post
-value-returns-3 t c = value-round _ _ _ _ _ _ _ _ (c .before .before .before .before .before .before .before .before .before .before .pre .1 .0) (c .before .before .before .before .before .before .before .begins .result) (c .before .before .before .before .before .before .before .begins .ensures) _ (c .before .before .round .result) (c .before .before .before .before .before .begun .given .1) (c .before .before .round .ensures)
+value-returns-3 t c = value-round _ _ _ _ _ _ _ _ _ (c .before .before .before .before .before .before .before .before .before .before .pre .1 .0) (c .before .before .before .before .before .before .before .begins .result) (c .before .before .before .before .before .before .before .begins .ensures) _ (c .before .before .round .result) (c .before .before .before .before .before .begun .given .1) (c .before .before .round .ensures)
 
 value-same-length-4 : (t : ℕ) → value-lts.Need-same-length-4 (
   begins-reads.Asked,
@@ -1208,7 +1208,7 @@ value-returns-4 : (t : ℕ) → value-lts.Need-returns-4 (
   bracket-below t,
   bracket.Post,
 ) (value-at t) value.Post
-value-returns-4 t c = value-bracket _ _ _ _ _ _ _ _ (c .before .before .before .before .before .before .before .before .before .before .before .pre .1 .0) (c .before .before .before .before .before .before .before .before .begins .result) (c .before .before .before .before .before .before .before .before .begins .ensures) (c .before .before .before .before .entering .result) (c .before .before .bracket .result) (c .before .before .before .before .before .before .begun2 .given .1) (c .before .before .before .before .entering .ensures) (c .before .before .bracket .ensures)
+value-returns-4 t c = value-bracket _ _ _ _ _ _ _ _ _ (c .before .before .before .before .before .before .before .before .before .before .before .pre .1 .0) (c .before .before .before .before .before .before .before .before .begins .result) (c .before .before .before .before .before .before .before .before .begins .ensures) (c .before .before .before .before .entering .result) (c .before .before .bracket .result) (c .before .before .before .before .before .before .begun2 .given .1) (c .before .before .before .before .entering .ensures) (c .before .before .bracket .ensures)
 
 value-returns-5 : (t : ℕ) → value-lts.Need-returns-5 (
   begins-reads.Asked,
@@ -1224,7 +1224,7 @@ value-returns-5 : (t : ℕ) → value-lts.Need-returns-5 (
   bracket-below t,
   bracket.Post,
 ) (value-at t) value.Post
-value-returns-5 t c = value-refused _ _ _ _ _ _ _ _ (c .before .before .before .before .before .before .pre .1 .0) (c .before .before .before .begins .result) (c .before .before .before .begins .ensures) (c .before .begun3 .given .1)
+value-returns-5 t c = value-refused _ _ _ _ _ _ _ _ _ (c .before .before .before .before .before .before .pre .1 .0) (c .before .before .before .begins .result) (c .before .before .before .begins .ensures) (c .before .begun3 .given .1)
 
 pub +bracket+child+first-value+member+round+value-spec : {M : Type 1} → statement M
 +bracket+child+first-value+member+round+value-spec =
@@ -1255,7 +1255,7 @@ pub +bracket+child+first-value+member+round+value-spec : {M : Type 1} → statem
     (child-enum-told t)
     (child-same-length t)
     (child-returns t)
-    (child-add-t13 t)
+    (child-add-t14 t)
     (child-same-length-2 t)
     (child-returns-2 t))
     (λ t. first-value-lts.spec (
@@ -1290,8 +1290,8 @@ pub +bracket+child+first-value+member+round+value-spec : {M : Type 1} → statem
     (first-value-same-length-3 t)
     (first-value-returns-3 t)
     (first-value-raise-requires t)
-    (first-value-add-t17 t)
-    (first-value-add-t28 t)
+    (first-value-add-t18 t)
+    (first-value-add-t29 t)
     (first-value-bracket-requires t)
     (first-value-same-length-4 t)
     (first-value-returns-4 t))

@@ -1,0 +1,4 @@
+-- What the tests at a place for a value answer.
+pub mod Levels
+pub mod Signs
+pub mod Begins
