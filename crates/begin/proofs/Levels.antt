@@ -1,8 +1,13 @@
 -- The forms of a level. Assumes nothing.
 use mathlib.Core.Path.{_≡_, refl, sym, subst}
 use mathlib.Core.Bool.{true, false}
+use mathlib.Core.List.{List, [], _∷_}
 use Prim.Native.Nat.{ℕ}
+use types.Run.{OneOf, miss}
+use denote.Enum.Declared.{tagOf}
+use Rattle.lexicon.proofs.Head as HeadType
 use Rattle.lexicon.specs.declared.Head.{Head}
+use Rattle.lexicon.specs.declared.Head.the-variants as Head
 use Rattle.grammar.specs.Level.{Feature, Level, hasHead, level1, level2, arrays, sets, bags, intervals, leftArrows}
 use Rattle.reading.specs.Answers.{LevelOf, first, second}
 use Rattle.moves.specs.declared.Forms.{Forms}
@@ -46,3 +51,22 @@ collects forms h e x = subst (λ (y : Collection). Collects forms h y) e x
 
 pub lacks : (forms : Forms) (h : Head) {r : Collection} → r ≡ Collection.Nothing → Collects forms h r → hasHead (levelOf forms) h ≡ false
 lacks forms h e x = subst (λ (y : Collection). Collects forms h y) e x
+
+-- a head that no level has yet; the keys are the heads' places in their enum
+abbrev pub later : List ℕ
+later = 3 ∷ 4 ∷ 5 ∷ 6 ∷ 7 ∷ 8 ∷ 9 ∷ 10 ∷ 11 ∷ 12 ∷ []
+
+pub later-head : (l : Level) (h : Head) → OneOf later (tagOf HeadType.the-type h) → hasHead l h ≡ false
+later-head l Head.Array x = absurd (miss later 0 tt x)
+later-head l Head.Set x = absurd (miss later 1 tt x)
+later-head l Head.Bag x = absurd (miss later 2 tt x)
+later-head l Head.Mix x = refl
+later-head l Head.IntervalSet x = refl
+later-head l Head.IntervalBag x = refl
+later-head l Head.TupleArray x = refl
+later-head l Head.Relation x = refl
+later-head l Head.TupleBag x = refl
+later-head l Head.Article x = refl
+later-head l Head.Excuse x = refl
+later-head l Head.Heading x = refl
+later-head l Head.Renaming x = refl

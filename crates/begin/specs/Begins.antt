@@ -43,7 +43,8 @@ module _ (text : List ℕ) (limits : Limits) (forms : Forms) (d : ℕ) (t : Toke
     aMark : (m : Mark) → classKind (t .kind) ≡ Tokens.mark m → Begins (Begin.Refused 6 (t .first))
     aLater : t .kind ≡ Kind.Later → Begins (Begin.Refused 7 (t .first))
     curly : {r : Begin} → t .kind ≡ Kind.Symbol Sign.CurlyOpen →
-        Deeper limits d t (Begin.Bracket (Mode.Want (Frame.Curly (Curly.Members Style.Lot Front.Start))) (t .end)) r → Begins r
+        Deeper limits d t (Begin.Bracket (Mode.Want (Frame.Curly (Curly.Members Style.Lot Front.Start))) (t .end)) r →
+        Begins r
     square : {r : Begin} → t .kind ≡ Kind.Symbol Sign.SquareOpen → forms .intervals ≡ true →
         Deeper limits d t (Begin.Bracket (Mode.Want (Frame.Square Square.Opened)) (t .end)) r → Begins r
     squareNewer : t .kind ≡ Kind.Symbol Sign.SquareOpen → forms .intervals ≡ false → Begins (Begin.Refused 7 (t .first))

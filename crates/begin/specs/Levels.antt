@@ -20,5 +20,6 @@ LevelFound n Leveled.Nothing = (l : Level) → LevelOf n l → ⊥
 
 -- the collection of a head, if the level has it
 abbrev pub Collects : Forms → Head → Collection → Type 0
-Collects forms h (Collection.Of style) = (k : Tree.Collection) × (h ≡ collectionHead k) × (style ≡ collectionStyle k) × (hasCollection (levelOf forms) k ≡ true)
+Collects forms h (Collection.Of style) = (k : Tree.Collection) × (h ≡ collectionHead k) × (style ≡ collectionStyle k) ×
+    (hasCollection (levelOf forms) k ≡ true)
 Collects forms h Collection.Nothing = hasHead (levelOf forms) h ≡ false

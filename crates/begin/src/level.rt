@@ -58,15 +58,6 @@ pub fn collection_of(forms: Forms, head: Head) -> Collection
         } else {
             Collection::Nothing
         },
-        Head::Mix => Collection::Nothing,
-        Head::IntervalSet => Collection::Nothing,
-        Head::IntervalBag => Collection::Nothing,
-        Head::TupleArray => Collection::Nothing,
-        Head::Relation => Collection::Nothing,
-        Head::TupleBag => Collection::Nothing,
-        Head::Article => Collection::Nothing,
-        Head::Excuse => Collection::Nothing,
-        Head::Heading => Collection::Nothing,
-        Head::Renaming => Collection::Nothing,
+        _ => Collection::Nothing,
     }
 }

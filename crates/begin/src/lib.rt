@@ -144,14 +144,7 @@ fn sign_begins(
         Sign::RoundOpen => round_open(text, limits, forms, t, depth),
         Sign::CurlyOpen => curly_open(limits, t, depth),
         Sign::SquareOpen => square_open(limits, forms, t, depth),
-        Sign::RoundClose => wrong(t),
-        Sign::CurlyClose => wrong(t),
-        Sign::SquareClose => wrong(t),
-        Sign::Comma => wrong(t),
-        Sign::ArrowRight => wrong(t),
-        Sign::ArrowLeft => wrong(t),
-        Sign::Dots => wrong(t),
-        Sign::Star { low: _, high: _ } => wrong(t),
+        _ => wrong(t),
     }
 }
 
@@ -161,13 +154,6 @@ pub fn begins(text: &[u8], limits: Limits, forms: Forms, t: Token, depth: usize)
 {
     let kind = t.kind;
     match kind {
-        Kind::Ignorance => Begin::Literal,
-        Kind::Boolean(_) => Begin::Literal,
-        Kind::Integer { signed: _ } => Begin::Literal,
-        Kind::Fraction => Begin::Literal,
-        Kind::Bits => Begin::Literal,
-        Kind::Blob => Begin::Literal,
-        Kind::Text(_) => Begin::Literal,
         Kind::Later => Begin::Refused {
             number: 7,
             place: t.first,
@@ -175,5 +161,6 @@ pub fn begins(text: &[u8], limits: Limits, forms: Forms, t: Token, depth: usize)
         Kind::Symbol(sign) => sign_begins(text, limits, forms, sign, t, depth),
         Kind::Colon => wrong(t),
         Kind::TwoColons => Begin::Names,
+        _ => Begin::Literal,
     }
 }

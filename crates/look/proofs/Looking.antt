@@ -1,12 +1,15 @@
 -- The answers of looks at the next tokens, taken apart. Assumes nothing.
 use mathlib.Core.Path.{_≡_, refl, sym, ap, subst, _∙_}
 use mathlib.Core.Logic.{⊎-elim}
-use mathlib.Core.Bool.{Bool, true, false, false≢true}
-use mathlib.Core.List.{List}
+use mathlib.Core.List.{List, [], _∷_}
 use Prim.Native.Nat.{ℕ}
-use Rattle.rules.specs.Test.{Says}
-use Rattle.rules.proofs.Bools.{clash}
+use types.Run.{OneOf, miss}
+use denote.Enum.Declared.{tagOf}
+use Rattle.lexicon.proofs.Next as NextType
+use Rattle.lexicon.proofs.Kind as KindType
+use Rattle.lexicon.proofs.Form as FormType
 use Rattle.lexicon.specs.declared.Head.{Head}
+use Rattle.lexicon.specs.declared.Form.{Form}
 use Rattle.lexicon.specs.declared.Form.the-variants as Form
 use Rattle.lexicon.specs.declared.Kind.{Kind}
 use Rattle.lexicon.specs.declared.Kind.the-variants as Kind
@@ -17,57 +20,42 @@ use Rattle.lexicon.specs.Token.{Comes}
 use Rattle.reading.proofs.Rows.{pick, no-end, no-none}
 use Rattle.look.specs.declared.answer.Got.{Got}
 use Rattle.look.specs.declared.answer.Got.the-variants as Got
-use Rattle.look.specs.declared.head.HeadWord.{HeadWord}
-use Rattle.look.specs.declared.head.HeadWord.the-variants as HeadWord
 use Rattle.look.specs.declared.head.Headed.{Headed}
 use Rattle.look.specs.declared.head.Headed.the-variants as Headed
-use Rattle.look.specs.Looks.{Gets, HeadHere, NoHead, Heads, IsHeadWord}
+use Rattle.look.specs.Looks.{Gets, HeadHere, NoHead, Heads}
 
--- ---- kinds
+-- ---- a test that leaves a variant out tells that one of the others is there, by their places in the enum
 
-abbrev bare : Kind → Bool
-bare Kind.Ignorance = false
-bare (Kind.Boolean b) = false
-bare (Kind.Integer b) = false
-bare Kind.Fraction = false
-bare Kind.Bits = false
-bare Kind.Blob = false
-bare (Kind.Text Form.Quoted) = false
-bare (Kind.Text Form.Word) = false
-bare (Kind.Text (Form.HeadWord h)) = true
-bare (Kind.Text Form.CodePoint) = false
-bare Kind.Later = false
-bare (Kind.Symbol s) = false
-bare Kind.Colon = false
-bare Kind.TwoColons = false
+pub no-token : (r : Next) → OneOf (1 ∷ 2 ∷ []) (tagOf NextType.the-type r) → (t : Token.Token) → r ≡ Next.Token t → ⊥
+no-token r h t e = miss (1 ∷ 2 ∷ []) 0 tt (subst (λ (x : Next). OneOf (1 ∷ 2 ∷ []) (tagOf NextType.the-type x)) e h)
 
-pub not-bare : {k : Kind} (j : Kind) → k ≡ j → bare j ≡ false → IsHeadWord k HeadWord.Nothing
-not-bare j e f h g = clash (ap bare (sym e ∙ g)) f
+abbrev notText : List ℕ
+notText = 0 ∷ 1 ∷ 2 ∷ 3 ∷ 4 ∷ 5 ∷ 7 ∷ 8 ∷ 9 ∷ 10 ∷ []
 
-pub word-is : (k : Kind) {w : HeadWord} {h : Head} → w ≡ HeadWord.Is h → IsHeadWord k w → k ≡ Kind.Text (Form.HeadWord h)
-word-is k e x = subst (λ (y : HeadWord). IsHeadWord k y) e x
+pub no-text : (k : Kind) → OneOf notText (tagOf KindType.the-type k) → (f : Form) → k ≡ Kind.Text f → ⊥
+no-text k h f e = miss notText 6 tt (subst (λ (x : Kind). OneOf notText (tagOf KindType.the-type x)) e h)
 
-pub word-none : (k : Kind) {w : HeadWord} → w ≡ HeadWord.Nothing → IsHeadWord k w → (h : Head) → k ≡ Kind.Text (Form.HeadWord h) → ⊥
-word-none k e x = subst (λ (y : HeadWord). IsHeadWord k y) e x
+pub no-head-word : (f : Form) → OneOf (0 ∷ 1 ∷ 3 ∷ []) (tagOf FormType.the-type f) → (h : Head) → f ≡ Form.HeadWord h → ⊥
+no-head-word f x h e = miss (0 ∷ 1 ∷ 3 ∷ []) 2 tt (subst (λ (y : Form). OneOf (0 ∷ 1 ∷ 3 ∷ []) (tagOf FormType.the-type y)) e x)
 
-abbrev colon : Kind → Bool
-colon Kind.Ignorance = false
-colon (Kind.Boolean b) = false
-colon (Kind.Integer b) = false
-colon Kind.Fraction = false
-colon Kind.Bits = false
-colon Kind.Blob = false
-colon (Kind.Text f) = false
-colon Kind.Later = false
-colon (Kind.Symbol s) = false
-colon Kind.Colon = true
-colon Kind.TwoColons = false
+abbrev notColon : List ℕ
+notColon = 0 ∷ 1 ∷ 2 ∷ 3 ∷ 4 ∷ 5 ∷ 6 ∷ 7 ∷ 8 ∷ 10 ∷ []
 
-pub not-colon : {k : Kind} (j : Kind) → k ≡ j → colon j ≡ false → Says false (k ≡ Kind.Colon)
-not-colon j e f = record { true-holds = λ x. absurd (false≢true x); holds-true = λ x. absurd (clash (ap colon (sym e ∙ x)) f) }
+pub not-colon : (k : Kind) → OneOf notColon (tagOf KindType.the-type k) → k ≡ Kind.Colon → ⊥
+not-colon k h e = miss notColon 9 tt (subst (λ (x : Kind). OneOf notColon (tagOf KindType.the-type x)) e h)
 
-pub is-colon : {k : Kind} → k ≡ Kind.Colon → Says true (k ≡ Kind.Colon)
-is-colon e = record { true-holds = λ x. e; holds-true = λ x. refl }
+abbrev notColons : List ℕ
+notColons = 0 ∷ 1 ∷ 2 ∷ 3 ∷ 4 ∷ 5 ∷ 6 ∷ 7 ∷ 8 ∷ 9 ∷ []
+
+pub no-colons : (k : Kind) → OneOf notColons (tagOf KindType.the-type k) → k ≡ Kind.TwoColons → ⊥
+no-colons k h e = miss notColons 10 tt (subst (λ (x : Kind). OneOf notColons (tagOf KindType.the-type x)) e h)
+
+text-same : {f g : Form} → Kind.Text f ≡ Kind.Text g → f ≡ g
+text-same e = cc
+
+-- a Text that is no head word
+pub not-head : {k : Kind} (f : Form) → k ≡ Kind.Text f → OneOf (0 ∷ 1 ∷ 3 ∷ []) (tagOf FormType.the-type f) → (h : Head) → k ≡ Kind.Text (Form.HeadWord h) → ⊥
+not-head f e x h q = no-head-word f x h (text-same (sym e ∙ q))
 
 -- ---- tokens
 

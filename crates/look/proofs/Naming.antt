@@ -2,14 +2,10 @@
 use mathlib.Core.Path.{_≡_, refl, sym, ap, subst, _∙_}
 use mathlib.Core.Logic.{inl, inr, ⊎-elim}
 use mathlib.Core.Bool.{true, false}
-use mathlib.Core.List.{List, [], _∷_}
+use mathlib.Core.List.{List}
 use Prim.Native.Nat.{ℕ, _≤_, _<_}
 use native.Mathlib.Omega.{arith}
 use lib.ListN.{length}
-use types.Run.{OneOf, miss}
-use denote.Enum.Declared.{tagOf}
-use Rattle.lexicon.proofs.Next as NextType
-use Rattle.lexicon.proofs.Kind as KindType
 use Rattle.lexicon.specs.declared.Form.{Form}
 use Rattle.lexicon.specs.declared.Kind.{Kind}
 use Rattle.lexicon.specs.declared.Kind.the-variants as Kind
@@ -27,23 +23,6 @@ use Rattle.look.specs.declared.names.Named.the-variants as Named
 use Rattle.look.specs.Looks.{Gets, NotNext}
 use Rattle.look.specs.Names.{ColonsNext, ColonsHere, NameNext, NameHere, unnamedBy}
 use Rattle.look.proofs.Bounds.{token-bounds}
-
--- ---- a test that leaves a variant out tells that one of the others is there, by their places in the enum
-
-pub no-token : (r : Next) → OneOf (1 ∷ 2 ∷ []) (tagOf NextType.the-type r) → (t : Token.Token) → r ≡ Next.Token t → ⊥
-no-token r h t e = miss (1 ∷ 2 ∷ []) 0 tt (subst (λ (x : Next). OneOf (1 ∷ 2 ∷ []) (tagOf NextType.the-type x)) e h)
-
-abbrev notColons : List ℕ
-notColons = 0 ∷ 1 ∷ 2 ∷ 3 ∷ 4 ∷ 5 ∷ 6 ∷ 7 ∷ 8 ∷ 9 ∷ []
-
-pub no-colons : (k : Kind) → OneOf notColons (tagOf KindType.the-type k) → k ≡ Kind.TwoColons → ⊥
-no-colons k h e = miss notColons 10 tt (subst (λ (x : Kind). OneOf notColons (tagOf KindType.the-type x)) e h)
-
-abbrev notText : List ℕ
-notText = 0 ∷ 1 ∷ 2 ∷ 3 ∷ 4 ∷ 5 ∷ 7 ∷ 8 ∷ 9 ∷ 10 ∷ []
-
-pub no-text : (k : Kind) → OneOf notText (tagOf KindType.the-type k) → (f : Form) → k ≡ Kind.Text f → ⊥
-no-text k h f e = miss notText 6 tt (subst (λ (x : Kind). OneOf notText (tagOf KindType.the-type x)) e h)
 
 module _ (text : List ℕ) where
   -- ---- whether `::` comes

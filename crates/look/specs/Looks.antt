@@ -14,8 +14,6 @@ use Rattle.look.specs.declared.answer.Read.{Read}
 use Rattle.look.specs.declared.answer.Read.the-variants as Read
 use Rattle.look.specs.declared.answer.Got.{Got}
 use Rattle.look.specs.declared.answer.Got.the-variants as Got
-use Rattle.look.specs.declared.head.HeadWord.{HeadWord}
-use Rattle.look.specs.declared.head.HeadWord.the-variants as HeadWord
 use Rattle.look.specs.declared.head.Headed.{Headed}
 use Rattle.look.specs.declared.head.Headed.the-variants as Headed
 
@@ -45,11 +43,6 @@ module _ (text : List ℕ) where
   abbrev pub Heads : ℕ → Headed → Type 0
   Heads at (Headed.At h end) = HeadHere at h end
   Heads at (Headed.Other g) = Gets at g × NoHead at
-
--- a bare head word
-abbrev pub IsHeadWord : Kind → HeadWord → Type 0
-IsHeadWord k (HeadWord.Is h) = k ≡ Kind.Text (Form.HeadWord h)
-IsHeadWord k HeadWord.Nothing = (h : Head) → k ≡ Kind.Text (Form.HeadWord h) → ⊥
 
 -- the refusal of a token, as that of a value
 abbrev pub handedOn : Got → Read

@@ -58,7 +58,8 @@ module _ (text : List ℕ) where
   abbrev pub NameNext : ℕ → Named → Type 0
   NameNext at (Named.At end) = NameHere at end
   NameNext at (Named.Refused n q) =
-      ((n ≡ 4) × Comes text at (Next.NoToken q)) ⊎ ((n ≡ 6) × Comes text at (Next.End q)) ⊎ ((n ≡ 6) × OtherHere at q) ⊎ ((n ≡ 5) × BadHere at q)
+      ((n ≡ 4) × Comes text at (Next.NoToken q)) ⊎ ((n ≡ 6) × Comes text at (Next.End q)) ⊎ ((n ≡ 6) × OtherHere at q) ⊎
+      ((n ≡ 5) × BadHere at q)
 
 -- ---- refusals handed on
 

@@ -4,61 +4,12 @@ use crate::answer::get;
 use lexicon::Form;
 use lexicon::Head;
 use lexicon::Kind;
-ghost use mathlib.Core.Path.{_≡_};
-ghost use Rattle.rules.specs.Test.{Says};
-ghost use Rattle.lexicon.specs.declared.Kind.the-variants as Kind;
-ghost use Rattle.look.specs.Looks.{Heads, IsHeadWord};
+ghost use Rattle.look.specs.Looks.{Heads};
 
 // The head word behind `(` and where its colon ends; or what comes there, if it is no head.
 pub enum Headed {
     At { head: Head, end: usize },
     Other(Got),
-}
-
-fn head_word(kind: Kind) -> HeadWord
-    ensures { λ r. ⌜ IsHeadWord kind r ⌝ }
-{
-    match kind {
-        Kind::Ignorance => HeadWord::Nothing,
-        Kind::Boolean(_) => HeadWord::Nothing,
-        Kind::Integer { signed: _ } => HeadWord::Nothing,
-        Kind::Fraction => HeadWord::Nothing,
-        Kind::Bits => HeadWord::Nothing,
-        Kind::Blob => HeadWord::Nothing,
-        Kind::Text(form) => match form {
-            Form::Quoted => HeadWord::Nothing,
-            Form::Word => HeadWord::Nothing,
-            Form::HeadWord(head) => HeadWord::Is(head),
-            Form::CodePoint => HeadWord::Nothing,
-        },
-        Kind::Later => HeadWord::Nothing,
-        Kind::Symbol(_) => HeadWord::Nothing,
-        Kind::Colon => HeadWord::Nothing,
-        Kind::TwoColons => HeadWord::Nothing,
-    }
-}
-
-enum HeadWord {
-    Is(Head),
-    Nothing,
-}
-
-fn is_colon(kind: Kind) -> bool
-    ensures { λ r. ⌜ Says r (kind ≡ Kind.Colon) ⌝ }
-{
-    match kind {
-        Kind::Ignorance => false,
-        Kind::Boolean(_) => false,
-        Kind::Integer { signed: _ } => false,
-        Kind::Fraction => false,
-        Kind::Bits => false,
-        Kind::Blob => false,
-        Kind::Text(_) => false,
-        Kind::Later => false,
-        Kind::Symbol(_) => false,
-        Kind::Colon => true,
-        Kind::TwoColons => false,
-    }
 }
 
 pub fn head_at(text: &[u8], at: usize) -> Headed
@@ -69,8 +20,10 @@ pub fn head_at(text: &[u8], at: usize) -> Headed
         return Headed::Other(first);
     };
     let kind = t.kind;
-    let word = head_word(kind);
-    let HeadWord::Is(head) = word else {
+    let Kind::Text(form) = kind else {
+        return Headed::Other(first);
+    };
+    let Form::HeadWord(head) = form else {
         return Headed::Other(first);
     };
     let second = get(text, t.end);
@@ -78,8 +31,8 @@ pub fn head_at(text: &[u8], at: usize) -> Headed
         return Headed::Other(first);
     };
     let sign = u.kind;
-    if is_colon(sign) {
-        return Headed::At { head, end: u.end };
-    }
-    Headed::Other(first)
+    let Kind::Colon = sign else {
+        return Headed::Other(first);
+    };
+    Headed::At { head, end: u.end }
 }

@@ -42,7 +42,8 @@ use Rattle.tree.specs.declared.bracket.Turn.the-variants as Turn
 use Rattle.look.specs.Looks.{NotNext, NoHead}
 use Rattle.begin.specs.Signs.{noMark, isClose, literal}
 
--- the bytes of a text at most, whatever the rules: up to here every place and every count of nodes fits a word of the table
+-- the bytes of a text at most, whatever the rules: up to here every place and every count of nodes fits a word of the
+-- table
 abbrev pub widest : ℕ
 widest = 1048576
 
@@ -103,11 +104,13 @@ module _ (text : List ℕ) where
 
   -- one turn leads on
   abbrev pub Turned : Token.Token → State.State → Turn → Type 0
-  Turned opener s (Turn.On n) = (opener .end + n .nodes ≤ n .at) × (n .deep ≤ n .at) × (s .at < n .at) × (n .at ≤ length text)
+  Turned opener s (Turn.On n) = (opener .end + n .nodes ≤ n .at) × (n .deep ≤ n .at) × (s .at < n .at) ×
+      (n .at ≤ length text)
   Turned opener s (Turn.Ended r) = Sized opener r
 
   abbrev pub Born : State.State → Token.Token → Turn → Type 0
-  Born s t (Turn.On n) = (t .first + n .nodes ≤ n .at + s .nodes) × (n .deep ≡ s .deep) × (t .end ≤ n .at) × (n .at ≤ length text)
+  Born s t (Turn.On n) = (t .first + n .nodes ≤ n .at + s .nodes) × (n .deep ≡ s .deep) × (t .end ≤ n .at) ×
+      (n .at ≤ length text)
   Born s t (Turn.Ended r) = Refuses r
 
   module _ (limits : Limits) (forms : Forms) where
@@ -130,7 +133,8 @@ module _ (text : List ℕ) where
       pub no-sign : (m : Mark) → classKind (t .kind) ≡ Tokens.mark m → wantMark m (spanOf t) K ≡ none
 
     -- a value was read, and its nodes are written
-    pub record IsValue (K : Stack) (t : Token.Token) (end n : ℕ) (shape : Shape) (lent left : List ℕ) (index parent : ℕ) : Type 0 where
+    pub record IsValue (K : Stack) (t : Token.Token) (end n : ℕ) (shape : Shape) (lent left : List ℕ)
+        (index parent : ℕ) : Type 0 where
       pub tree : Value
       pub depth : ℕ
       pub stands : Stands depth end (have tree K)
@@ -151,7 +155,8 @@ module _ (text : List ℕ) where
 
     -- ---- inside a bracket
 
-    pub record Holds (opener : Token.Token) (lent left : List ℕ) (index : ℕ) (K : Stack) (c : Config) (s : State.State) : Type 0 where
+    pub record Holds (opener : Token.Token) (lent left : List ℕ) (index : ℕ) (K : Stack) (c : Config)
+        (s : State.State) : Type 0 where
       pub stands : Stands (s .deep) (s .at) c
       pub within : inside c ≡ true
       pub mode-is : modeOf c ≡ s .mode
@@ -161,8 +166,10 @@ module _ (text : List ℕ) where
       pub no-head : headBare c ≡ true → NotNext text Kind.Colon (s .at)
       pub no-names : nested c ≡ true → NotNext text Kind.TwoColons (s .at)
       -- directly behind `(` no value begins, and behind the first value is no `)`: these are read before
-      pub unread : opening c ≡ true → held c ≡ false → (u : Token.Token) → Comes text (s .at) (Next.Token u) → noMark (classKind (u .kind)) ≡ false
-      pub no-group : opening c ≡ true → held c ≡ true → (u : Token.Token) → Comes text (s .at) (Next.Token u) → isClose (classKind (u .kind)) ≡ false
+      pub unread : opening c ≡ true → held c ≡ false → (u : Token.Token) → Comes text (s .at) (Next.Token u) →
+          noMark (classKind (u .kind)) ≡ false
+      pub no-group : opening c ≡ true → held c ≡ true → (u : Token.Token) → Comes text (s .at) (Next.Token u) →
+          isClose (classKind (u .kind)) ≡ false
       -- the members' nodes
       pub length-is : length left ≡ length lent
       pub count-is : s .nodes ≡ length (children c index)
@@ -175,25 +182,32 @@ module _ (text : List ℕ) where
     Turns opener lent left index parent K (Turn.Ended r) = Outcome K opener lent left index parent r
 
     -- the promise of a turn that reads a value
-    pub record Bore (s : State.State) (t : Token.Token) (frame : Frame) (from left : List ℕ) (index : ℕ) (r : Turn) : Type 0 where
+    pub record Bore (s : State.State) (t : Token.Token) (frame : Frame) (from left : List ℕ) (index : ℕ)
+        (r : Turn) : Type 0 where
       pub born : Born s t r
-      pub turns : (opener : Token.Token) (parent : ℕ) (lent : List ℕ) (K : Stack) (c : Config) → Holds opener lent from index K c s → Comes text (s .at) (Next.Token t) →
+      pub turns : (opener : Token.Token) (parent : ℕ) (lent : List ℕ) (K : Stack) (c : Config) →
+          Holds opener lent from index K c s → Comes text (s .at) (Next.Token t) →
           Begins (levelOf forms) c (seen t) frame → Turns opener lent left index parent K r
 
     -- of any
-    pub record Member (opener : Token.Token) (s : State.State) (from left : List ℕ) (index parent : ℕ) (r : Turn) : Type 0 where
+    pub record Member (opener : Token.Token) (s : State.State) (from left : List ℕ) (index parent : ℕ)
+        (r : Turn) : Type 0 where
       pub turned : Turned opener s r
-      pub turns : (lent : List ℕ) (K : Stack) (c : Config) → Holds opener lent from index K c s → Turns opener lent left index parent K r
+      pub turns : (lent : List ℕ) (K : Stack) (c : Config) → Holds opener lent from index K c s →
+          Turns opener lent left index parent K r
 
     -- of a bracket, from the state in which it is entered
-    pub record Bracketed (opener : Token.Token) (s : State.State) (from left : List ℕ) (index parent : ℕ) (r : Read) : Type 0 where
+    pub record Bracketed (opener : Token.Token) (s : State.State) (from left : List ℕ) (index parent : ℕ)
+        (r : Read) : Type 0 where
       pub sized : Sized opener r
-      pub outcome : (lent : List ℕ) (K : Stack) (c : Config) → Holds opener lent from index K c s → Outcome K opener lent left index parent r
+      pub outcome : (lent : List ℕ) (K : Stack) (c : Config) → Holds opener lent from index K c s →
+          Outcome K opener lent left index parent r
 
     -- behind `(`
     pub record Rounded (d : ℕ) (opener : Token.Token) (lent left : List ℕ) (index parent : ℕ) (r : Read) : Type 0 where
       pub sized : Sized opener r
-      pub outcome : (K : Stack) → Stands (suc d) (opener .end) (want (opened opener K)) → NoHead text (opener .end) → Outcome K opener lent left index parent r
+      pub outcome : (K : Stack) → Stands (suc d) (opener .end) (want (opened opener K)) → NoHead text (opener .end) →
+          Outcome K opener lent left index parent r
 
 -- ---- literals and Nestings
 
@@ -210,14 +224,20 @@ pub record Slim (t : Token.Token) (index parent : ℕ) : Type 0 where
 
 pub record Literal (t : Token.Token) (lent left : List ℕ) (index parent : ℕ) (r : Read) : Type 0 where
   pub sized : Alone t r
-  pub outcome : (text : List ℕ) (limits : Limits) (forms : Forms) (K : Stack) (d at : ℕ) → Asks text limits forms K d at t → literal (classKind (t .kind)) ≡ true → Outcome text limits forms K t lent left index parent r
+  pub outcome : (text : List ℕ) (limits : Limits) (forms : Forms) (K : Stack) (d at : ℕ) →
+      Asks text limits forms K d at t → literal (classKind (t .kind)) ≡ true →
+      Outcome text limits forms K t lent left index parent r
 
 pub record Nesting (text : List ℕ) (t : Token.Token) (lent left : List ℕ) (index parent : ℕ) (r : Read) : Type 0 where
   pub sized : Sized text t r
-  pub outcome : (limits : Limits) (forms : Forms) (K : Stack) (d at : ℕ) → Asks text limits forms K d at t → t .kind ≡ Kind.TwoColons → Outcome text limits forms K t lent left index parent r
+  pub outcome : (limits : Limits) (forms : Forms) (K : Stack) (d at : ℕ) → Asks text limits forms K d at t →
+      t .kind ≡ Kind.TwoColons → Outcome text limits forms K t lent left index parent r
 
 -- ---- the promise of a turn that reads no value
 
-pub record Taken (limits : Limits) (opener : Token.Token) (s : State.State) (t : Token.Token) (taken : Move) (from left : List ℕ) (index parent : ℕ) (r : Turn) : Type 0 where
-  pub turns : (text : List ℕ) (forms : Forms) (lent : List ℕ) (K : Stack) (c : Config) → Holds text limits forms opener lent from index K c s → Comes text (s .at) (Next.Token t) →
-      Does (levelOf forms) c (seen t) taken → signs taken ≡ true → Turns text limits forms opener lent left index parent K r
+pub record Taken (limits : Limits) (opener : Token.Token) (s : State.State) (t : Token.Token) (taken : Move)
+    (from left : List ℕ) (index parent : ℕ) (r : Turn) : Type 0 where
+  pub turns : (text : List ℕ) (forms : Forms) (lent : List ℕ) (K : Stack) (c : Config) →
+      Holds text limits forms opener lent from index K c s → Comes text (s .at) (Next.Token t) →
+      Does (levelOf forms) c (seen t) taken → signs taken ≡ true →
+      Turns text limits forms opener lent left index parent K r

@@ -50,10 +50,24 @@ behind s m t d n = record { mode = m; at = t .end; deep = d; nodes = n; last = s
 
 -- the node of a count, and of the bracket
 abbrev pub countEntry : Token.Token → ℕ → Entry.Entry
-countEntry t index = record { kind = leafKind (t .kind); first = t .first; end = t .end; parent = index; role = Role.Count; detail = leafDetail (t .kind) }
+countEntry t index = record {
+  kind = leafKind (t .kind);
+  first = t .first;
+  end = t .end;
+  parent = index;
+  role = Role.Count;
+  detail = leafDetail (t .kind);
+}
 
 abbrev pub closeEntry : Token.Token → ℕ → ℕ → ℕ → ℕ → Entry.Entry
-closeEntry t first kind detail parent = record { kind = kind; first = first; end = t .end; parent = parent; role = Role.Root; detail = detail }
+closeEntry t first kind detail parent = record {
+  kind = kind;
+  first = first;
+  end = t .end;
+  parent = parent;
+  role = Role.Root;
+  detail = detail;
+}
 
 module _ (s : State.State) (t : Token.Token) where
   pub record Led (mode : Mode) (role : Role) (from left : List ℕ) (r : Turn) : Type 0 where
@@ -73,13 +87,16 @@ module _ (s : State.State) (t : Token.Token) where
   abbrev pub Deepened : Limits → Style → Turn → Type 0
   Deepened limits style r =
       ((limits .depth ≤ s .deep) × (r ≡ Turn.Ended (Read.Refused 11 (t .first)))) ⊎
-      ((s .deep < limits .depth) × (r ≡ Turn.On (behind s (Mode.Want (Frame.Curly (Curly.Members style Front.Start))) t (s .deep + 1) (s .nodes))))
+      ((s .deep < limits .depth) ×
+      (r ≡ Turn.On (behind s (Mode.Want (Frame.Curly (Curly.Members style Front.Start))) t (s .deep + 1)
+      (s .nodes))))
 
   pub record Shuts (style : Style) (role : Role) (from left : List ℕ) (r : Turn) : Type 0 where
     pub turn-is : r ≡ Turn.On (behind s (Mode.Headed style) t (pred (s .deep)) (s .nodes))
     pub role-is : Assigned from left (s .last) role
 
-  pub record Closed (first kind detail : ℕ) (role : Role) (from left : List ℕ) (index parent : ℕ) (r : Turn) : Type 0 where
+  pub record Closed (first kind detail : ℕ) (role : Role) (from left : List ℕ) (index parent : ℕ)
+      (r : Turn) : Type 0 where
     pub turn-is : r ≡ Turn.Ended (Read.Value (t .end) (s .nodes + 1) Shape.Other)
     pub told : List ℕ
     pub length-is : length told ≡ length from

@@ -34,7 +34,8 @@ module _ (text : List ℕ) where
 
   -- the answer, whatever the level's number
   pub record Told (rules : Rules) (forms : Forms) (lent left : List ℕ) (r : Answer) : Type 0 where
-    pub answers : (number : ℕ) → LevelOf number (levelOf forms) → WellFormed text → Answers rules text lent number r left
+    pub answers : (number : ℕ) → LevelOf number (levelOf forms) → WellFormed text →
+        Answers rules text lent number r left
 
 -- a refusal, as an answer
 abbrev pub refusal : Read → Answer

@@ -1,7 +1,9 @@
 -- `begin::level::collection_of` meets its contract. Assumes nothing.
 use mathlib.Core.Path.{refl}
 use Rattle.grammar.specs.Tree as Tree
+use Rattle.moves.proofs.Means.{levelOf}
 use borrow.Author.Needs.{needs}
+use Rattle.begin.proofs.Levels.{later-head}
 use Rattle.begin.proofs.level.collection_of.Statement.{statement}
 use Rattle.begin.proofs.level.collection_of.Tie as tie
 
@@ -13,36 +15,6 @@ enum-told-2 c = search needs
 
 enum-told-3 : tie.Need-enum-told-3
 enum-told-3 c = search needs
-
-enum-told-4 : tie.Need-enum-told-4
-enum-told-4 c = search needs
-
-enum-told-5 : tie.Need-enum-told-5
-enum-told-5 c = search needs
-
-enum-told-6 : tie.Need-enum-told-6
-enum-told-6 c = search needs
-
-enum-told-7 : tie.Need-enum-told-7
-enum-told-7 c = search needs
-
-enum-told-8 : tie.Need-enum-told-8
-enum-told-8 c = search needs
-
-enum-told-9 : tie.Need-enum-told-9
-enum-told-9 c = search needs
-
-enum-told-10 : tie.Need-enum-told-10
-enum-told-10 c = search needs
-
-enum-told-11 : tie.Need-enum-told-11
-enum-told-11 c = search needs
-
-enum-told-12 : tie.Need-enum-told-12
-enum-told-12 c = search needs
-
-enum-told-13 : tie.Need-enum-told-13
-enum-told-13 c = search needs
 
 returns : tie.Need-returns
 returns c = (Tree.array, c .before .enum-told .given .1, refl, c .if1 .taken)
@@ -63,34 +35,7 @@ returns-6 : tie.Need-returns-6
 returns-6 c = search needs
 
 returns-7 : tie.Need-returns-7
-returns-7 c = search needs
-
-returns-8 : tie.Need-returns-8
-returns-8 c = search needs
-
-returns-9 : tie.Need-returns-9
-returns-9 c = search needs
-
-returns-10 : tie.Need-returns-10
-returns-10 c = search needs
-
-returns-11 : tie.Need-returns-11
-returns-11 c = search needs
-
-returns-12 : tie.Need-returns-12
-returns-12 c = search needs
-
-returns-13 : tie.Need-returns-13
-returns-13 c = search needs
-
-returns-14 : tie.Need-returns-14
-returns-14 c = search needs
-
-returns-15 : tie.Need-returns-15
-returns-15 c = search needs
-
-returns-16 : tie.Need-returns-16
-returns-16 c = search needs
+returns-7 c = let a = c .before .args in later-head (levelOf (a .forms)) (a .head) (c .match .keys4)
 
 pub collection-of-spec : {M : Type 1} → statement M
 collection-of-spec =
@@ -99,29 +44,10 @@ collection-of-spec =
     enum-told
     enum-told-2
     enum-told-3
-    enum-told-4
-    enum-told-5
-    enum-told-6
-    enum-told-7
-    enum-told-8
-    enum-told-9
-    enum-told-10
-    enum-told-11
-    enum-told-12
-    enum-told-13
     returns
     returns-2
     returns-3
     returns-4
     returns-5
     returns-6
-    returns-7
-    returns-8
-    returns-9
-    returns-10
-    returns-11
-    returns-12
-    returns-13
-    returns-14
-    returns-15
-    returns-16)
+    returns-7)
