@@ -6,6 +6,7 @@ use crate::parts::mark;
 use crate::parts::sign;
 use lexicon::Encoding;
 use lexicon::Found;
+use reading::TEXT;
 use utf8::utf8;
 ghost use mathlib.Core.Path.{_≡_};
 ghost use mathlib.Core.Bool.{cond};
@@ -25,7 +26,7 @@ pub struct IntegerAnswer {
     pub value: i64,
 }
 
-const LONGEST: usize = 32768;
+const LONGEST: usize = TEXT;
 // 2^63
 const MOST: u64 = 0x8000_0000_0000_0000;
 

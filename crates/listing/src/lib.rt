@@ -1,6 +1,7 @@
 // The listing of an answer, written into a lent buffer.
 // A function with a `requires` is this crate's own. Each begins where the one before it ended, so its place is inside the buffer; and the
 // words that it reads are those of an accepted reading, so they are inside the table. `list`, the one public function, has none.
+use grammar::NODE_WORDS;
 use reading::Answer;
 ghost use mathlib.Core.Path.{_≡_};
 ghost use mathlib.Core.List.{[], _∷_, _++_};
@@ -12,9 +13,6 @@ ghost use Rattle.listing.specs.Written.{Wrote, Listed};
 
 // The longest listing: a first line of 45 bytes at most, and 1,024 lines of six numbers below 2^32.
 pub const LONGEST: usize = 67629;
-
-// Words of a node.
-const WORDS: usize = 6;
 
 // Writes a byte, if it fits, and returns the place after it.
 fn put(out: &mut [u8], at: usize, byte: u8) -> usize
@@ -85,7 +83,7 @@ fn node(out: &mut [u8], at: usize, table: &[u32], index: usize) -> usize
     ensures { λ r. ⌜ Wrote (now (out .entry)) at (nodeLine (λ k. getD (now (table .entry)) (index * nodeWords + k) 0)) (now (out .exit)) r ⌝ }
     ensures { λ r. ⌜ length (nodeLine (λ k. getD (now (table .entry)) (index * nodeWords + k) 0)) ≤ 66 ⌝ }
 {
-    let first = index * WORDS;
+    let first = index * NODE_WORDS;
     let kind = wide(table[first]);
     let a = number(out, at, kind);
     let b = cell(out, a, table, first + 1);

@@ -1,17 +1,20 @@
 // Reads standard input at level 2 and writes the listing. A read or write that fails is said on standard error.
+use grammar::NODE_WORDS;
 use libc::STDIN_FILENO;
 use libc::STDOUT_FILENO;
 use listing::LONGEST;
 use listing::list;
+use reading::NODES;
+use reading::TEXT;
 ghost use Rattle.muon.specs.Input.{Within};
 
 const LEVEL: u32 = 2;
 
 // The longest text and one byte more: a full buffer is a text too long.
-const TEXT: usize = 32769;
+const INPUT: usize = TEXT + 1;
 
-// 1,024 nodes of 6 words.
-const TABLE: usize = 6144;
+// Words of the longest table.
+const TABLE: usize = NODES * NODE_WORDS;
 
 // What standard input gave: that many bytes, or an error.
 enum Input {
@@ -58,7 +61,7 @@ fn answer(text: &[u8]) {
 }
 
 fn main() {
-    let mut text = [0; TEXT];
+    let mut text = [0; INPUT];
     let input = read_all(&mut text);
     let Input::Bytes(n) = input else {
         os::fail(b"muon: read");

@@ -18,3 +18,16 @@ pub struct Rules {
     pub nodes: usize,
     pub limits: Limits,
 }
+
+// The sizes of document 01: bytes of a text, nodes of a table, open brackets.
+pub const TEXT: usize = 32768;
+
+pub const NODES: usize = 1024;
+
+pub const DEPTH: usize = 32;
+
+pub const BASE: Rules = Rules {
+    text: TEXT,
+    nodes: NODES,
+    limits: Limits { depth: DEPTH },
+};

@@ -69,14 +69,16 @@ module _ (t t' : List ℕ) (i : ℕ) where
   -- the same of the role's word alone; Root stands for no change
   pub record Assigned (r : Role) : Type 0 where
     pub kept : r ≡ Role.Root → t' ≡ t
-    pub fits : (r ≡ Role.Root → ⊥) → (i + 1) * nodeWords ≤ length t → t' ≡ set t (i * nodeWords + roleWord) (roleNumber (roleOf r))
+    pub fits : (r ≡ Role.Root → ⊥) → (i + 1) * nodeWords ≤ length t →
+        t' ≡ set t (i * nodeWords + roleWord) (roleNumber (roleOf r))
     pub else : length t < (i + 1) * nodeWords → t' ≡ t
 
   -- t' is t with the nodes from index i on, if they fit
   pub record Written (ns : List Node) : Type 0 where
     pub words-are : (i + length ns) * nodeWords ≤ length t → t' ≡ over t (i * nodeWords) (tableWords ns)
 
-  -- t' is t with the n nodes from index i on moved up by one, or t where they do not fit there; the slot at index i is left as it was
+  -- t' is t with the n nodes from index i on moved up by one, or t where they do not fit there; the slot at index i
+  -- is left as it was
   pub record Raised (n : ℕ) : Type 0 where
     pub fits : (i + n + 1) * nodeWords ≤ length t → t' ≡ over t ((i + 1) * nodeWords) (raised t i n)
     pub else : length t < (i + n + 1) * nodeWords → t' ≡ t

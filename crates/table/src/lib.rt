@@ -1,17 +1,18 @@
 // Nodes in the lent table of words, one behind the other.
+use grammar::NODE_WORDS;
 use moves::Role;
+use reading::Rules;
 ghost use mathlib.Core.Path.{_≡_};
 ghost use mathlib.Core.List.{[], _∷_};
 ghost use Prim.Native.Nat.{_+_, _*_, _≤_};
 ghost use lib.ListN.{length};
 ghost use Rattle.rules.specs.Over.{over};
 ghost use Rattle.grammar.specs.Nodes.{roleNumber, nodeWords};
+ghost use Rattle.reading.specs.Sizes.{room as roomOf};
 ghost use Rattle.moves.specs.Means.{roleOf};
 ghost use Rattle.table.specs.Over.{under, capped as cappedOf, entryWords, Stored, Assigned, Raised};
 
-// Words of a node, and which of them tell its parent's index and its role.
-const WORDS: usize = 6;
-
+// Which of a node's words tell its parent's index and its role.
 const PARENT: usize = 3;
 
 const ROLE: usize = 4;
@@ -46,6 +47,17 @@ fn role_number(role: Role) -> u32
     }
 }
 
+// How many nodes the table has room for.
+pub fn room(rules: Rules, table: &[u32]) -> usize
+    ensures { λ r. ⌜ r ≡ roomOf rules (length (now (table .entry))) ⌝ }
+{
+    let nodes = table.len() / NODE_WORDS;
+    if nodes < rules.nodes {
+        return nodes;
+    }
+    rules.nodes
+}
+
 // Writes the six words of a node from a word on. The caller saw that they fit.
 fn store(
     table: &mut [u32],
@@ -73,14 +85,14 @@ fn store(
 pub fn put(table: &mut [u32], index: usize, node: Entry)
     ensures { λ _. ⌜ Stored (now (table .entry)) (now (table .exit)) index (entryWords node) ⌝ }
 {
-    if index >= table.len() / WORDS {
+    if index >= table.len() / NODE_WORDS {
         return;
     }
     let role = node.role;
     let number = role_number(role);
     store(
         table,
-        index * WORDS,
+        index * NODE_WORDS,
         node.kind,
         node.first,
         node.end,
@@ -99,10 +111,10 @@ pub fn assign(table: &mut [u32], index: usize, role: Role)
     if number == 0 {
         return;
     }
-    if index >= table.len() / WORDS {
+    if index >= table.len() / NODE_WORDS {
         return;
     }
-    let at = index * WORDS + ROLE;
+    let at = index * NODE_WORDS + ROLE;
     table[at] = number;
 }
 
@@ -128,13 +140,13 @@ fn lift(table: &mut [u32], index: usize, parent: u32)
     requires { ⌜ (index + 2) * nodeWords ≤ length (now table) ⌝ }
     ensures { λ _. ⌜ now (table .exit) ≡ over (now (table .entry)) ((index + 1) * nodeWords) (under (now (table .entry)) index parent) ⌝ }
 {
-    let at = index * WORDS;
+    let at = index * NODE_WORDS;
     let kind = table[at];
     let first = table[at + 1];
     let end = table[at + 2];
     let role = table[at + ROLE];
     let detail = table[at + 5];
-    store(table, at + WORDS, kind, first, end, parent, role, detail);
+    store(table, at + NODE_WORDS, kind, first, end, parent, role, detail);
 }
 
 // Moves so many nodes, the first at the index, up by one, if they fit: each other's indices are one more, and the first's parent is what
@@ -142,7 +154,7 @@ fn lift(table: &mut [u32], index: usize, parent: u32)
 pub fn raise(table: &mut [u32], index: usize, nodes: usize)
     ensures { λ _. ⌜ Raised (now (table .entry)) (now (table .exit)) index nodes ⌝ }
 {
-    let room = table.len() / WORDS;
+    let room = table.len() / NODE_WORDS;
     if index >= room {
         return;
     }
@@ -156,7 +168,7 @@ pub fn raise(table: &mut [u32], index: usize, nodes: usize)
     let mut left = nodes - 1;
     while left > 0 {
         let node = index + left;
-        let parent = next(table[node * WORDS + PARENT]);
+        let parent = next(table[node * NODE_WORDS + PARENT]);
         lift(table, node, parent);
         left -= 1;
     }

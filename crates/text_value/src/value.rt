@@ -8,6 +8,7 @@ use lexicon::Encoding;
 use lexicon::Found;
 use lexicon::Literal;
 use reading::Answer;
+use reading::TEXT;
 use utf8::utf8;
 ghost use mathlib.Core.Path.{_≡_};
 ghost use Prim.Native.Nat.{_≤_};
@@ -34,7 +35,7 @@ enum Verdict {
     Good(Shape),
 }
 
-const LONGEST: usize = 32768;
+const LONGEST: usize = TEXT;
 
 fn refused(number: u32, place: usize) -> Answer
     ensures { λ r. ⌜ r ≡ answer number place 0 ⌝ }

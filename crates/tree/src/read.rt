@@ -11,26 +11,19 @@ use look::answer::handed;
 use look::end::ended;
 use moves::Forms;
 use reading::Answer;
+use reading::BASE;
 use reading::Limits;
 use reading::Rules;
+use table::room;
 use token::whole::front;
 use token::whole::utf8;
 ghost use mathlib.Core.Path.{_≡_};
 ghost use Prim.Native.Nat.{_≤_};
 ghost use lib.ListN.{length};
-ghost use Rattle.reading.specs.Sizes.{base, room as roomOf};
+ghost use Rattle.reading.specs.Sizes.{base};
 ghost use Rattle.reading.specs.Answers.{Answers, answer};
 ghost use Rattle.tree.specs.Readers.{widest};
 ghost use Rattle.tree.specs.Whole.{Judged, Told, refusal};
-
-// The sizes of document 01.
-const RULES: Rules = Rules {
-    text: 32768,
-    nodes: 1024,
-    limits: Limits { depth: 32 },
-};
-
-const WORDS: usize = 6;
 
 fn refused(number: u32, place: usize) -> Answer
     ensures { λ r. ⌜ r ≡ answer number place 0 ⌝ }
@@ -40,17 +33,6 @@ fn refused(number: u32, place: usize) -> Answer
         place,
         count: 0,
     }
-}
-
-// How many nodes the table has room for.
-fn room(rules: Rules, words: usize) -> usize
-    ensures { λ r. ⌜ r ≡ roomOf rules words ⌝ }
-{
-    let nodes = words / WORDS;
-    if nodes < rules.nodes {
-        return nodes;
-    }
-    rules.nodes
 }
 
 // The value of a text, whose nodes stand from the table's start on.
@@ -103,7 +85,7 @@ fn tokens(rules: Rules, text: &[u8], forms: Forms, table: &mut [u32]) -> Answer
     else {
         return given(judged);
     };
-    if nodes > room(rules, table.len()) {
+    if nodes > room(rules, table) {
         return Answer {
             number: 8,
             place: text.len(),
@@ -141,5 +123,5 @@ fn reading(rules: Rules, number: u32, text: &[u8], table: &mut [u32]) -> Answer
 pub fn read(number: u32, text: &[u8], table: &mut [u32]) -> Answer
     ensures { λ r. ⌜ Answers base (now (text .entry)) (now (table .entry)) number r (now (table .exit)) ⌝ }
 {
-    reading(RULES, number, text, table)
+    reading(BASE, number, text, table)
 }

@@ -25,17 +25,20 @@ returns c = told-refused _ _ _ _ (c .before .before .before .before .before .bef
 room-requires : tie.Need-room-requires
 room-requires c κs = search needs
 
+same-length : tie.Need-same-length
+same-length c = search needs
+
 returns-2 : tie.Need-returns-2
-returns-2 c = told-full _ _ _ _ (c .before .before .before .before .before .before .before .before .before .before .pre .1) (c .before .before .before .before .before .before .whole .result) (c .before .before .before .before .before .before .whole .ensures) (c .before .before .before .judged .given .1) (c .before .room .ensures) (c .if1 .taken)
+returns-2 c = told-full _ _ _ _ (c .before .before .before .before .before .before .before .before .before .before .before .pre .1) (c .before .before .before .before .before .before .before .whole .result) (c .before .before .before .before .before .before .before .whole .ensures) (c .before .before .before .before .judged .given .1) (c .before .room .ensures) (c .if1 .taken)
 
 whole-requires-2 : tie.Need-whole-requires-2
 whole-requires-2 c κs = search needs
 
-same-length : tie.Need-same-length
-same-length c = search needs
+same-length-2 : tie.Need-same-length-2
+same-length-2 c = search needs
 
 returns-3 : tie.Need-returns-3
-returns-3 c = told-written _ _ _ _ (c .before .before .before .before .before .before .before .before .before .before .before .before .before .before .pre .1) (c .before .before .before .before .before .before .before .before .before .before .whole .result) (c .before .before .before .before .before .before .before .before .before .before .whole .ensures) (c .before .before .before .before .before .before .before .judged .given .1) (c .before .before .whole2 .result) (c .before .before .before .before .before .room .ensures) (c .before .before .before .before .if1 .left) (c .before .before .whole2 .ensures)
+returns-3 c = told-written _ _ _ _ (c .before .before .before .before .before .before .before .before .before .before .before .before .before .before .before .pre .1) (c .before .before .before .before .before .before .before .before .before .before .before .whole .result) (c .before .before .before .before .before .before .before .before .before .before .before .whole .ensures) (c .before .before .before .before .before .before .before .before .judged .given .1) (c .before .before .whole2 .result) (c .before .before .before .before .before .room .ensures) (c .before .before .before .before .if1 .left) (c .before .before .whole2 .ensures)
 
 pub tokens-spec : {M : Type 1} → statement M
 tokens-spec =
@@ -48,7 +51,8 @@ tokens-spec =
     given-requires
     returns
     room-requires
+    same-length
     returns-2
     whole-requires-2
-    same-length
+    same-length-2
     returns-3)
