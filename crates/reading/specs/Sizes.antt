@@ -1,4 +1,5 @@
--- The sizes of 01, as parameters of the definitions: what a text is judged by, and of it what a token is judged by. Assumes nothing.
+-- The sizes of 01, as parameters of the definitions: what a text is judged by, and of it what a token is judged by.
+-- Assumes nothing.
 use Prim.Native.Nat.{ℕ, _/_, min}
 use Rattle.grammar.specs.Nodes.{nodeWords}
 use Rattle.reading.specs.declared.Limits.{Limits}
@@ -13,3 +14,8 @@ base = record { text = 32768; nodes = 1024; limits = baseLimits }
 -- 01: 'Room in the table: the smaller of 1,024 and the number of words divided by 6, rounded down'
 abbrev pub room : Rules → ℕ → ℕ
 room r n = min (r .nodes) (n / nodeWords)
+
+-- the bytes of a text at most, whatever the rules: up to here every place and every count of nodes fits a word of the
+-- table. No answer depends on it: it bounds the sums of the code
+abbrev pub widest : ℕ
+widest = 1048576

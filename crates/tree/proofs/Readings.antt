@@ -26,6 +26,7 @@ use Rattle.grammar.proofs.Frames.{Config, Stack, want, have}
 use Rattle.grammar.proofs.Machine.{haveClass}
 use Rattle.grammar.proofs.NodeLaws.{some-node, same-size}
 use Rattle.reading.specs.declared.Limits.{Limits}
+use Rattle.reading.specs.Sizes.{widest}
 use Rattle.reading.specs.Tokens.{seen, openMark}
 use Rattle.reading.proofs.Rows.{pick}
 use Rattle.reading.proofs.Decide.{whole}
@@ -62,7 +63,7 @@ use Rattle.begin.specs.Signs.{noMark, isClose}
 use Rattle.begin.specs.Begins.{Begins as Starts}
 use Rattle.begin.proofs.Signs.{close-class}
 use Rattle.tree.specs.Readers
-use Rattle.tree.specs.Readers.{widest, spanOf, opened, Fit, Sized, Inner, Turned, Born, Stands, Faulty, Asks, IsValue, Outcome, Reads, Holds, Turns, Bore, Member, Bracketed, Rounded, entering, signs, Ends, Alone, Slim, Literal, Nesting, Taken}
+use Rattle.tree.specs.Readers.{spanOf, opened, Fit, Sized, Inner, Turned, Born, Stands, Faulty, Asks, IsValue, Outcome, Reads, Holds, Turns, Bore, Member, Bracketed, Rounded, entering, signs, Ends, Alone, Slim, Literal, Nesting, Taken}
 use Rattle.tree.specs.Turning.{Narrow, Outer}
 use Rattle.look.proofs.Bounds.{token-bounds}
 use Rattle.tree.proofs.Beginning.{From, Entered, Begun, BeginsSo, begins-so}

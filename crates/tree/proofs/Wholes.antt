@@ -22,7 +22,7 @@ use Rattle.grammar.proofs.Machine.{haveClass, namesGo}
 use Rattle.reading.specs.declared.Answer.{Answer}
 use Rattle.reading.specs.declared.Limits.{Limits}
 use Rattle.reading.specs.declared.Rules.{Rules}
-use Rattle.reading.specs.Sizes.{room}
+use Rattle.reading.specs.Sizes.{room, widest}
 use Rattle.reading.specs.Answers.{LevelOf, Accepted, Answers, answer, noLevel, tooLong, notUtf8, faulty, noRoom, accepted}
 use Rattle.reading.proofs.First.{all-or-fault}
 use Rattle.reading.proofs.Unique.{one-tree}
@@ -43,7 +43,7 @@ use Rattle.look.specs.Looks.{Gets, handedOn}
 use Rattle.look.specs.Ends.{Behind, further, nothing, atEnd}
 use Rattle.look.proofs.Looking.{got-token}
 use Rattle.begin.specs.Levels.{LevelFound}
-use Rattle.tree.specs.Readers.{widest, spanOf, Faulty, Fit, IsValue, Outcome, Reads}
+use Rattle.tree.specs.Readers.{spanOf, Faulty, Fit, IsValue, Outcome, Reads}
 use Rattle.tree.specs.Whole.{Whole, JudgedAs, Judged, Told, refusal}
 use Rattle.look.proofs.Bounds.{token-bounds}
 use Rattle.tree.proofs.Readings.{refused-here}

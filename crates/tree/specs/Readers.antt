@@ -21,6 +21,7 @@ use Rattle.grammar.proofs.Frames as Frames
 use Rattle.grammar.proofs.Frames.{Config, Stack, want, have, namesOf}
 use Rattle.grammar.proofs.Machine.{wantMark}
 use Rattle.reading.specs.declared.Limits.{Limits}
+use Rattle.reading.specs.Sizes.{widest}
 use Rattle.reading.specs.Tokens.{seen}
 use Rattle.reading.specs.Faults.{FirstFault}
 use Rattle.reading.proofs.At as Place
@@ -41,11 +42,6 @@ use Rattle.tree.specs.declared.bracket.Turn.{Turn}
 use Rattle.tree.specs.declared.bracket.Turn.the-variants as Turn
 use Rattle.look.specs.Looks.{NotNext, NoHead}
 use Rattle.begin.specs.Signs.{noMark, isClose, literal}
-
--- the bytes of a text at most, whatever the rules: up to here every place and every count of nodes fits a word of the
--- table
-abbrev pub widest : ℕ
-widest = 1048576
 
 -- the numbers of a turn that reads no value
 abbrev pub Ends : Token.Token → Token.Token → Turn → Type 0

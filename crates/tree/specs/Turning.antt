@@ -6,6 +6,7 @@ use Prim.Native.Nat.{ℕ, _+_, _≤_, _<_, pred}
 use lib.ListN.{length}
 use Rattle.lexicon.specs.declared.Token as Token
 use Rattle.reading.specs.declared.Limits.{Limits}
+use Rattle.reading.specs.Sizes.{widest}
 use Rattle.moves.specs.declared.Role.{Role}
 use Rattle.moves.specs.declared.Role.the-variants as Role
 use Rattle.moves.specs.declared.Shape.the-variants as Shape
@@ -19,7 +20,6 @@ use Rattle.moves.specs.declared.Mode.the-variants as Mode
 use Rattle.table.specs.declared.Entry as Entry
 use Rattle.table.specs.Over.{Stored, entryWords, Assigned}
 use Rattle.tree.specs.Tellings.{leafKind, leafDetail}
-use Rattle.tree.specs.Readers.{widest}
 use Rattle.look.specs.declared.answer.Read.the-variants as Read
 use Rattle.tree.specs.declared.bracket.State as State
 use Rattle.tree.specs.declared.bracket.Turn.{Turn}

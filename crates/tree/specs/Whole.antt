@@ -15,7 +15,7 @@ use Rattle.moves.specs.Means.{levelOf}
 use Rattle.table.specs.Over.{Written}
 use Rattle.look.specs.declared.answer.Read.{Read}
 use Rattle.look.specs.declared.answer.Read.the-variants as Read
-use Rattle.tree.specs.Readers.{widest, Faulty}
+use Rattle.tree.specs.Readers.{Faulty}
 
 module _ (text : List ℕ) where
   -- the text is accepted; its nodes are counted, and written if they fit

@@ -18,9 +18,10 @@ use table::assign;
 use table::put;
 ghost use mathlib.Core.Path.{_≡_};
 ghost use Prim.Native.Nat.{pred, _≤_};
+ghost use Rattle.reading.specs.Sizes.{widest};
 ghost use Rattle.look.specs.declared.answer.Read.the-variants as Read;
 ghost use Rattle.tree.specs.declared.bracket.Turn.the-variants as Turn;
-ghost use Rattle.tree.specs.Readers.{widest, entering as enteringOf, Ends, Taken};
+ghost use Rattle.tree.specs.Readers.{entering as enteringOf, Ends, Taken};
 ghost use Rattle.tree.specs.Turning.{Narrow, Outer, Led, Tupled, Counted, Deepened, Shuts, Closed};
 
 // What is expected, from which place; the open brackets; the nodes of the members so far; the last member's first node.

@@ -20,9 +20,8 @@ use token::whole::utf8;
 ghost use mathlib.Core.Path.{_≡_};
 ghost use Prim.Native.Nat.{_≤_};
 ghost use lib.ListN.{length};
-ghost use Rattle.reading.specs.Sizes.{base};
+ghost use Rattle.reading.specs.Sizes.{base, widest};
 ghost use Rattle.reading.specs.Answers.{Answers, answer};
-ghost use Rattle.tree.specs.Readers.{widest};
 ghost use Rattle.tree.specs.Whole.{Judged, Told, refusal};
 
 fn refused(number: u32, place: usize) -> Answer

@@ -31,9 +31,10 @@ ghost use lib.ListN.{length};
 ghost use Rattle.lexicon.specs.declared.Next.the-variants as Next;
 ghost use Rattle.lexicon.specs.Token.{Comes};
 ghost use Rattle.grammar.specs.Tokens.{classKind};
+ghost use Rattle.reading.specs.Sizes.{widest};
 ghost use Rattle.look.specs.Looks.{Gets};
 ghost use Rattle.begin.specs.Signs.{noMark};
-ghost use Rattle.tree.specs.Readers.{widest, Fit, Inner, Reads, Rounded, Bracketed, Member, Bore};
+ghost use Rattle.tree.specs.Readers.{Fit, Inner, Reads, Rounded, Bracketed, Member, Bore};
 ghost use Rattle.tree.specs.Turning.{Narrow};
 
 // The value that the token t begins, at a place for a value; its nodes stand from the index on, under the parent.
