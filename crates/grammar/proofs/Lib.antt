@@ -16,4 +16,5 @@ pub mod Levels
 pub mod FirstNewer
 pub mod Compared
 pub mod NodeLaws
+pub mod Leaves
 pub mod Examples

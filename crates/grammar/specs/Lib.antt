@@ -5,3 +5,4 @@ pub mod Yield
 pub mod Level
 pub mod Place
 pub mod Nodes
+pub mod Leaves

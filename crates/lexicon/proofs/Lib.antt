@@ -11,4 +11,7 @@ pub mod Powers
 pub mod Tokens
 pub mod Unique
 pub mod Determined
+pub mod Formed
+pub mod Moved
+pub mod Pieces
 pub mod Examples

@@ -1,4 +1,4 @@
--- Disjoint classes: the test that no byte is in both, and what it tells. Assumes nothing.
+-- Disjoint classes: the test that no byte is in both, and what it tells; inclusion; a byte by the bounds of its span. Assumes nothing.
 use mathlib.Core.Path.{_≡_, subst, sym}
 use mathlib.Core.Logic.{_⊎_, inl, inr, ⊎-elim}
 use mathlib.Core.Bool.{Bool, true, false, _&&_, _||_, false≢true}
@@ -7,7 +7,7 @@ use Prim.Native.Nat.{ℕ, _≤_}
 use native.Mathlib.Omega.{arith}
 use borrow.Author.Tests.{leb-true, ltb-true, le-leb}
 use lib.Dec.{leb, ltb}
-use Rattle.rules.specs.Class.{Span, Class, has, In, just}
+use Rattle.rules.specs.Class.{Span, Class, _upto_, has, In, just}
 use Rattle.rules.proofs.Bools.{and-left, and-right, and-both, or-cases, or-left, or-right}
 
 unfoldable pub apartSpan : Span → Class → Bool
@@ -97,3 +97,25 @@ unfolding has
 in-cons s c b i =
     ⊎-elim (λ x. inl (or-left (leb (s .low) b && leb b (s .high)) false x)) (λ x. inr x)
     (or-cases (leb (s .low) b && leb b (s .high)) (has c b) i)
+
+-- ---- a byte by the bounds of its span
+
+-- the first span of a class has the byte
+pub in-first : (low high : ℕ) (c : Class) (b : ℕ) → low ≤ b → b ≤ high → In (low upto high ∷ c) b
+unfolding has
+in-first low high c b l h = or-left (leb low b && leb b high) (has c b) (and-both (leb low b) (leb b high) (le-leb low b l) (le-leb b high h))
+
+-- or a later one
+pub in-later : (low high : ℕ) (c : Class) (b : ℕ) → In c b → In (low upto high ∷ c) b
+unfolding has
+in-later low high c b i = or-right (leb low b && leb b high) (has c b) i
+
+between : (low high b : ℕ) → In (low upto high ∷ []) b → (leb low b && leb b high) ≡ true
+unfolding has
+between low high b i = ⊎-elim (λ e. e) (λ e. absurd (false≢true e)) (or-cases (leb low b && leb b high) false i)
+
+pub low-in : (low high b : ℕ) → In (low upto high ∷ []) b → low ≤ b
+low-in low high b i = leb-true low b (and-left (leb low b) (leb b high) (between low high b i))
+
+pub in-high : (low high b : ℕ) → In (low upto high ∷ []) b → b ≤ high
+in-high low high b i = leb-true b high (and-right (leb low b) (leb b high) (between low high b i))

@@ -7,4 +7,7 @@ pub mod Tests
 pub mod Ways
 pub mod Plain
 pub mod Closed
+pub mod Bounds
+pub mod Windows
 pub mod Over
+pub mod Every

@@ -68,11 +68,11 @@ module _ (text : List ℕ) where
       more (placed t i (b ++ y) (e ∙ append-assoc a b y)) (ending (two-end a b i) (placed u (i + length a) y (second-stands a b i y e)))
 
   -- the bytes between end at j, and the text from i on begins with them
-  length-between : (i j : ℕ) → i ≤ j → j ≤ length text → i + length (between text i j) ≡ j
+  pub length-between : (i j : ℕ) → i ≤ j → j ≤ length text → i + length (between text i j) ≡ j
   unfolding between
   length-between i j p q = omega (arith, length-take-le (j - i) (drop i text) (omega (arith, length-drop i text)))
 
-  between-stands : (i j : ℕ) → drop i text ≡ between text i j ++ drop (j - i) (drop i text)
+  pub between-stands : (i j : ℕ) → drop i text ≡ between text i j ++ drop (j - i) (drop i text)
   unfolding between
   between-stands i j = sym (take-append-drop (j - i) (drop i text))
 

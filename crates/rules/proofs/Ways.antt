@@ -6,6 +6,7 @@ use mathlib.Core.Logic.{_⊎_, inl, inr, ⊎-elim}
 use mathlib.Core.Bool.{Bool, true, false, not, _&&_, _||_, cond, false≢true}
 use mathlib.Core.List.{List, [], _∷_, _++_}
 use Prim.Native.Nat.{ℕ, zero, suc, _+_, _≤_, _<_}
+use native.Mathlib.Decide.{decLe}
 use native.Mathlib.Omega.{arith}
 use lib.ListN.{length}
 use Rattle.rules.specs.Class.{Class}
@@ -226,6 +227,14 @@ module _ (text : List ℕ) where
       go : Entered text r i j → At text c i
       go (inl x) = absurd (not-both (nullable r) (x .1) (and-left (not (nullable r)) _ e))
       go (inr u) = all-in c (ways r) i j (and-right (not (nullable r)) _ e) u
+
+-- a match of a rule that takes a byte begins within the text
+pub begins-within : {text : List ℕ} (r : Rule) → nullable r ≡ false → {i j : ℕ} → Takes text r i j → i < length text
+begins-within {text} r n {i} t = go (decLe (length text) i)
+  where
+    go : Dec (length text ≤ i) → i < length text
+    go (yes h) = absurd (end-takes text r n h t)
+    go (no h) = omega (arith, h)
 
 -- where no match reaches further than another, each place has one at most
 pub single : {text : List ℕ} (n : ℕ) {r : Rule} → covers n r r ≡ true → Single text r

@@ -4,3 +4,4 @@ pub mod Class
 pub mod Rule
 pub mod Plain
 pub mod Over
+pub mod Every
