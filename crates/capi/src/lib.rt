@@ -1,8 +1,8 @@
 // The library for C: lent memory is a pointer and a length, and no two lent parts overlap.
 ghost use Rattle.reading.specs.Sizes.{base};
 ghost use Rattle.reading.specs.Answers.{answer, Answers};
-ghost use Rattle.integer_value.specs.Answers.{IntegerAnswers};
-ghost use Rattle.text_value.specs.Answers.{TextAnswers};
+ghost use Rattle.values.specs.Integer.{IntegerAnswers};
+ghost use Rattle.values.specs.Text.{TextAnswers};
 
 // uint32_t muon_read(uint32_t level, const uint8_t *text, size_t text_len, uint32_t *table, size_t table_len, size_t *place, size_t *count);
 // The answer's number is returned, its place and count are written, and the nodes stand in the table.

@@ -21,10 +21,10 @@ use Rattle.lexicon.specs.Literals.{integer}
 use Rattle.lexicon.specs.Utf8.{WellFormed, BadAt, Encoded}
 use Rattle.lexicon.specs.Values.{value}
 use Rattle.reading.specs.Sizes.{base}
-use Rattle.integer_value.specs.declared.integer.IntegerAnswer.{IntegerAnswer}
+use Rattle.values.specs.declared.IntegerAnswer.{IntegerAnswer}
 use Rattle.integer_value.specs.declared.digits.Size.{Size}
 use Rattle.integer_value.specs.declared.digits.Size.the-variants as Size
-use Rattle.integer_value.specs.Answers.{Exactly, refusal, IntegerAnswers, tooLong, notUtf8, notInteger, outside, accepted}
+use Rattle.values.specs.Integer.{Exactly, refusal, IntegerAnswers, tooLong, notUtf8, notInteger, outside, accepted}
 use Rattle.integer_value.specs.Parts as Parts
 use Rattle.integer_value.specs.Parts.{SignOf, MarkOf, Counted, Total, SignedOf, Valued}
 use Rattle.integer_value.proofs.Numbers.{size-outside}

@@ -3,5 +3,3 @@ pub mod Numbers
 pub mod Starts
 pub mod Walks
 pub mod Calls
-pub mod Determined
-pub mod Exists

@@ -15,8 +15,8 @@ use Rattle.lexicon.specs.declared.Base.the-variants.{Two, Eight, Ten, Sixteen}
 use Rattle.lexicon.specs.declared.Set.{Set}
 use Rattle.lexicon.specs.Bytes.{radix, digitSet, size}
 use Rattle.lexicon.specs.Values.{digit, valueFrom}
-use Rattle.integer_value.specs.declared.integer.IntegerAnswer.{IntegerAnswer}
-use Rattle.integer_value.specs.Answers.{Within, answer, refusal}
+use Rattle.values.specs.declared.IntegerAnswer.{IntegerAnswer}
+use Rattle.values.specs.Integer.{Within, answer, refusal}
 use Rattle.integer_value.specs.declared.digits.Size.the-variants as Size
 use Rattle.integer_value.specs.Parts.{Counted, SignedOf, outside, within}
 

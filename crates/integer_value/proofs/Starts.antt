@@ -22,7 +22,7 @@ use Rattle.lexicon.proofs.Groups.{digits-at}
 use Rattle.lexicon.proofs.Numbers.{Numeral, marked, bare, clear, in-marks, bare-short, letter, same-base, valued}
 use Rattle.lexicon.proofs.Integers.{start-sign, of-integer}
 use Rattle.number.proofs.Marks.{start-plus, start-minus, start-other}
-use Rattle.integer_value.specs.Answers.{Exactly}
+use Rattle.values.specs.Integer.{Exactly}
 use Rattle.integer_value.specs.Parts.{SignOf, MarkOf, hasMark, noMark, Ends}
 
 -- ---- the sign

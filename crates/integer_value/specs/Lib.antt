@@ -1,3 +1,2 @@
--- The answer of the call, and what the private functions of this crate answer.
-pub mod Answers
+-- What the private functions of this crate answer.
 pub mod Parts

@@ -15,10 +15,10 @@ use Rattle.lexicon.specs.Space.{Skips}
 use Rattle.lexicon.specs.Values.{Digits, value, IntegerOf}
 use Rattle.lexicon.proofs.Integers.{Start}
 use Rattle.number.specs.Number.{HasMark, NoMark}
-use Rattle.integer_value.specs.declared.integer.IntegerAnswer.{IntegerAnswer}
+use Rattle.values.specs.declared.IntegerAnswer.{IntegerAnswer}
 use Rattle.integer_value.specs.declared.digits.Size as Size
 use Rattle.integer_value.specs.declared.digits.Size.{Size}
-use Rattle.integer_value.specs.Answers.{Within, answer, refusal}
+use Rattle.values.specs.Integer.{Within, answer, refusal}
 
 module _ (piece : List ℕ) where
   -- the sign, and where the number behind it may begin

@@ -8,6 +8,7 @@ use lexicon::Encoding;
 use lexicon::Found;
 use reading::TEXT;
 use utf8::utf8;
+use values::IntegerAnswer;
 ghost use mathlib.Core.Path.{_≡_};
 ghost use mathlib.Core.Bool.{cond};
 ghost use Prim.Native.Nat.{_≤_, _^_};
@@ -15,16 +16,8 @@ ghost use lib.IntN.{pos, negℤ};
 ghost use lib.ListN.{length};
 ghost use Rattle.rules.specs.Test.{Says};
 ghost use Rattle.reading.specs.Sizes.{base as rules};
-ghost use Rattle.integer_value.specs.Answers.{refusal, Exactly, IntegerAnswers};
+ghost use Rattle.values.specs.Integer.{refusal, Exactly, IntegerAnswers};
 ghost use Rattle.integer_value.specs.Parts.{SignedOf, Valued};
-
-// Number (0 accepted), place, count and value.
-pub struct IntegerAnswer {
-    pub number: u32,
-    pub place: usize,
-    pub count: usize,
-    pub value: i64,
-}
 
 const LONGEST: usize = TEXT;
 // 2^63

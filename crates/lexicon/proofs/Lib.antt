@@ -6,6 +6,7 @@ pub mod Spaces
 pub mod Groups
 pub mod Numbers
 pub mod Integers
+pub mod Marks
 pub mod Fractions
 pub mod Powers
 pub mod Tokens

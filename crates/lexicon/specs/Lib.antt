@@ -1,7 +1,8 @@
--- Document 01's tokens, in its order: bytes, UTF-8, the front, dividing space, the literals of source document 003, symbols, the
--- values of literals and the bad ones, the token at a place.
+-- Document 01's tokens, in its order: bytes, UTF-8 as it is read and written, the front, dividing space, the literals
+-- of source document 003, symbols, the values of literals and the bad ones, the token at a place.
 pub mod Bytes
 pub mod Utf8
+pub mod Encode
 pub mod Space
 pub mod Front
 pub mod Literals

@@ -12,14 +12,13 @@ use lib.ListN.{length, getD}
 use Rattle.rules.specs.Class.{_upto_, just, anyIn, has, In}
 use Rattle.rules.specs.Rule.{one, many, Takes, byte, both, left, right, Fails}
 use Rattle.rules.proofs.Bools.{decide}
-use Rattle.rules.proofs.Classes.{apart, apartSpan, apart-no, just-is, in-cons}
+use Rattle.rules.proofs.Classes.{apart, apartSpan, apart-no, just-is, in-cons, in-first, in-later}
 use Rattle.rules.proofs.Matches.{starting}
 use Rattle.rules.proofs.Ways.{never}
 use Rattle.rules.proofs.Closed.{never-closes}
 use Rattle.lexicon.specs.Bytes.{dividing}
 use Rattle.lexicon.specs.Space.{grave, notGrave, blank}
 use Rattle.lexicon.proofs.Spaces.{byte-single}
-use Rattle.text.proofs.Ranges.{in-first, in-later}
 use Rattle.text.proofs.Searches.{fails-end}
 
 -- the dividing bytes as `space` tells them: a tab or a newline, or one of the two others

@@ -10,13 +10,13 @@ use lib.ListN.{length, getD}
 use types.Run.{OneOf}
 use Rattle.rules.specs.Test.{Says}
 use Rattle.rules.specs.Class.{Class, _upto_, In, just}
-use Rattle.rules.specs.Rule.{Rule, one, Takes, byte, both, left, right, Longest, Fails}
-use Rattle.rules.proofs.Classes.{apart, apartSpan, includes, inSome, includes-in}
+use Rattle.rules.specs.Rule.{one, Takes, byte, both, left, right, Longest, Fails}
+use Rattle.rules.proofs.Classes.{apart, apartSpan, includes, inSome, includes-in, in-first, in-later, low-in, in-high}
 use Rattle.rules.proofs.Matches.{byte-at, byte-end, ending}
-use Rattle.rules.proofs.Ways.{nullable, never, never-takes, end-takes}
+use Rattle.rules.proofs.Ways.{never, never-takes}
 use Rattle.lexicon.specs.Literals.{plainByte, unescaped}
 use Rattle.lexicon.specs.Utf8.{range, beyond, sequence}
-use Rattle.text.proofs.Ranges.{in-first, in-later, low-in, in-high, byte-is}
+use Rattle.text.proofs.Ranges.{byte-is}
 use Rattle.text.proofs.Searches.{found, fails}
 use Rattle.rules.proofs.Tests.{refuted}
 use Rattle.rules.proofs.Closed.{agree}
@@ -61,14 +61,6 @@ plain-in b h l q w g = first (decLe b 0x21)
     first (no x) = in-later 0x20 0x21 _ b (second (decLe b 0x5B) (omega (arith, x, q)))
 
 module _ {text : List ℕ} where
-  -- a match of a rule that takes a byte begins within the text
-  pub begins-within : (r : Rule) → nullable r ≡ false → {i j : ℕ} → Takes text r i j → i < length text
-  begins-within r n {i} t = go (decLe (length text) i)
-    where
-      go : Dec (length text ≤ i) → i < length text
-      go (yes h) = absurd (end-takes text r n h t)
-      go (no h) = omega (arith, h)
-
   widen : (c d : Class) → includes c d ≡ true → {i j : ℕ} → Takes text (one c) i j → Takes text (one d) i j
   widen c d w {i} (byte a e) = byte (a .0, includes-in c d (getD text i 0) w (a .1)) e
 

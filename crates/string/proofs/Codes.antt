@@ -1,65 +1,30 @@
--- Code points by their number: the literal's longest match, its value, and the closing angle of an escape. Assumes nothing.
-use mathlib.Core.Path.{_≡_, refl, subst, subst₂, sym, ap, _∙_}
+-- Code points by their number: the literal's longest match, and its value. Assumes nothing.
+use mathlib.Core.Path.{_≡_, refl, subst, sym, ap, _∙_}
 use mathlib.Core.Bool.{Bool, true, false, not}
 use mathlib.Core.List.{List}
 use Prim.Native.Nat.{ℕ, _+_, _≤_, _<_}
-use native.Mathlib.Nat.{le-antisymm}
 use native.Mathlib.Omega.{arith}
 use borrow.Author.Tests.{not-true, not-false}
 use lib.ListN.{length, getD}
 use Rattle.rules.specs.Test.{Says}
-use Rattle.rules.specs.Class.{Class, just}
-use Rattle.rules.specs.Rule.{one, many, plus, lit, Takes, byte, both, more, At, Longest, Fails}
-use Rattle.rules.proofs.Classes.{apart, apartSpan}
-use Rattle.rules.proofs.Matches.{forward, starting, ending}
-use Rattle.rules.proofs.Chains.{reaches}
-use Rattle.rules.proofs.Ways.{never, begins-none}
+use Rattle.rules.specs.Class.{just}
+use Rattle.rules.specs.Rule.{one, lit, Takes, byte, both, At, Longest, Fails}
+use Rattle.rules.proofs.Matches.{starting, ending}
 use Rattle.lexicon.specs.declared.Base.{Base}
-use Rattle.lexicon.specs.declared.Base.the-variants.{Two, Eight, Ten, Sixteen}
+use Rattle.lexicon.specs.declared.Base.the-variants.{Ten}
 use Rattle.lexicon.specs.declared.Literal.{Literal}
 use Rattle.lexicon.specs.declared.Literal as Literal
-use Rattle.lexicon.specs.Bytes.{digits}
 use Rattle.lexicon.specs.Found.{Judges}
 use Rattle.lexicon.specs.Literals.{codeOfBase, codePoint}
 use Rattle.lexicon.specs.Values.{CodeOf}
 use Rattle.lexicon.specs.Bad.{Scalar, BadCode}
 use Rattle.lexicon.proofs.Numbers.{letter}
+use Rattle.lexicon.proofs.Marks.{Marked, by-mark, by-digit, begins, mark-long, first-digit, digits-of}
 use Rattle.string.specs.Parts.{number, numberAt, BadNumber}
-use Rattle.string.proofs.Marks.{Marked, marked, by-mark, by-digit, begins, mark-long}
 use Rattle.rules.proofs.Tests.{refuted, not-there}
 use Rattle.lexicon.proofs.Bases.{some-base, any-base}
-use Rattle.lexicon.proofs.Spaces.{byte-single}
-
--- the closing angle is no digit
-angle-digit : (b : Base) → never (just 0x3E) (one (digits b)) ≡ true
-unfolding never apart apartSpan
-angle-digit Two = refl
-angle-digit Eight = refl
-angle-digit Ten = refl
-angle-digit Sixteen = refl
 
 module _ {text : List ℕ} where
-  first-digit : {c : Class} {i j : ℕ} → Takes text (plus (one c)) i j → At text c i
-  first-digit (both (byte a e) u) = a
-
-  all-many : {c : Class} {i j : ℕ} → Takes text (plus (one c)) i j → Takes text (many (one c)) i j
-  all-many (both t u) = more t u
-
-  -- its digits stand behind the only mark
-  digits-of : {i s k : ℕ} (b : Base) → Marked text i b s → Takes text codePoint i k → Takes text (number b) s k
-  digits-of {i} {s} {k} b m t = let s = some-base codeOfBase t in go (s .0) (s .1)
-    where
-      go : (a : Base) → Takes text (codeOfBase a) i k → Takes text (number b) s k
-      go a (both u d) =
-          let e = m .only a u (first-digit d) in
-          subst₂ (λ (x : Base) (y : ℕ). Takes text (number x) y k) (e .0) (e .1) d
-
-  mark-of : {i j : ℕ} → Takes text codePoint i j → (b : Base) × (s : ℕ) × Marked text i b s
-  mark-of t = let s = some-base codeOfBase t in go (s .0) (s .1)
-    where
-      go : (a : Base) {i j : ℕ} → Takes text (codeOfBase a) i j → (b : Base) × (s : ℕ) × Marked text i b s
-      go a (both u d) = (a, _, marked text a u (first-digit d))
-
   -- ---- what the digits' answer says of the literal
 
   judged : (b : Base) {i s j : ℕ} → Marked text i b s → Longest text (number b) s j → Longest text codePoint i j
@@ -111,21 +76,6 @@ module _ {text : List ℕ} where
     where
       go : (b : Base) {j : ℕ} → Takes text (codeOfBase b) i j → ⊥
       go b (both u d) = let x = mark-long text b u in omega (arith, first-digit d .0)
-
-  -- ---- the closing angle
-
-  -- a match that the closing angle follows is as long as any
-  pub angle-most : {i j k : ℕ} → Takes text codePoint i j → At text (just 0x3E) j → Takes text codePoint i k → k ≤ j
-  angle-most {i} {j} {k} t a u = go (mark-of t .0) (mark-of t .2)
-    where
-      go : (b : Base) {s : ℕ} → Marked text i b s → k ≤ j
-      go b m =
-          forward (reaches (byte-single (digits b)) (all-many (digits-of b m t)) (begins-none text (just 0x3E) (one (digits b)) (angle-digit b) a)
-          (all-many (digits-of b m u)))
-
-  -- so a literal with the closing angle behind it has one end only
-  pub angle-same : {i j k : ℕ} → Takes text codePoint i j → At text (just 0x3E) j → Takes text codePoint i k → At text (just 0x3E) k → j ≡ k
-  angle-same t a u b = le-antisymm (angle-most u b t) (angle-most t a u)
 
 -- ---- what each way through the code says
 

@@ -26,7 +26,7 @@ use Rattle.string.specs.Parts.{angled, BadAngled, item}
 use Rattle.rules.proofs.Tests.{says-no, there, not-there}
 use Rattle.string.proofs.Among.{place}
 use Rattle.rules.proofs.Closed.{agree}
-use Rattle.string.proofs.Codes.{angle-most}
+use Rattle.lexicon.proofs.Marks.{angle-most}
 use Rattle.string.proofs.Items.{backslash, backslash-unescaped, letter-angle, escape-single, restricted-single}
 
 abbrev angle : ℕ

@@ -15,7 +15,7 @@ use Rattle.rules.proofs.Ways.{nullable, never, never-takes, covers, single, gro
 use Rattle.lexicon.specs.Literals.{unescaped, restricted, escapeLetter, escape, codePoint}
 use Rattle.string.specs.Parts.{item}
 use Rattle.string.proofs.Among.{Strict}
-use Rattle.string.proofs.Codes.{angle-same}
+use Rattle.lexicon.proofs.Marks.{angle-same}
 
 abbrev pub quote : Class
 quote = just 0x22

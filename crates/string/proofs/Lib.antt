@@ -1,6 +1,5 @@
 -- The laws of Text literals.
 pub mod Among
-pub mod Marks
 pub mod Codes
 pub mod Numbers
 pub mod Items

@@ -1,7 +1,7 @@
 -- A byte of a range, by its bounds. Assumes nothing.
 use mathlib.Core.Path.{_≡_, refl}
 use mathlib.Core.Logic.{⊎-elim}
-use mathlib.Core.Bool.{true, false, _&&_, false≢true}
+use mathlib.Core.Bool.{false}
 use mathlib.Core.List.{List, [], _∷_}
 use Prim.Native.Nat.{ℕ, _+_, _≤_, _<_}
 use lib.Dec.{leb}
@@ -9,33 +9,13 @@ use lib.ListN.{length, getD}
 use native.Mathlib.Omega.{arith}
 use borrow.Author.Tests.{leb-true, leb-false, le-leb}
 use Rattle.rules.specs.Test.{Says}
-use Rattle.rules.specs.Class.{Class, _upto_, just, has, In}
+use Rattle.rules.specs.Class.{_upto_, just, In}
 use Rattle.rules.specs.Rule.{one, Takes, byte}
-use Rattle.rules.proofs.Bools.{and-left, and-right, and-both, or-cases, or-left, or-right, decide}
-use Rattle.rules.proofs.Classes.{is-just}
+use Rattle.rules.proofs.Bools.{decide}
+use Rattle.rules.proofs.Classes.{is-just, in-first, in-later, low-in, in-high}
 use Rattle.rules.proofs.Matches.{byte-at}
 use Rattle.rules.proofs.Tests.{says-no}
 use Rattle.lexicon.specs.Utf8.{range}
-
--- the first span of a class has the byte
-pub in-first : (low high : ℕ) (c : Class) (b : ℕ) → low ≤ b → b ≤ high → In (low upto high ∷ c) b
-unfolding has
-in-first low high c b l h = or-left (leb low b && leb b high) (has c b) (and-both (leb low b) (leb b high) (le-leb low b l) (le-leb b high h))
-
--- or a later one
-pub in-later : (low high : ℕ) (c : Class) (b : ℕ) → In c b → In (low upto high ∷ c) b
-unfolding has
-in-later low high c b i = or-right (leb low b && leb b high) (has c b) i
-
-between : (low high b : ℕ) → In (low upto high ∷ []) b → (leb low b && leb b high) ≡ true
-unfolding has
-between low high b i = ⊎-elim (λ e. e) (λ e. absurd (false≢true e)) (or-cases (leb low b && leb b high) false i)
-
-pub low-in : (low high b : ℕ) → In (low upto high ∷ []) b → low ≤ b
-low-in low high b i = leb-true low b (and-left (leb low b) (leb b high) (between low high b i))
-
-pub in-high : (low high b : ℕ) → In (low upto high ∷ []) b → b ≤ high
-in-high low high b i = leb-true b high (and-right (leb low b) (leb b high) (between low high b i))
 
 -- the ways out of `within`: no byte stands there, it is low enough, it is too low
 module _ {text : List ℕ} {low high at : ℕ} where

@@ -15,9 +15,8 @@ use Rattle.lexicon.specs.Values.{read, CodeOf}
 use Rattle.lexicon.proofs.Bases.{some-base}
 use Rattle.lexicon.proofs.Limits.{limited-value, read-more}
 use Rattle.string.specs.Parts.{numberAt}
-use Rattle.string.proofs.Marks.{Marked, begins, mark-long}
+use Rattle.lexicon.proofs.Marks.{Marked, begins, mark-long, first-digit}
 use Rattle.text_value.specs.Parts.{CodeIs}
-use Rattle.text_value.proofs.Spelled.{first-digit}
 
 module _ (piece : List ℕ) where
   -- ---- the mark
@@ -26,13 +25,13 @@ module _ (piece : List ℕ) where
   code-begins t = let s = some-base codeOfBase t in go (s .0) (s .1)
     where
       go : (b : Base) {i j : ℕ} → Takes piece (codeOfBase b) i j → Takes piece (lit "0c") i (i + 2) × (i + 2 < length piece)
-      go b (both u d) = (begins piece b u, omega (arith, mark-long piece b u, first-digit piece d .0))
+      go b (both u d) = (begins piece b u, omega (arith, mark-long piece b u, first-digit d .0))
 
   pub code-within : {i j : ℕ} (b : Base) {s : ℕ} → Marked piece i b s → Takes piece codePoint i j → (s ≤ j) × (j ≤ length piece)
   code-within {i} {j} b {s} m t = let x = some-base codeOfBase t in (go (x .0) (x .1), inside t (omega (arith, code-begins t .1)))
     where
       go : (a : Base) → Takes piece (codeOfBase a) i j → s ≤ j
-      go a (both u d) = omega (arith, m .only a u (first-digit piece d) .1, forward d)
+      go a (both u d) = omega (arith, m .only a u (first-digit d) .1, forward d)
 
   -- ---- the digits
 
@@ -75,7 +74,7 @@ module _ (piece : List ℕ) where
     where
       go : (v : ℕ) → CodeOf piece i j v → r ≡ min limit v
       go v c =
-          let o = m .only (c .base) (c .before) (first-digit piece (c .all-digits)) in
+          let o = m .only (c .base) (c .before) (first-digit (c .all-digits)) in
           e
           ∙ ap (λ (y : ℕ). min limit (numberAt piece b y j)) (sym (o .1))
           ∙ ap (λ (x : Base). min limit (numberAt piece x (c .start) j)) (sym (o .0))

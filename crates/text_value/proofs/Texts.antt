@@ -1,7 +1,6 @@
--- A piece that is a Text: which one, and its characters. They are determined once they are written as UTF-8, and that is well formed.
--- Assumes nothing.
+-- A piece that is a Text: which one, its characters as they are written, and the answer. Assumes nothing.
 use mathlib.Core.Path.{_≡_, refl, sym, ap, subst, _∙_}
-use mathlib.Core.Logic.{inl, inr, ⊎-elim}
+use mathlib.Core.Logic.{inl, inr}
 use mathlib.Core.Bool.{Bool, true, false}
 use mathlib.Core.List.{List, [], _∷_, _++_}
 use Prim.Native.Nat.{ℕ, _-_, _≤_, _<_, min}
@@ -9,18 +8,15 @@ use native.Mathlib.Nat.{le-antisymm}
 use native.Mathlib.Omega.{arith}
 use lib.ListN.{length}
 use Rattle.rules.specs.Test.{Says}
-use Rattle.rules.specs.Class.{Class, just}
-use Rattle.rules.specs.Rule.{Rule, lit, At, Takes, byte, both, left, right, Longest, Fails}
-use Rattle.rules.proofs.Classes.{apart, apartSpan}
+use Rattle.rules.specs.Rule.{Rule, Takes, left, right, Longest, Fails}
 use Rattle.rules.proofs.Matches.{inside}
 use Rattle.rules.proofs.Tests.{refuted}
-use Rattle.rules.proofs.Ways.{never, never-takes}
 use Rattle.lexicon.specs.declared.Encoding.{Encoding}
 use Rattle.lexicon.specs.Limited.{limit}
-use Rattle.lexicon.specs.Literals.{segment, quoted, word, codePoint}
+use Rattle.lexicon.specs.Literals.{quoted, word, codePoint}
 use Rattle.lexicon.specs.Utf8.{WellFormed, Encoded}
-use Rattle.lexicon.specs.Values.{read, CodeOf, Quoted, TextOf, quotes, bare, coded}
-use Rattle.lexicon.specs.Bad.{Scalar, BadCode, BadQuoted, inFirst, inFurther}
+use Rattle.lexicon.specs.Values.{read, quotes, bare, coded}
+use Rattle.lexicon.specs.Bad.{Scalar}
 use Rattle.reading.specs.declared.Answer.{Answer}
 use Rattle.reading.specs.Answers.{answer}
 use Rattle.reading.specs.declared.Rules.{Rules}
@@ -28,34 +24,17 @@ use Rattle.reading.specs.Sizes.{base}
 use Rattle.text_value.specs.declared.value.Shape as Shape
 use Rattle.text_value.specs.declared.value.Shape.{Shape}
 use Rattle.text_value.specs.declared.value.Verdict.{Verdict}
-use Rattle.text_value.specs.Answers.{Exactly, BadText, TextAnswers, noRoom, accepted}
-use Rattle.text_value.specs.Encode.{encode, encoded}
-use Rattle.text_value.specs.Parts.{quote, Puts, CodeIs, HasQuoted, WroteQuoted}
+use Rattle.values.specs.Text.{Exactly, BadText, TextAnswers, noRoom, accepted}
+use Rattle.lexicon.specs.Encode.{encode, encoded}
+use Rattle.text_value.specs.Parts.{Puts, CodeIs, HasQuoted, WroteQuoted}
 use Rattle.text_value.specs.Shapes.{Shaped, Judged, WroteText}
-use Rattle.text_value.proofs.Characters.{Scalars, quoted-bytes, word-same}
-use Rattle.text_value.proofs.Codes.{code-begins}
-use Rattle.text_value.proofs.Formed.{encoded-formed}
-use Rattle.text_value.proofs.Spelled.{code-takes, code-same, quoted-same}
+use Rattle.values.proofs.Shapes.{no-word, no-code, word-code, quoted-good, word-good, code-good}
+use Rattle.values.proofs.Spelled.{quoted-same}
+use Rattle.values.proofs.Characters.{quoted-bytes, word-same}
+use Rattle.values.proofs.Values.{code-of, quoted-of}
+use Rattle.values.proofs.Texts.{quoted-known, code-known, text-same}
 use Rattle.text_value.proofs.Stores.{puts-same, puts-length, puts-start}
-use Rattle.text_value.proofs.Values.{scalar-or, code-of, quoted-of, quoted-takes, quoted-scalars}
 use Rattle.text_value.proofs.Walks.{append-none}
-
-abbrev zero : Class
-zero = just 0x30
-
--- ---- the first byte tells the shape
-
-quote-word : never quote word ≡ true
-unfolding never apart apartSpan
-quote-word = refl
-
-quote-code : never quote codePoint ≡ true
-unfolding never apart apartSpan
-quote-code = refl
-
-zero-word : never zero word ≡ true
-unfolding never apart apartSpan
-zero-word = refl
 
 -- a number up to the limit, of a scalar value
 scalar-limit : {v : ℕ} → Scalar v → (min limit v ≡ v) × (v < 0x110000)
@@ -63,34 +42,6 @@ scalar-limit (inl h) = (omega arith, omega arith)
 scalar-limit (inr h) = (omega arith, omega arith)
 
 module _ (piece : List ℕ) where
-  segment-first : {i j : ℕ} → Takes piece segment i j → At piece quote i
-  segment-first (both (byte a e) t) = a
-
-  quoted-first : {i j : ℕ} → Takes piece quoted i j → At piece quote i
-  quoted-first (both t u) = segment-first t
-
-  bad-first : {i j : ℕ} → BadQuoted piece i j → At piece quote i
-  bad-first (inFirst b t) = go (b .before)
-    where
-      go : {i j : ℕ} → Takes piece (lit "\"\\") i j → At piece quote i
-      go (both (byte a e) t) = a
-  bad-first (inFurther t a) = segment-first t
-
-  code-first : {i j : ℕ} → Takes piece codePoint i j → At piece zero i
-  code-first t = go (code-begins piece t .0)
-    where
-      go : {i j : ℕ} → Takes piece (lit "0c") i j → At piece zero i
-      go (both (byte a e) t) = a
-
-  no-word : {i j : ℕ} → At piece quote i → Takes piece word i j → ⊥
-  no-word a t = never-takes piece quote word quote-word a t
-
-  no-code : {i j : ℕ} → At piece quote i → Takes piece codePoint i j → ⊥
-  no-code a t = never-takes piece quote codePoint quote-code a t
-
-  word-code : {i j k : ℕ} → Takes piece word i j → Takes piece codePoint i k → ⊥
-  word-code t u = never-takes piece zero word zero-word (code-first u) t
-
   -- ---- which Text the piece is exactly
 
   shorter : {r : Rule} {e : ℕ} → Longest piece r 0 e → (e ≡ length piece → ⊥) → Takes piece r 0 (length piece) → ⊥
@@ -98,13 +49,13 @@ module _ (piece : List ℕ) where
 
   pub quoted-other : {e : ℕ} → Longest piece quoted 0 e → (e ≡ length piece → ⊥) → Exactly piece → ⊥
   quoted-other l n (left t) = shorter l n t
-  quoted-other l n (right (left t)) = no-word (quoted-first (l .takes)) t
-  quoted-other l n (right (right t)) = no-code (quoted-first (l .takes)) t
+  quoted-other l n (right (left t)) = no-word piece (l .takes) t
+  quoted-other l n (right (right t)) = no-code piece (l .takes) t
 
   pub word-other : {e : ℕ} → Fails piece quoted 0 → Longest piece word 0 e → (e ≡ length piece → ⊥) → Exactly piece → ⊥
   word-other f l n (left t) = f .none t
   word-other f l n (right (left t)) = shorter l n t
-  word-other f l n (right (right t)) = word-code (l .takes) t
+  word-other f l n (right (right t)) = word-code piece (l .takes) t
 
   pub code-other : Fails piece quoted 0 → Fails piece word 0 → (Takes piece codePoint 0 (length piece) → ⊥) → Exactly piece → ⊥
   code-other f g n (left t) = f .none t
@@ -139,26 +90,17 @@ module _ (piece : List ℕ) where
   shaped-exact Shape.the-variants.CodePoint x = right (right (x .0))
 
   pub shaped-good : (s : Shape) → Shaped piece s → BadText piece → ⊥
-  shaped-good Shape.the-variants.Quoted x (inl b) = x .1 b
-  shaped-good Shape.the-variants.Quoted x (inr b) = no-code (quoted-first (x .0)) (code-takes piece (b .code))
-  shaped-good Shape.the-variants.Word x (inl b) = no-word (bad-first b) x
-  shaped-good Shape.the-variants.Word x (inr b) = word-code x (code-takes piece (b .code))
-  shaped-good Shape.the-variants.CodePoint x (inl b) = no-code (bad-first b) (x .0)
-  shaped-good Shape.the-variants.CodePoint x (inr b) = x .1 b
+  shaped-good Shape.the-variants.Quoted x = quoted-good piece (x .0) (x .1)
+  shaped-good Shape.the-variants.Word x = word-good piece x
+  shaped-good Shape.the-variants.CodePoint x = code-good piece (x .0) (x .1)
 
   -- ---- its characters
-
-  quoted-good : {cs : List ℕ} → Quoted piece 0 (length piece) cs → (BadQuoted piece 0 (length piece) → ⊥) → Scalars cs
-  quoted-good q n = ⊎-elim (λ s. s) (λ b. absurd (n b)) (quoted-scalars piece q)
-
-  code-good : {v : ℕ} → CodeOf piece 0 (length piece) v → (BadCode piece 0 (length piece) → ⊥) → Scalar v
-  code-good {v} c n = ⊎-elim (λ s. s) (λ b. absurd (n (record { number = v; code = c; bad = b }))) (scalar-or v)
 
   module _ (x : Shaped piece Shape.the-variants.Quoted) where
     pub has-quoted : HasQuoted piece
     has-quoted =
         let q = quoted-of piece (x .0) in
-        record { bytes = encoded (q .0); is = quoted-bytes piece (q .1) (quoted-good (q .1) (x .1)) refl }
+        record { bytes = encoded (q .0); is = quoted-bytes piece (q .1) (quoted-known piece (q .1) (x .1)) refl }
 
     pub wrote-quoted : {t t' : List ℕ} {n : ℕ} → WroteQuoted piece t t' n → WroteText piece t t' n
     unfolding has-quoted
@@ -174,7 +116,7 @@ module _ (piece : List ℕ) where
     code-value : (r ≡ code-of piece (x .0) .0) × (r < 0x110000)
     code-value =
         let v = code-of piece (x .0) in
-        let s = scalar-limit (code-good (v .1) (x .1)) in
+        let s = scalar-limit (code-known piece (v .1) (x .1)) in
         let e = c .is (v .0) (v .1) in
         (e ∙ s .0, omega (arith, e, s .0, s .1))
 
@@ -186,33 +128,9 @@ module _ (piece : List ℕ) where
         let v = code-of piece (x .0) in
         record { characters = _; is = coded (v .1); puts = puts-same (ap encode (code-value .0) ∙ sym (append-none (encode (v .0)))) p }
 
-  -- ---- determined and well formed
+  -- ---- the answer
 
   module _ (good : BadText piece → ⊥) where
-    pub text-scalars : {cs : List ℕ} → TextOf piece 0 (length piece) cs → Scalars cs
-    text-scalars (quotes q) = quoted-good q (λ b. good (inl b))
-    text-scalars (bare t) = word-same piece t .1
-    text-scalars (coded c) = (code-good c (λ b. good (inr b)), tt)
-
-    -- the bytes of an accepted Text are well formed
-    pub text-formed : {cs : List ℕ} → TextOf piece 0 (length piece) cs → WellFormed (encoded cs)
-    text-formed {cs} t = encoded-formed cs (text-scalars t)
-
-    -- and there is one row of them
-    pub text-same : {cs ds : List ℕ} → TextOf piece 0 (length piece) cs → TextOf piece 0 (length piece) ds → encoded cs ≡ encoded ds
-    text-same (quotes q) (quotes r) =
-        quoted-same piece (quoted-bytes piece q (text-scalars (quotes q)) refl) (quoted-bytes piece r (text-scalars (quotes r)) refl) refl
-    text-same (quotes q) (bare t) = absurd (no-word (quoted-first (quoted-takes piece q)) t)
-    text-same (quotes q) (coded c) = absurd (no-code (quoted-first (quoted-takes piece q)) (code-takes piece c))
-    text-same (bare t) (quotes q) = absurd (no-word (quoted-first (quoted-takes piece q)) t)
-    text-same (bare t) (bare u) = refl
-    text-same (bare t) (coded c) = absurd (word-code t (code-takes piece c))
-    text-same (coded c) (quotes q) = absurd (no-code (quoted-first (quoted-takes piece q)) (code-takes piece c))
-    text-same (coded c) (bare t) = absurd (word-code t (code-takes piece c))
-    text-same (coded c) (coded d) = ap (λ (v : ℕ). encode v ++ []) (code-same piece c d)
-
-    -- ---- the answer
-
     module _ (rules : Rules) (h : length piece ≤ rules .text) (formed : WellFormed piece) (exact : Exactly piece) (lent : List ℕ) where
       -- what is measured over an empty part leaves the buffer as it is
       kept : {t t' bs : List ℕ} {k n : ℕ} → Puts t k bs t' n → length t ≡ 0 → t' ++ lent ≡ lent
@@ -237,7 +155,7 @@ module _ (piece : List ℕ) where
             let k = kept (v .puts) z in
             let b = encoded (w .characters) in
             let e : length b ≡ n = omega (arith, w .puts .ends) in
-            let g : length b ≤ length lent = omega (arith, v .puts .ends, l, ap length (text-same (v .is) (w .is)), ap length k) in
+            let g : length b ≤ length lent = omega (arith, v .puts .ends, l, ap length (text-same piece good (v .is) (w .is)), ap length k) in
             let p : Puts lent 0 b u n = subst (λ (x : List ℕ). Puts x 0 b u n) k (w .puts) in
             subst (λ (j : ℕ). TextAnswers rules piece lent (answer 0 (length piece) j) u) e
             (subst (λ (x : List ℕ). TextAnswers rules piece lent (answer 0 (length piece) (length b)) x) (sym (puts-start p g))

@@ -18,16 +18,18 @@ use Rattle.lexicon.specs.Space.{Skips}
 use Rattle.lexicon.specs.Values.{read, Letter, CodeOf}
 use Rattle.lexicon.specs.Bad.{Scalar}
 use Rattle.lexicon.proofs.Spaces.{byte-single, skips-same}
-use Rattle.string.proofs.Codes.{angle-most}
+use Rattle.lexicon.proofs.Marks.{angle-most}
+use Rattle.reading.specs.Sizes.{widest}
 use Rattle.text_value.specs.declared.quoted.Meaning.{Meaning}
-use Rattle.text_value.specs.Encode.{encode}
+use Rattle.lexicon.specs.Encode.{encode}
 use Rattle.text_value.specs.Letters.{NoMeaning, Means}
-use Rattle.text_value.specs.Parts.{quote, backslash, notQuote, other, Puts, CodeIs, Angled, Item, itself, letter, number, Unescapes}
-use Rattle.text_value.specs.Parts.{closed, Copies, SegmentBytes, plain, escaped, QuotedBytes, last, Room, Stands, Wrote, WroteQuoted}
-use Rattle.text_value.specs.Parts.{HasQuoted}
-use Rattle.text_value.specs.Parts as Parts
-use Rattle.text_value.proofs.Spelled.{code-takes, quote-not, letter-angle, other-backslash, clash, item-same, item-quote, item-short}
-use Rattle.text_value.proofs.Spelled.{segment-begins, segment-same, segment-short, no-further}
+use Rattle.text_value.specs.Parts.{Puts, CodeIs, Room, Stands, Wrote, HasQuoted, WroteQuoted}
+use Rattle.values.specs.QuotedBytes.{quote, backslash, notQuote, other, Angled, Item, itself, letter, number, Unescapes}
+use Rattle.values.specs.QuotedBytes.{closed, Copies, SegmentBytes, plain, escaped, QuotedBytes, last}
+use Rattle.values.specs.QuotedBytes as Bytes
+use Rattle.values.proofs.Shapes.{code-takes}
+use Rattle.values.proofs.Spelled.{quote-not, letter-angle, other-backslash, clash, item-same, item-quote, item-short}
+use Rattle.values.proofs.Spelled.{segment-begins, segment-same, segment-short, no-further}
 use Rattle.text_value.proofs.Stores.{puts-more, puts-none, puts-same}
 
 -- ---- letters
@@ -65,7 +67,7 @@ module _ (piece : List ℕ) where
     pub angled-within : e < length piece
     angled-within = omega (arith, angled-end, s .is .close .0)
 
-    pub angled-room : {n : ℕ} → Room piece i n → n ≤ 32768
+    pub angled-room : {n : ℕ} → Room piece i n → n ≤ widest
     angled-room r = omega (arith, angled-within, forward (l .takes), r)
 
     module _ {r : ℕ} (c : CodeIs piece i e r) where
@@ -188,14 +190,14 @@ module _ (piece : List ℕ) where
         where
           go : {j : ℕ} {bs : List ℕ} → Unescapes piece i j bs → i < length piece
           go (closed a e) = a .0
-          go (Parts.next x u) = let y = item-short piece x in omega (arith, y .1, y .2)
+          go (Bytes.next x u) = let y = item-short piece x in omega (arith, y .1, y .2)
 
       pub walk-item : (At piece quote i → ⊥) → Stands (Item piece) i
       walk-item n = go (w .rest-is)
         where
           go : {j : ℕ} {bs : List ℕ} → Unescapes piece i j bs → Stands (Item piece) i
           go (closed a e) = absurd (n a)
-          go (Parts.next x u) = record { end = _; bytes = _; is = x }
+          go (Bytes.next x u) = record { end = _; bytes = _; is = x }
 
       pub walk-byte : (At piece quote i → ⊥) → (At piece backslash i → ⊥) → {t' : List ℕ} {m : ℕ} →
           Puts t n (getD piece i 0 ∷ []) t' m → Wrote (Item piece) i (i + 1) t n t' m
@@ -211,7 +213,7 @@ module _ (piece : List ℕ) where
         where
           go : {rest : List ℕ} → Unescapes piece i (w .end) rest → w .done ++ rest ≡ w .whole → Walk t' j m
           go (closed a e) s = absurd (q a)
-          go (Parts.next {bs = bs} {cs = cs} y u) s =
+          go (Bytes.next {bs = bs} {cs = cs} y u) s =
               let z = item-same piece (x .is) y in
               let h = item-short piece (x .is) in
               record {
@@ -239,7 +241,7 @@ module _ (piece : List ℕ) where
                 is = subst (λ (k : ℕ). Unescapes piece at k (w .whole)) e (w .whole-is);
                 puts = puts-same (sym (append-none (w .done)) ∙ s) (w .puts);
               }
-          go (Parts.next y u) s = absurd (item-quote piece q y)
+          go (Bytes.next y u) s = absurd (item-quote piece q y)
 
   -- ---- characters that are themselves
 
@@ -325,7 +327,7 @@ module _ (piece : List ℕ) where
         where
           go : {bs : List ℕ} → QuotedBytes piece i bs → Stands (SegmentBytes piece) i
           go (last s e) = record { end = _; bytes = _; is = s }
-          go (Parts.next s p q) = record { end = _; bytes = _; is = s }
+          go (Bytes.next s p q) = record { end = _; bytes = _; is = s }
 
       module _ {j m : ℕ} {t' : List ℕ} (x : Wrote (SegmentBytes piece) i j t n t' m) where
         pub walks-less : {k : ℕ} → Skips piece j k → (i < k) × (i < length piece)
@@ -341,14 +343,14 @@ module _ (piece : List ℕ) where
                   is = w .whole-is;
                   puts = puts-same (ap (λ (l : List ℕ). w .done ++ l) (segment-same piece (x .is) s .1) ∙ p) (puts-more (w .puts) (x .puts));
                 }
-            go (Parts.next s u q) p = absurd (no-further piece (sym (segment-same piece (x .is) s .0) ∙ e) u q)
+            go (Bytes.next s u q) p = absurd (no-further piece (sym (segment-same piece (x .is) s .0) ∙ e) u q)
 
         pub walks-next : {k : ℕ} → (j ≡ length piece → ⊥) → Skips piece j k → Walks t' k m
         walks-next {k} n u = go (w .rest-is) (w .so-far)
           where
             go : {rest : List ℕ} → QuotedBytes piece i rest → w .done ++ rest ≡ w .whole → Walks t' k m
             go (last s f) p = absurd (n (segment-same piece (x .is) s .0 ∙ f))
-            go (Parts.next {k = l} {cs = cs} s v q) p =
+            go (Bytes.next {k = l} {cs = cs} s v q) p =
                 let z = segment-same piece (x .is) s in
                 let h = skips-same v (subst (λ (y : ℕ). Skips piece y k) (z .0) u) in
                 record {

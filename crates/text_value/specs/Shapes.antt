@@ -10,8 +10,8 @@ use Rattle.text_value.specs.declared.value.Shape as Shape
 use Rattle.text_value.specs.declared.value.Shape.{Shape}
 use Rattle.text_value.specs.declared.value.Verdict as Verdict
 use Rattle.text_value.specs.declared.value.Verdict.{Verdict}
-use Rattle.text_value.specs.Answers.{Exactly, BadText}
-use Rattle.text_value.specs.Encode.{encoded}
+use Rattle.values.specs.Text.{Exactly, BadText}
+use Rattle.lexicon.specs.Encode.{encoded}
 use Rattle.text_value.specs.Parts.{Puts}
 
 module _ (piece : List ℕ) where

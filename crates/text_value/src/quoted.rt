@@ -9,8 +9,9 @@ use text::byte::stands;
 ghost use Prim.Native.Nat.{_≤_};
 ghost use lib.ListN.{length};
 ghost use Rattle.rules.specs.Rule.{one, many, At, Longest};
-ghost use Rattle.text_value.specs.Parts.{backslash, notQuote, Angled, Item, Unescapes, Copies, SegmentBytes, Stands, Wrote, Room};
-ghost use Rattle.text_value.specs.Parts.{HasQuoted, WroteQuoted};
+ghost use Rattle.reading.specs.Sizes.{widest};
+ghost use Rattle.values.specs.QuotedBytes.{backslash, notQuote, Angled, Item, Unescapes, Copies, SegmentBytes};
+ghost use Rattle.text_value.specs.Parts.{Stands, Wrote, Room, HasQuoted, WroteQuoted};
 ghost use Rattle.text_value.specs.Letters.{Means};
 
 // What a byte behind a backslash stands for: a character, the opening of a code point, or nothing.
@@ -138,7 +139,7 @@ fn segment(piece: &[u8], at: usize, buffer: &mut [u8], count: usize) -> Step
 
 // All the segments.
 pub(crate) fn quoted(piece: &[u8], buffer: &mut [u8]) -> usize
-    requires { ⌜ HasQuoted (now piece) × (length (now piece) ≤ 32768) ⌝ }
+    requires { ⌜ HasQuoted (now piece) × (length (now piece) ≤ widest) ⌝ }
     ensures { λ r. ⌜ WroteQuoted (now (piece .entry)) (now (buffer .entry)) (now (buffer .exit)) r ⌝ }
 {
     let mut i = 0;

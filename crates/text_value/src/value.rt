@@ -17,8 +17,8 @@ ghost use Rattle.rules.specs.Rule.{Fails};
 ghost use Rattle.lexicon.specs.Literals as Literals;
 ghost use Rattle.lexicon.specs.Utf8.{WellFormed};
 ghost use Rattle.reading.specs.Answers.{answer};
-ghost use Rattle.reading.specs.Sizes.{base as rules};
-ghost use Rattle.text_value.specs.Answers.{TextAnswers};
+ghost use Rattle.reading.specs.Sizes.{base as rules, widest};
+ghost use Rattle.values.specs.Text.{TextAnswers};
 ghost use Rattle.text_value.specs.Shapes.{Shaped, Judged, WroteText};
 
 // How a Text is written.
@@ -96,7 +96,7 @@ fn judge(piece: &[u8]) -> Verdict
 
 // The characters of the piece from the start of the buffer, and how many bytes they are.
 fn write(piece: &[u8], shape: Shape, buffer: &mut [u8]) -> usize
-    requires { ⌜ Shaped (now piece) shape × (length (now piece) ≤ 32768) ⌝ }
+    requires { ⌜ Shaped (now piece) shape × (length (now piece) ≤ widest) ⌝ }
     ensures { λ r. ⌜ WroteText (now (piece .entry)) (now (buffer .entry)) (now (buffer .exit)) r ⌝ }
 {
     match shape {
@@ -108,7 +108,7 @@ fn write(piece: &[u8], shape: Shape, buffer: &mut [u8]) -> usize
 
 // The characters if they fit. They are measured first, over an empty part of the buffer, so that nothing is written where they don't.
 fn fitting(piece: &[u8], shape: Shape, buffer: &mut [u8]) -> Answer
-    requires { ⌜ Shaped (now piece) shape × (length (now piece) ≤ 32768) × WellFormed (now piece) ⌝ }
+    requires { ⌜ Shaped (now piece) shape × (length (now piece) ≤ rules .text) × WellFormed (now piece) ⌝ }
     ensures { λ r. ⌜ TextAnswers rules (now (piece .entry)) (now (buffer .entry)) r (now (buffer .exit)) ⌝ }
 {
     let needed = write(piece, shape, &mut buffer[..0]);

@@ -15,7 +15,7 @@ use Rattle.rules.specs.Class.{Class, In, has, just, codes, _to_}
 use Prim.Native.String.{String}
 use Rattle.rules.specs.Rule.{Rule, row, lit, At, Takes, Longest, Fails}
 use Rattle.rules.proofs.Bools.{clash, decide, or-cases}
-use Rattle.rules.proofs.Classes.{apart, apartSpan, apart-no, includes, inSome, in-cons, just-is}
+use Rattle.rules.proofs.Classes.{apart, apartSpan, apart-no, includes, inSome, in-cons, just-is, in-first, low-in, in-high}
 use Rattle.rules.proofs.Matches.{ending, row-end}
 use Rattle.rules.proofs.Tests.{says-no}
 use Rattle.rules.proofs.Ways.{never, covers, opens, opens-at}
@@ -32,7 +32,6 @@ use Rattle.lexicon.specs.Bad.{BadCode, BadQuoted, BadPadding, BadFraction}
 use Rattle.lexicon.specs.Token.{Lexeme, anIgnorance, aBoolean, anInteger, aFraction, aBits, aBlob, aQuoted, aWord, aCodePoint, aLater, aSymbol, rule, Here, Is, Bad, Comes}
 use Rattle.lexicon.proofs.Tokens.{every, for-every, begins, begins-with, outreaches, alone, oneOf, is-one}
 use Rattle.lexicon.proofs.Unique.{integer-below}
-use Rattle.text.proofs.Ranges.{in-first, low-in, in-high}
 use Rattle.word.specs.Heads.{Tells}
 use Rattle.number.specs.declared.Numeral.{Numeral}
 use Rattle.number.specs.declared.Numeral.the-variants as Numeral

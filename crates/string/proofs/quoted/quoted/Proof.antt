@@ -9,7 +9,7 @@ use Rattle.rules.proofs.Matches.{forward}
 use Rattle.lexicon.specs.Literals.{segment}
 use Rattle.lexicon.specs.Bad.{BadSegment}
 use Rattle.lexicon.proofs.Answers.{judged-at, judged-none}
-use Rattle.string.proofs.Characters.{begins-within}
+use Rattle.rules.proofs.Ways.{begins-within}
 use Rattle.string.proofs.Segments.{segment-strict, Going, none, going-on, going-nowhere, going-ends}
 use Rattle.string.proofs.quoted.quoted.Statement.{statement}
 use Rattle.string.proofs.quoted.quoted.Tie as tie

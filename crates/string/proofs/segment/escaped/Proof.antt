@@ -12,7 +12,7 @@ use Rattle.lexicon.specs.Bad.{BadEscape}
 use Rattle.string.specs.Parts.{item}
 use Rattle.rules.proofs.Tests.{there, not-there}
 use Rattle.string.proofs.Among.{none-said, said}
-use Rattle.string.proofs.Characters.{begins-within}
+use Rattle.rules.proofs.Ways.{begins-within}
 use Rattle.rules.proofs.Closed.{never-closes}
 use Rattle.string.proofs.Items.{quote, quote-item, item-single, item-strict}
 use Rattle.string.proofs.Segments.{rest-judged}

@@ -10,7 +10,7 @@ use Rattle.rules.proofs.Chains.{snoc}
 use Rattle.lexicon.specs.Literals.{restricted}
 use Rattle.lexicon.proofs.Answers.{found-at, found-none}
 use Rattle.rules.proofs.Tests.{there, not-there}
-use Rattle.string.proofs.Characters.{begins-within}
+use Rattle.rules.proofs.Ways.{begins-within}
 use Rattle.rules.proofs.Closed.{closes, never-closes}
 use Rattle.string.proofs.Items.{quote, quote-restricted, restricted-single, restricted-strict}
 use Rattle.string.proofs.segment.plain.Statement.{statement}

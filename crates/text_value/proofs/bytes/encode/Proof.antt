@@ -1,6 +1,6 @@
 -- `text_value::bytes::encode` meets its contract. Assumes nothing.
 use borrow.Author.Needs.{needs}
-use Rattle.text_value.proofs.Encodes.{encode-one, encode-two, encode-three, encode-four}
+use Rattle.values.proofs.Encodes.{encode-one, encode-two, encode-three, encode-four}
 use Rattle.text_value.proofs.Stores.{puts-more, puts-same}
 use Rattle.text_value.proofs.bytes.encode.Statement.{statement}
 use Rattle.text_value.proofs.bytes.encode.Tie as tie

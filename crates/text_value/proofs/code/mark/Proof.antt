@@ -1,7 +1,7 @@
 -- `text_value::code::mark` meets its contract. Assumes nothing.
 use borrow.Author.Needs.{needs}
 use Rattle.text.proofs.Letters.{answered}
-use Rattle.string.proofs.Marks.{by-mark, by-digit}
+use Rattle.lexicon.proofs.Marks.{by-mark, by-digit}
 use Rattle.text_value.proofs.code.mark.Statement.{statement}
 use Rattle.text_value.proofs.code.mark.Tie as tie
 

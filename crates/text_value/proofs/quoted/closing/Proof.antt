@@ -6,7 +6,7 @@ use lib.ListN.{length}
 use Rattle.rules.specs.Rule.{one, many, Takes, stop}
 use Rattle.rules.proofs.Chains.{snoc}
 use Rattle.text.proofs.Ranges.{byte-but}
-use Rattle.text_value.specs.Parts.{notQuote}
+use Rattle.values.specs.QuotedBytes.{notQuote}
 use Rattle.text_value.proofs.Walks.{at-quote, at-end}
 use Rattle.text_value.proofs.quoted.closing.Statement.{statement}
 use Rattle.text_value.proofs.quoted.closing.Tie as tie

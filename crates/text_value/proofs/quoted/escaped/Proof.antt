@@ -5,7 +5,7 @@ use borrow.Author.Tests.{not-true, not-false}
 use Prim.Native.Nat.{_-_}
 use lib.ListN.{length}
 use Rattle.rules.proofs.Tests.{there, not-there}
-use Rattle.text_value.proofs.Spelled.{item-short}
+use Rattle.values.proofs.Spelled.{item-short}
 use Rattle.text_value.proofs.Stores.{puts-length}
 use Rattle.text_value.proofs.Walks.{Walk, walk-begins, walk-within, walk-item, walk-byte, walk-next, walk-ends}
 use Rattle.text_value.proofs.quoted.escaped.Statement.{statement}

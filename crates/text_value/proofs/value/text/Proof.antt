@@ -1,6 +1,6 @@
 -- `text_value::value::text` meets its contract. Assumes nothing.
 use borrow.Author.Needs.{needs}
-use Rattle.text_value.specs.Answers.{tooLong, notUtf8, notText, bad}
+use Rattle.values.specs.Text.{tooLong, notUtf8, notText, bad}
 use Rattle.text_value.proofs.Texts.{encoded-as, judged-as, answered}
 use Rattle.text_value.proofs.value.text.Statement.{statement}
 use Rattle.text_value.proofs.value.text.Tie as tie

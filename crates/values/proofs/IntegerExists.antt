@@ -15,9 +15,9 @@ use Rattle.decisions.proofs.Tests.{settled, at-most}
 use Rattle.decisions.proofs.Cuts.{takes}
 use Rattle.decisions.proofs.Utf8.{encoded}
 use Rattle.reading.specs.declared.Rules.{Rules}
-use Rattle.integer_value.specs.declared.integer.IntegerAnswer.{IntegerAnswer}
-use Rattle.integer_value.specs.Answers.{Within, Exactly, IntegerAnswers, tooLong, notUtf8, notInteger, outside, accepted}
-use Rattle.integer_value.proofs.Determined.{has-integer, one-answer}
+use Rattle.values.specs.declared.IntegerAnswer.{IntegerAnswer}
+use Rattle.values.specs.Integer.{Within, Exactly, IntegerAnswers, tooLong, notUtf8, notInteger, outside, accepted}
+use Rattle.values.proofs.IntegerDetermined.{has-integer, one-answer}
 
 within-or-not : (z : ℤ) → Within z ⊎ (Within z → ⊥)
 within-or-not (pos n) = settled (at-most n (2 ^ 63 - 1))

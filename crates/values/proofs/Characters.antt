@@ -6,7 +6,8 @@ use Prim.Native.Nat.{ℕ, zero, suc, _+_, _-_, _≤_, _<_}
 use native.Mathlib.Omega.{arith}
 use lib.ListN.{length, getD}
 use Rattle.rules.specs.Rule.{one, many, At, Takes, byte, both, stop, more}
-use Rattle.rules.proofs.Classes.{apart, apartSpan, includes, inSome}
+use Rattle.rules.proofs.Bounds.{allOf, all-of}
+use Rattle.rules.proofs.Classes.{apart, apartSpan, includes, inSome, in-high}
 use Rattle.rules.proofs.Chains.{join}
 use Rattle.rules.proofs.Matches.{forward, starting, move-at}
 use Rattle.rules.proofs.Ways.{never}
@@ -15,15 +16,15 @@ use Rattle.lexicon.specs.Space.{blank}
 use Rattle.lexicon.specs.Values.{read, Letter, CodeOf, Plain, Escaped, Row, done, Segment, Quoted, lastSegment, nextSegment}
 use Rattle.lexicon.specs.Values as Values
 use Rattle.lexicon.specs.Bad.{Scalar}
+use Rattle.lexicon.proofs.Formed.{ascii}
 use Rattle.lexicon.proofs.Spaces.{landed}
-use Rattle.text.proofs.Ranges.{in-high}
-use Rattle.text_value.specs.Encode.{encode, encoded}
-use Rattle.text_value.specs.Parts.{quote, backslash, notQuote, other, itself, letter, number, Unescapes, closed, SegmentBytes, plain}
-use Rattle.text_value.specs.Parts.{escaped, QuotedBytes, last}
-use Rattle.text_value.specs.Parts as Parts
-use Rattle.text_value.proofs.Encodes.{encode-one, written-one}
-use Rattle.text_value.proofs.Sequences.{allOf, all-of, unescaped-written, restricted-written}
-use Rattle.text_value.proofs.Spelled.{ascii, appends, quoted-begins}
+use Rattle.lexicon.specs.Encode.{encode, encoded}
+use Rattle.values.specs.QuotedBytes.{quote, backslash, notQuote, other, itself, letter, number, Unescapes, closed, SegmentBytes, plain}
+use Rattle.values.specs.QuotedBytes.{escaped, QuotedBytes, last}
+use Rattle.values.specs.QuotedBytes as Bytes
+use Rattle.values.proofs.Encodes.{encode-one, written-one}
+use Rattle.values.proofs.Sequences.{unescaped-written, restricted-written}
+use Rattle.values.proofs.Spelled.{appends, quoted-begins}
 
 -- every character is a scalar value
 abbrev pub Scalars : List ℕ → Type 0
@@ -110,7 +111,7 @@ module _ (piece : List ℕ) where
   bytes-first {i} {m} {j} {bs} (stop e) u =
       subst (λ (l : List ℕ). Unescapes piece i j (l ++ bs)) (nothing-between i m e) (subst (λ (x : ℕ). Unescapes piece x j bs) (sym e) u)
   bytes-first {i} {m} {j} {bs} (more {m = n} (byte a e) t) u =
-      let w : Unescapes piece i j ((getD piece i 0 ∷ []) ++ (read piece n (m - n) ++ bs)) = Parts.next (itself a e refl) (bytes-first t u) in
+      let w : Unescapes piece i j ((getD piece i 0 ∷ []) ++ (read piece n (m - n) ++ bs)) = Bytes.next (itself a e refl) (bytes-first t u) in
       let h : 1 ≡ n - i = omega arith in
       let p : getD piece i 0 ∷ read piece n (m - n) ≡ read piece i (m - i) =
       ap (λ (x : ℕ). read piece i x ++ read piece n (m - n)) h ∙ between i n m (omega arith) (forward t) in
@@ -123,12 +124,12 @@ module _ (piece : List ℕ) where
       subst (λ (l : List ℕ). Unescapes piece i j (l ++ encoded cs)) (sym (unescaped-written piece t .bytes-are))
       (bytes-first (all-of other t unescaped-bytes) (escaped-row r (s .1) q h))
   escaped-row (Values.next {m = k} (Escaped.letter {m = m} {c = c} (byte a e) l (byte b f)) r) s q h =
-      Parts.next {m = k}
+      Bytes.next {m = k}
       (letter a (omega (arith, e, b .0)) (subst (λ (x : ℕ). Letter (getD piece x 0) c) e l) (omega (arith, e, f)) (sym (encode-one c (letter-low l))))
       (escaped-row r (s .1) q h)
   escaped-row (Values.next {i = i} {m = n} (Escaped.number {m = m} {e = e} {v = v} (both (byte a f) (byte b g)) c (byte d k)) r) s q h =
       let p : m ≡ i + 2 = omega (arith, f, g) in
-      Parts.next {m = n}
+      Bytes.next {m = n}
       (number a (move-at piece _ f b)
       (record {
         end = e;
@@ -163,7 +164,7 @@ module _ (piece : List ℕ) where
   quoted-bytes (nextSegment {i = i} {cs = cs} {ds = ds} t p u) s e =
       let q = quoted-bytes u (scalars-right cs ds s) e in
       subst (λ (l : List ℕ). QuotedBytes piece i l) (encoded-append cs ds)
-      (Parts.next (segment-bytes t (scalars-left cs ds s)) (landed quote quote-blank p (quoted-begins piece q)) q)
+      (Bytes.next (segment-bytes t (scalars-left cs ds s)) (landed quote quote-blank p (quoted-begins piece q)) q)
 
   -- ---- a word is its own bytes
 

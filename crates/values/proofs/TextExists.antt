@@ -17,10 +17,10 @@ use Rattle.decisions.proofs.Quoted.{bad-quoted}
 use Rattle.decisions.proofs.Utf8 as Utf8
 use Rattle.reading.specs.declared.Answer.{Answer}
 use Rattle.reading.specs.declared.Rules.{Rules}
-use Rattle.text_value.specs.Answers.{textLiteral, Exactly, BadText, TextAnswers, tooLong, notUtf8, notText, bad, noRoom, accepted}
-use Rattle.text_value.specs.Encode.{encoded}
-use Rattle.text_value.proofs.Values.{code-of, quoted-of}
-use Rattle.text_value.proofs.Determined.{one-answer}
+use Rattle.values.specs.Text.{textLiteral, Exactly, BadText, TextAnswers, tooLong, notUtf8, notText, bad, noRoom, accepted}
+use Rattle.lexicon.specs.Encode.{encoded}
+use Rattle.values.proofs.Values.{code-of, quoted-of}
+use Rattle.values.proofs.TextDetermined.{one-answer}
 
 module _ (piece : List ℕ) where
   -- the characters of a Text

@@ -1,5 +1,5 @@
--- The answer of `text`, number, place, count and every byte of the lent buffer, for every piece and buffer: 01, 'Table of refusals',
--- 'The value calls test 2, 3, 9, 5, then 10 or 8'. Assumes nothing.
+-- The answer of the Text call, number, place, count and every byte of the lent buffer, for every piece and buffer: 01,
+-- 'Table of refusals', 'The value calls test 2, 3, 9, 5, then 10 or 8'. Assumes nothing.
 use mathlib.Core.Logic.{_⊎_}
 use mathlib.Core.List.{List, _++_}
 use Prim.Native.Nat.{ℕ, _≤_, _<_}
@@ -12,7 +12,7 @@ use Rattle.lexicon.specs.Bad.{BadCode, BadQuoted}
 use Rattle.reading.specs.declared.Answer.{Answer}
 use Rattle.reading.specs.Answers.{answer}
 use Rattle.reading.specs.declared.Rules.{Rules}
-use Rattle.text_value.specs.Encode.{encoded}
+use Rattle.lexicon.specs.Encode.{encoded}
 
 -- a Text literal
 abbrev pub textLiteral : Rule
@@ -32,7 +32,8 @@ module _ (rules : Rules) (piece lent : List ℕ) where
     tooLong : rules .text < length piece → TextAnswers (answer 2 0 0) lent
     notUtf8 : {p : ℕ} → length piece ≤ rules .text → BadAt piece p → TextAnswers (answer 3 p 0) lent
     notText : length piece ≤ rules .text → WellFormed piece → (Exactly piece → ⊥) → TextAnswers (answer 9 0 0) lent
-    bad : length piece ≤ rules .text → WellFormed piece → Exactly piece → BadText piece → TextAnswers (answer 5 0 0) lent
+    bad : length piece ≤ rules .text → WellFormed piece → Exactly piece → BadText piece →
+        TextAnswers (answer 5 0 0) lent
     noRoom : {cs : List ℕ} → length piece ≤ rules .text → WellFormed piece → Exactly piece → (BadText piece → ⊥) →
         TextOf piece 0 (length piece) cs → length lent < length (encoded cs) →
         TextAnswers (answer 8 (length piece) (length (encoded cs))) lent

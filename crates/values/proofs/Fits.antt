@@ -8,11 +8,11 @@ use lib.ListN.{length, length-append}
 use Rattle.lexicon.specs.Values.{TextOf, quotes, bare, coded}
 use Rattle.reading.specs.declared.Answer.{Answer}
 use Rattle.reading.specs.declared.Rules.{Rules}
-use Rattle.text_value.specs.Answers.{BadText, TextAnswers, tooLong, notUtf8, notText, bad, noRoom, accepted}
-use Rattle.text_value.specs.Encode.{encode, encoded}
-use Rattle.text_value.proofs.Characters.{quoted-bytes, word-same}
-use Rattle.text_value.proofs.Spelled.{code-short, quoted-short, read-length}
-use Rattle.text_value.proofs.Texts.{text-scalars}
+use Rattle.values.specs.Text.{BadText, TextAnswers, tooLong, notUtf8, notText, bad, noRoom, accepted}
+use Rattle.lexicon.specs.Encode.{encode, encoded}
+use Rattle.values.proofs.Characters.{quoted-bytes, word-same}
+use Rattle.values.proofs.Spelled.{code-short, quoted-short, read-length}
+use Rattle.values.proofs.Texts.{text-scalars}
 
 module _ (piece : List ℕ) where
   -- the bytes of a Text that is not bad

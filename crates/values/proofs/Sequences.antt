@@ -1,45 +1,20 @@
--- The characters of a text by the rows of UTF-8's table: each is its code point's bytes. And rules whose every byte is of one class.
--- Assumes nothing.
+-- The characters of a text by the rows of UTF-8's table: each is its code point's bytes. Assumes nothing.
 use mathlib.Core.Path.{_≡_, refl, subst}
 use mathlib.Core.Logic.{inl, inr}
-use mathlib.Core.Bool.{Bool, true, _&&_}
+use mathlib.Core.Bool.{true}
 use mathlib.Core.List.{List, [], _∷_}
 use Prim.Native.Nat.{ℕ, _+_, _-_, _≤_, _<_}
 use native.Mathlib.Omega.{arith}
 use lib.ListN.{getD}
 use Rattle.rules.specs.Class.{Class, _upto_}
-use Rattle.rules.specs.Rule.{Rule, empty, one, _then_, _or_, many, At, Takes, nothing, byte, both, left, right, stop, more}
-use Rattle.rules.proofs.Bools.{and-left, and-right}
-use Rattle.rules.proofs.Classes.{includes, inSome, includes-in}
-use Rattle.rules.proofs.Chains.{join}
+use Rattle.rules.specs.Rule.{one, _then_, At, Takes, byte, both, left, right}
+use Rattle.rules.proofs.Classes.{includes, inSome, includes-in, low-in, in-high}
 use Rattle.rules.proofs.Matches.{move-at}
 use Rattle.lexicon.specs.Literals.{plainByte, unescaped, restricted}
 use Rattle.lexicon.specs.Utf8.{range, tail, beyond, sequence}
 use Rattle.lexicon.specs.Values.{read, scalar}
 use Rattle.lexicon.specs.Bad.{Scalar}
-use Rattle.text.proofs.Ranges.{low-in, in-high}
-use Rattle.text_value.proofs.Encodes.{Written, written-one, written-two, written-three, written-four}
-
--- ---- rules whose every byte is of one class
-
-abbrev pub allOf : Class → Rule → Bool
-allOf c empty = true
-allOf c (one d) = includes d c
-allOf c (r then s) = allOf c r && allOf c s
-allOf c (r or s) = allOf c r && allOf c s
-allOf c (many r) = allOf c r
-
-module _ {text : List ℕ} (c : Class) where
-  pub all-of : {r : Rule} {i j : ℕ} → Takes text r i j → allOf c r ≡ true → Takes text (many (one c)) i j
-  all-of (nothing e) h = stop e
-  all-of (byte {c = d} {i = i} a e) h = more (byte (a .0, includes-in d c (getD text i 0) h (a .1)) e) (stop refl)
-  all-of (both {a = r} t u) h = join (all-of t (and-left (allOf c r) _ h)) (all-of u (and-right (allOf c r) _ h))
-  all-of (left {a = r} t) h = all-of t (and-left (allOf c r) _ h)
-  all-of (right {a = r} t) h = all-of t (and-right (allOf c r) _ h)
-  all-of (stop e) h = stop e
-  all-of (more t u) h = join (all-of t h) (all-of u h)
-
--- ---- characters
+use Rattle.values.proofs.Encodes.{Written, written-one, written-two, written-three, written-four}
 
 module _ (text : List ℕ) where
   -- the n bytes from i on are a character

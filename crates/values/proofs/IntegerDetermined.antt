@@ -18,8 +18,8 @@ use Rattle.lexicon.proofs.Determined.{formed-or-bad, one-bad}
 use Rattle.lexicon.proofs.Integers.{start-same, start-of}
 use Rattle.lexicon.proofs.Numbers.{numeral, numeral-at, number-same, of-nonsigned, to-nonsigned, to-base, valued}
 use Rattle.reading.specs.declared.Rules.{Rules}
-use Rattle.integer_value.specs.declared.integer.IntegerAnswer.{IntegerAnswer}
-use Rattle.integer_value.specs.Answers.{Within, Exactly, answer, refusal, IntegerAnswers, tooLong, notUtf8, notInteger, outside, accepted}
+use Rattle.values.specs.declared.IntegerAnswer.{IntegerAnswer}
+use Rattle.values.specs.Integer.{Within, Exactly, answer, refusal, IntegerAnswers, tooLong, notUtf8, notInteger, outside, accepted}
 
 -- ---- a literal's integer
 

@@ -1,20 +1,26 @@
 -- Code points by their number: the byte behind `0c` tells the base, so that a literal's base and the place of its first digit
--- are fixed by the place where it begins. Assumes nothing.
-use mathlib.Core.Path.{_≡_, refl, subst, sym, ap, _∙_}
+-- are fixed by the place where it begins; and the closing angle of an escape tells where it ends. Assumes nothing.
+use mathlib.Core.Path.{_≡_, refl, subst, subst₂, sym, ap, _∙_}
 use mathlib.Core.Logic.{_⊎_, inl, inr}
+use mathlib.Core.Bool.{true}
 use mathlib.Core.List.{List}
 use Prim.Native.Nat.{ℕ, _+_, _≤_, _<_}
+use native.Mathlib.Nat.{le-antisymm}
 use native.Mathlib.Omega.{arith}
 use lib.ListN.{length, getD}
-use Rattle.rules.specs.Class.{In, just}
-use Rattle.rules.specs.Rule.{one, lit, Takes, nothing, byte, both, left, right, At}
-use Rattle.rules.proofs.Classes.{is-just, just-is}
+use Rattle.rules.specs.Class.{Class, In, just}
+use Rattle.rules.specs.Rule.{one, many, plus, lit, Takes, nothing, byte, both, left, right, more, At}
+use Rattle.rules.proofs.Classes.{apart, apartSpan, is-just, just-is}
+use Rattle.rules.proofs.Chains.{reaches}
 use Rattle.rules.proofs.Matches.{forward}
+use Rattle.rules.proofs.Ways.{never, begins-none}
 use Rattle.lexicon.specs.declared.Base.{Base}
 use Rattle.lexicon.specs.declared.Base.the-variants.{Two, Eight, Ten, Sixteen}
 use Rattle.lexicon.specs.Bytes.{decimal, digits}
-use Rattle.lexicon.specs.Literals.{codeMark}
+use Rattle.lexicon.specs.Literals.{codeMark, codeOfBase, codePoint}
+use Rattle.lexicon.proofs.Bases.{some-base}
+use Rattle.lexicon.proofs.Spaces.{byte-single}
 use Rattle.lexicon.proofs.Numbers.{letter, same-base, letter-no-digit}
 
 module _ (text : List ℕ) where
   -- behind `0c` stands the base's mark, or for base ten the first digit itself
@@ -93,3 +99,50 @@ module _ (text : List ℕ) where
   mark-long Eight (both (byte a e) (both (byte b f) (byte d g))) = omega arith
   mark-long Ten (both (both (byte a e) (byte b f)) d) = let x = forward d in omega arith
   mark-long Sixteen (both (byte a e) (both (byte b f) (byte d g))) = omega arith
+
+-- ---- the whole literal
+
+-- the closing angle is no digit
+angle-digit : (b : Base) → never (just 0x3E) (one (digits b)) ≡ true
+unfolding never apart apartSpan
+angle-digit Two = refl
+angle-digit Eight = refl
+angle-digit Ten = refl
+angle-digit Sixteen = refl
+
+module _ {text : List ℕ} where
+  pub first-digit : {c : Class} {i j : ℕ} → Takes text (plus (one c)) i j → At text c i
+  first-digit (both (byte a e) u) = a
+
+  all-many : {c : Class} {i j : ℕ} → Takes text (plus (one c)) i j → Takes text (many (one c)) i j
+  all-many (both t u) = more t u
+
+  -- its digits stand behind the only mark
+  pub digits-of : {i s k : ℕ} (b : Base) → Marked text i b s → Takes text codePoint i k → Takes text (plus (one (digits b))) s k
+  digits-of {i} {s} {k} b m t = let s = some-base codeOfBase t in go (s .0) (s .1)
+    where
+      go : (a : Base) → Takes text (codeOfBase a) i k → Takes text (plus (one (digits b))) s k
+      go a (both u d) =
+          let e = m .only a u (first-digit d) in
+          subst₂ (λ (x : Base) (y : ℕ). Takes text (plus (one (digits x))) y k) (e .0) (e .1) d
+
+  mark-of : {i j : ℕ} → Takes text codePoint i j → (b : Base) × (s : ℕ) × Marked text i b s
+  mark-of t = let s = some-base codeOfBase t in go (s .0) (s .1)
+    where
+      go : (a : Base) {i j : ℕ} → Takes text (codeOfBase a) i j → (b : Base) × (s : ℕ) × Marked text i b s
+      go a (both u d) = (a, _, marked text a u (first-digit d))
+
+  -- ---- the closing angle
+
+  -- a match that the closing angle follows is as long as any
+  pub angle-most : {i j k : ℕ} → Takes text codePoint i j → At text (just 0x3E) j → Takes text codePoint i k → k ≤ j
+  angle-most {i} {j} {k} t a u = go (mark-of t .0) (mark-of t .2)
+    where
+      go : (b : Base) {s : ℕ} → Marked text i b s → k ≤ j
+      go b m =
+          forward (reaches (byte-single (digits b)) (all-many (digits-of b m t)) (begins-none text (just 0x3E) (one (digits b)) (angle-digit b) a)
+          (all-many (digits-of b m u)))
+
+  -- so a literal with the closing angle behind it has one end only
+  pub angle-same : {i j k : ℕ} → Takes text codePoint i j → At text (just 0x3E) j → Takes text codePoint i k → At text (just 0x3E) k → j ≡ k
+  angle-same t a u b = le-antisymm (angle-most u b t) (angle-most t a u)

@@ -12,7 +12,7 @@ use Rattle.rules.specs.Rule.{_then_, _or_, many, opt, lit, At, Takes, nothing, 
 use Rattle.rules.proofs.Classes.{apart, apartSpan, apart-no, just-is, in-cons}
 use Rattle.rules.proofs.Chains.{join}
 use Rattle.rules.proofs.Matches.{move-at}
-use Rattle.rules.proofs.Ways.{never, never-takes}
+use Rattle.rules.proofs.Ways.{never, never-takes, begins-within}
 use Rattle.lexicon.specs.declared.Base.{Base}
 use Rattle.lexicon.specs.Space.{sp}
 use Rattle.lexicon.specs.Literals.{unescaped, restricted, escapeLetter, escape, content, segment, quoted, codeOfBase, codePoint}
@@ -20,11 +20,10 @@ use Rattle.lexicon.specs.Values.{Letter, CodeOf, Plain, Escaped, Row, done, Seg
 use Rattle.lexicon.specs.Values as Values
 use Rattle.lexicon.specs.Bad.{Scalar, BadEscape, BadSegment, BadFurther, BadQuoted, inFirst, inFurther}
 use Rattle.lexicon.proofs.Bases.{some-base}
-use Rattle.string.proofs.Characters.{begins-within}
-use Rattle.text_value.specs.Parts.{quote, backslash}
-use Rattle.text_value.proofs.Characters.{Scalars, scalars-both}
-use Rattle.text_value.proofs.Sequences.{unescaped-written, restricted-written}
-use Rattle.text_value.proofs.Spelled.{code-takes}
+use Rattle.values.specs.QuotedBytes.{quote, backslash}
+use Rattle.values.proofs.Characters.{Scalars, scalars-both}
+use Rattle.values.proofs.Sequences.{unescaped-written, restricted-written}
+use Rattle.values.proofs.Shapes.{code-takes}
 
 backslash-unescaped : never backslash unescaped ≡ true
 unfolding never apart apartSpan

@@ -6,28 +6,26 @@ use Prim.Native.Nat.{ℕ, zero, suc, _+_, _-_, _*_, _≤_, _<_}
 use native.Mathlib.Omega.{arith}
 use lib.Dec.{leb, ltb, eqb}
 use lib.ListN.{length, getD, length-append}
-use Rattle.rules.specs.Class.{Class, _upto_, In}
+use Rattle.rules.specs.Class.{Class, In}
 use Rattle.rules.specs.Rule.{one, plus, At, Takes, byte, both, stop, more, Fails}
-use Rattle.rules.proofs.Classes.{apart, apartSpan, apart-no, just-is, inSome, includes, includes-in}
+use Rattle.rules.proofs.Classes.{apart, apartSpan, apart-no, just-is, inSome, includes, includes-in, in-high}
 use Rattle.rules.proofs.Chains.{longest}
 use Rattle.rules.proofs.Matches.{forward, move-at, longest-same}
 use Rattle.rules.proofs.Ways.{never, begins-none}
 use Rattle.lexicon.specs.declared.Base.{Base}
 use Rattle.lexicon.specs.declared.Base.the-variants.{Two, Eight, Ten, Sixteen}
 use Rattle.lexicon.specs.Bytes.{digits, radix}
-use Rattle.lexicon.specs.Literals.{codeOfBase, codePoint}
 use Rattle.lexicon.specs.Space.{Skips}
 use Rattle.lexicon.specs.Values.{read, digit, value, Letter, CodeOf}
-use Rattle.lexicon.proofs.Bases.{any-base}
 use Rattle.lexicon.proofs.Spaces.{byte-single, skips-same}
-use Rattle.text.proofs.Ranges.{in-high}
-use Rattle.string.proofs.Marks.{marked, mark-long}
-use Rattle.string.proofs.Codes.{angle-same}
-use Rattle.text_value.specs.Encode.{two, three, four, encode}
-use Rattle.text_value.specs.Parts.{quote, backslash, notQuote, other, Angled, Item, itself, letter, number, Unescapes, closed, Copies}
-use Rattle.text_value.specs.Parts.{SegmentBytes, plain, escaped, QuotedBytes, last}
-use Rattle.text_value.specs.Parts as Parts
-use Rattle.text_value.proofs.Encodes.{encode-one}
+use Rattle.lexicon.proofs.Formed.{ascii}
+use Rattle.lexicon.proofs.Marks.{marked, mark-long, first-digit, angle-same}
+use Rattle.lexicon.specs.Encode.{two, three, four, encode}
+use Rattle.values.specs.QuotedBytes.{quote, backslash, notQuote, other, Angled, Item, itself, letter, number, Unescapes, closed, Copies}
+use Rattle.values.specs.QuotedBytes.{SegmentBytes, plain, escaped, QuotedBytes, last}
+use Rattle.values.specs.QuotedBytes as Bytes
+use Rattle.values.proofs.Encodes.{encode-one}
+use Rattle.values.proofs.Shapes.{code-takes}
 
 -- ---- bytes that differ
 
@@ -71,9 +69,6 @@ letter-angle Letter.tab e = omega (arith, e)
 letter-angle Letter.lineFeed e = omega (arith, e)
 letter-angle Letter.carriageReturn e = omega (arith, e)
 
-abbrev pub ascii : Class
-ascii = 0x00 upto 0x7F ∷ []
-
 digit-ascii : (b : Base) → includes (digits b) ascii ≡ true
 unfolding includes inSome
 digit-ascii Two = refl
@@ -99,12 +94,6 @@ module _ (piece : List ℕ) where
 
   -- ---- code points
 
-  pub first-digit : {c : Class} {i j : ℕ} → Takes piece (plus (one c)) i j → At piece c i
-  first-digit (both (byte a e) u) = a
-
-  pub code-takes : {i j v : ℕ} → CodeOf piece i j v → Takes piece codePoint i j
-  code-takes c = any-base codeOfBase (c .base) (both (c .before) (c .all-digits))
-
   pub code-same : {i j v w : ℕ} → CodeOf piece i j v → CodeOf piece i j w → v ≡ w
   code-same {j = j} c d =
       let m = marked piece (c .base) (c .before) (first-digit (c .all-digits)) in
@@ -119,7 +108,7 @@ module _ (piece : List ℕ) where
 
   angled-same : {i j k : ℕ} {bs cs : List ℕ} → Angled piece i j bs → Angled piece i k cs → Same j k bs cs
   angled-same {i} a b =
-      let h : b .end ≡ a .end = angle-same (code-takes (b .code)) (b .close) (code-takes (a .code)) (a .close) in
+      let h : b .end ≡ a .end = angle-same (code-takes piece (b .code)) (b .close) (code-takes piece (a .code)) (a .close) in
       let v = code-same (a .code) (subst (λ (x : ℕ). CodeOf piece i x (b .number)) h (b .code)) in
       (a .behind ∙ ap (λ (x : ℕ). x + 1) (sym h) ∙ sym (b .behind), a .bytes-are ∙ ap encode v ∙ sym (b .bytes-are))
 
@@ -145,9 +134,9 @@ module _ (piece : List ℕ) where
 
   rest-same : {i m j k : ℕ} {bs cs : List ℕ} → Unescapes piece i j bs → Unescapes piece m k cs → i ≡ m → Same j k bs cs
   rest-same (closed a e) (closed b f) p = (omega (arith, e, f, p), refl)
-  rest-same (closed a e) (Parts.next t u) p = absurd (item-quote (move-at piece quote p a) t)
-  rest-same (Parts.next t u) (closed b f) p = absurd (item-quote (move-at piece quote (sym p) b) t)
-  rest-same (Parts.next t u) (Parts.next {m = y} {bs = bs} v w) p =
+  rest-same (closed a e) (Bytes.next t u) p = absurd (item-quote (move-at piece quote p a) t)
+  rest-same (Bytes.next t u) (closed b f) p = absurd (item-quote (move-at piece quote (sym p) b) t)
+  rest-same (Bytes.next t u) (Bytes.next {m = y} {bs = bs} v w) p =
       let s = item-same t (subst (λ (z : ℕ). Item piece z y bs) (sym p) v) in
       let r = rest-same u w (s .0) in
       (r .0, appends (s .1) (r .1))
@@ -171,7 +160,7 @@ module _ (piece : List ℕ) where
 
   pub quoted-begins : {i : ℕ} {bs : List ℕ} → QuotedBytes piece i bs → At piece quote i
   quoted-begins (last s e) = segment-begins s
-  quoted-begins (Parts.next s p q) = segment-begins s
+  quoted-begins (Bytes.next s p q) = segment-begins s
 
   -- a segment at the end is the last
   pub no-further : {m k : ℕ} {bs : List ℕ} → m ≡ length piece → Skips piece m k → QuotedBytes piece k bs → ⊥
@@ -182,9 +171,9 @@ module _ (piece : List ℕ) where
 
   pub quoted-same : {i k : ℕ} {bs cs : List ℕ} → QuotedBytes piece i bs → QuotedBytes piece k cs → i ≡ k → bs ≡ cs
   quoted-same (last s e) (last t f) p = segment-same s (moved p t) .1
-  quoted-same (last s e) (Parts.next t u q) p = absurd (no-further (sym (segment-same s (moved p t) .0) ∙ e) u q)
-  quoted-same (Parts.next s u q) (last t f) p = absurd (no-further (segment-same s (moved p t) .0 ∙ f) u q)
-  quoted-same (Parts.next s u q) (Parts.next {k = k} t v r) p =
+  quoted-same (last s e) (Bytes.next t u q) p = absurd (no-further (sym (segment-same s (moved p t) .0) ∙ e) u q)
+  quoted-same (Bytes.next s u q) (last t f) p = absurd (no-further (segment-same s (moved p t) .0 ∙ f) u q)
+  quoted-same (Bytes.next s u q) (Bytes.next {k = k} t v r) p =
       let x = segment-same s (moved p t) in
       let y = quoted-same q r (skips-same u (subst (λ (z : ℕ). Skips piece z k) (sym (x .0)) v)) in
       appends (x .1) y
@@ -224,7 +213,7 @@ module _ (piece : List ℕ) where
 
   pub rest-short : {i j : ℕ} {bs : List ℕ} → Unescapes piece i j bs → (i + length bs ≤ j) × (j ≤ length piece)
   rest-short (closed a e) = (omega (arith, e), omega (arith, e, a .0))
-  rest-short (Parts.next {bs = bs} {cs = cs} t u) =
+  rest-short (Bytes.next {bs = bs} {cs = cs} t u) =
       let x = item-short t in let y = rest-short u in (omega (arith, x .0, y .0, length-append bs cs), y .1)
 
   pub read-length : (i n : ℕ) → length (read piece i n) ≡ n
@@ -241,5 +230,5 @@ module _ (piece : List ℕ) where
 
   pub quoted-short : {i : ℕ} {bs : List ℕ} → QuotedBytes piece i bs → i + length bs ≤ length piece
   quoted-short (last s e) = let x = segment-short s in omega (arith, x .0, x .1)
-  quoted-short (Parts.next {bs = bs} {cs = cs} s u q) =
+  quoted-short (Bytes.next {bs = bs} {cs = cs} s u q) =
       omega (arith, segment-short s .0, forward (u .takes), quoted-short q, length-append bs cs)

@@ -7,13 +7,13 @@ use native.Mathlib.Decide.{decLe}
 use native.Mathlib.Omega.{arith}
 use Rattle.rules.specs.Rule.{Rule, _then_, many}
 use Rattle.rules.specs.Plain.{Matches, oneByte, joined, inLeft, inRight, noMore, oneMore}
+use Rattle.rules.proofs.Classes.{in-first}
 use Rattle.rules.proofs.Plain.{takes-whole}
 use Rattle.lexicon.specs.Utf8.{range, sequence, WellFormed}
 use Rattle.lexicon.specs.Bad.{Scalar}
-use Rattle.text.proofs.Ranges.{in-first}
-use Rattle.text_value.specs.Encode.{tailOf, encode, encoded}
-use Rattle.text_value.proofs.Characters.{Scalars}
-use Rattle.text_value.proofs.Encodes.{encode-one, encode-two, encode-three, encode-four}
+use Rattle.lexicon.specs.Encode.{tailOf, encode, encoded}
+use Rattle.values.proofs.Characters.{Scalars}
+use Rattle.values.proofs.Encodes.{encode-one, encode-two, encode-three, encode-four}
 
 within : (low high b : ℕ) → low ≤ b → b ≤ high → Matches (range low high) (b ∷ [])
 within low high b l h = oneByte (in-first low high [] b l h)

@@ -7,7 +7,7 @@ use native.Mathlib.Omega.{arith}
 use borrow.Author.Tests.{lt-ltb, le-ltb}
 use Rattle.lexicon.specs.Values.{scalar}
 use Rattle.lexicon.specs.Bad.{Scalar}
-use Rattle.text_value.specs.Encode.{two, three, four, encode}
+use Rattle.lexicon.specs.Encode.{two, three, four, encode}
 
 -- ---- the widths
 

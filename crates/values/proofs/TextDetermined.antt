@@ -10,9 +10,9 @@ use Rattle.lexicon.proofs.Determined.{formed-or-bad, one-bad}
 use Rattle.reading.specs.declared.Answer.{Answer}
 use Rattle.reading.specs.Answers.{answer}
 use Rattle.reading.specs.declared.Rules.{Rules}
-use Rattle.text_value.specs.Answers.{TextAnswers, tooLong, notUtf8, notText, bad, noRoom, accepted}
-use Rattle.text_value.specs.Encode.{encoded}
-use Rattle.text_value.proofs.Texts.{text-same, text-formed}
+use Rattle.values.specs.Text.{TextAnswers, tooLong, notUtf8, notText, bad, noRoom, accepted}
+use Rattle.lexicon.specs.Encode.{encoded}
+use Rattle.values.proofs.Texts.{text-same, text-formed}
 
 take-front : (b t : List ℕ) → take (length b) (b ++ t) ≡ b
 take-front [] t = refl

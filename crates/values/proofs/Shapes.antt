@@ -1,0 +1,76 @@
+-- The first byte of a Text tells whether it is quoted, a word or a code point: a literal is bad in its own way only. Assumes nothing.
+use mathlib.Core.Path.{_≡_, refl}
+use mathlib.Core.Logic.{inl, inr}
+use mathlib.Core.Bool.{true}
+use mathlib.Core.List.{List}
+use Prim.Native.Nat.{ℕ}
+use lib.ListN.{length}
+use Rattle.rules.specs.Class.{Class, just}
+use Rattle.rules.specs.Rule.{lit, At, Takes, byte, both}
+use Rattle.rules.proofs.Classes.{apart, apartSpan, includes, inSome}
+use Rattle.rules.proofs.Ways.{never, never-takes, opens, opens-at}
+use Rattle.lexicon.specs.Literals.{segment, quoted, word, codePoint, codeOfBase}
+use Rattle.lexicon.specs.Values.{CodeOf}
+use Rattle.lexicon.specs.Bad.{BadCode, BadQuoted, inFirst, inFurther}
+use Rattle.lexicon.proofs.Bases.{any-base}
+use Rattle.values.specs.QuotedBytes.{quote}
+use Rattle.values.specs.Text.{BadText}
+
+abbrev zero : Class
+zero = just 0x30
+
+quote-word : never quote word ≡ true
+unfolding never apart apartSpan
+quote-word = refl
+
+quote-code : never quote codePoint ≡ true
+unfolding never apart apartSpan
+quote-code = refl
+
+zero-word : never zero word ≡ true
+unfolding never apart apartSpan
+zero-word = refl
+
+zero-code : opens zero codePoint ≡ true
+unfolding opens includes inSome
+zero-code = refl
+
+module _ (piece : List ℕ) where
+  segment-first : {i j : ℕ} → Takes piece segment i j → At piece quote i
+  segment-first (both (byte a e) t) = a
+
+  pub quoted-first : {i j : ℕ} → Takes piece quoted i j → At piece quote i
+  quoted-first (both t u) = segment-first t
+
+  bad-first : {i j : ℕ} → BadQuoted piece i j → At piece quote i
+  bad-first (inFirst b t) = go (b .before)
+    where
+      go : {i j : ℕ} → Takes piece (lit "\"\\") i j → At piece quote i
+      go (both (byte a e) t) = a
+  bad-first (inFurther t a) = segment-first t
+
+  pub no-word : {i j k : ℕ} → Takes piece quoted i k → Takes piece word i j → ⊥
+  no-word q t = never-takes piece quote word quote-word (quoted-first q) t
+
+  pub no-code : {i j k : ℕ} → Takes piece quoted i k → Takes piece codePoint i j → ⊥
+  no-code q t = never-takes piece quote codePoint quote-code (quoted-first q) t
+
+  pub word-code : {i j k : ℕ} → Takes piece word i j → Takes piece codePoint i k → ⊥
+  word-code t u = never-takes piece zero word zero-word (opens-at piece zero codePoint zero-code u) t
+
+  pub code-takes : {i j v : ℕ} → CodeOf piece i j v → Takes piece codePoint i j
+  code-takes c = any-base codeOfBase (c .base) (both (c .before) (c .all-digits))
+
+  -- ---- a literal is bad in its own way only
+
+  pub quoted-good : Takes piece quoted 0 (length piece) → (BadQuoted piece 0 (length piece) → ⊥) → BadText piece → ⊥
+  quoted-good t n (inl b) = n b
+  quoted-good t n (inr b) = no-code t (code-takes (b .code))
+
+  pub word-good : Takes piece word 0 (length piece) → BadText piece → ⊥
+  word-good t (inl b) = never-takes piece quote word quote-word (bad-first b) t
+  word-good t (inr b) = word-code t (code-takes (b .code))
+
+  pub code-good : Takes piece codePoint 0 (length piece) → (BadCode piece 0 (length piece) → ⊥) → BadText piece → ⊥
+  code-good t n (inl b) = never-takes piece quote codePoint quote-code (bad-first b) t
+  code-good t n (inr b) = n b
