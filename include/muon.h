@@ -169,7 +169,10 @@ uint32_t muon_read(uint32_t level, const uint8_t *text, size_t text_len, uint32_
                    size_t *count);
 
 /* The value calls. Their piece is the literal alone, as a node's first and end have it: text + first, end - first bytes. No byte-order
-   mark, first line `#!` or dividing space around it is dropped; with one of them the piece is refused with 9. */
+   mark, first line `#!` or dividing space around it is dropped; with one of them the piece is refused with 9.
+
+   The bytes of a node of an accepted text are never refused with 2, 3 or 9: an Integer's node gives muon_integer its value, or 10; a Text's
+   node gives muon_text its characters, or 8, and never 5 (proved; pieces in crates/demands/proofs/Pieces.antt). */
 
 /* The signed integer of an Integer literal: `29 56` has the value 2956, `-0x F_F` has the value -255.
 
@@ -190,7 +193,7 @@ uint32_t muon_integer(const uint8_t *piece, size_t piece_len, int64_t *value, si
 
    Accepted, exactly the first *count bytes of the buffer are written, and they are well-formed UTF-8. Refused, none.
    piece_len bytes are room enough for every piece: the characters of a Text are no more bytes than its literal (proved; `enough-room`
-   in `crates/text_value/proofs/Fits.antt`). */
+   in `crates/values/proofs/Fits.antt`). */
 uint32_t muon_text(const uint8_t *piece, size_t piece_len, uint8_t *buffer, size_t buffer_len, size_t *place, size_t *count);
 
 #ifdef __cplusplus
