@@ -14,6 +14,7 @@ use Rattle.reading.proofs.Agree.{levels-agree}
 use Rattle.demands.specs.Demands.{Answered, Demand1, Demand2, Demand3, Demands}
 use Rattle.demands.proofs.Derived.{decides}
 use Rattle.demands.proofs.Exists.{some-reading}
+use Rattle.demands.proofs.Pieces.{pieces}
 
 module _ (rules : Rules) (bytes lent : List ℕ) {number : ℕ} where
   -- a refused reading has no derivation, so nothing is written
@@ -37,7 +38,8 @@ pub every-answer : Demand1
 every-answer rules bytes lent number = let x = some-reading rules bytes lent number in (x .0, x .1, answered rules bytes lent (x .2))
 
 pub every-decision : Demand2
-every-decision rules bytes lent number r left a = decides rules bytes lent number a
+every-decision rules bytes lent number r left a =
+    record { decides = decides rules bytes lent number a; values = λ v c. pieces rules bytes (c .short) (c .formed) (c .derived) }
 
 pub old-and-new : Demand3
 old-and-new rules bytes lent old new oldLeft newLeft a b = levels-agree rules bytes lent a b
@@ -48,7 +50,7 @@ all-demands {rules} {bytes} {first} {second} {oldLeft} {newLeft} {old} {new} a b
     record {
       old-answered = answered rules bytes first a;
       new-answered = answered rules bytes second b;
-      old-decides = decides rules bytes first 1 a;
-      new-decides = decides rules bytes second 2 b;
+      old-derives = every-decision rules bytes first 1 old oldLeft a;
+      new-derives = every-decision rules bytes second 2 new newLeft b;
       agree = λ e. levels-agree rules bytes first a (subst (λ (t : List ℕ). Answers rules bytes t 2 new newLeft) (sym e) b);
     }

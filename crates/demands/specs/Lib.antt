@@ -1,4 +1,5 @@
--- The customer's demands in their own words: `Demands` is the page, `Derived` and `Pieces` what demand 2 says of a text and of its literals.
+-- The customer's demands in their own words: `Demands` is the page, `Derived` and `Pieces` what demand 2 says of a text
+-- and of its literals.
 pub mod Derived
 pub mod Pieces
 pub mod Demands

@@ -146,7 +146,16 @@ fn lift(table: &mut [u32], index: usize, parent: u32)
     let end = table[at + 2];
     let role = table[at + ROLE];
     let detail = table[at + 5];
-    store(table, at + NODE_WORDS, kind, first, end, parent, role, detail);
+    store(
+        table,
+        at + NODE_WORDS,
+        kind,
+        first,
+        end,
+        parent,
+        role,
+        detail,
+    );
 }
 
 // Moves so many nodes, the first at the index, up by one, if they fit: each other's indices are one more, and the first's parent is what
