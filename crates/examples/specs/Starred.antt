@@ -1,5 +1,6 @@
--- The texts that document 01 marks with a star, as one table, and the one statement about it: each text's reading ends as its
--- line says, by the definitions of the tokens, the trees and the answers. proofs/Starred.antt proves it. Assumes nothing.
+-- The texts that document 01 marks with a star, as one table, and the one statement about it: each text's reading ends
+-- as its line says, by the definitions of the tokens, the trees and the answers. proofs/Starred.antt proves it. Assumes
+-- nothing.
 use mathlib.Core.List.{List, [], _∷_, _++_}
 use mathlib.Core.Option.{Option, none, some}
 use Prim.Native.Nat.{ℕ, _*_, _≤_}
@@ -61,12 +62,14 @@ atBoth s o = atLevel 1 s o ++ atLevel 2 s o
 
 -- ---- the statement
 
--- with every lent table that has room for the nodes: number, place, count, and every word of the table at exit. Under a refusal there
--- are no nodes, so every table has room for them, and it stays as it was. No other answer holds: reading's law `one-answer`.
+-- with every lent table that has room for the nodes: number, place, count, and every word of the table at exit. Under a
+-- refusal there are no nodes, so every table has room for them, and it stays as it was. No other answer holds:
+-- reading's law `one-answer`.
 abbrev pub Ends : List ℕ → ℕ → ℕ → ℕ → List Row → Type 0
 Ends bytes level number place nodes =
     (lent : List ℕ) → length nodes ≤ room base (length lent) →
-    Answers base bytes lent level (answer number place (length nodes)) (wordsOf nodes ++ drop (nodeWords * length nodes) lent)
+    Answers base bytes lent level (answer number place (length nodes))
+    (wordsOf nodes ++ drop (nodeWords * length nodes) lent)
 
 -- the root is an Integer literal of this value
 abbrev pub Means : List ℕ → Option ℤ → List Row → Type 0
@@ -100,5 +103,6 @@ starred =
     ++ atLevel 2 "(Array:{a:20})" (accepted 14 (node 12 0 14 0 0 0 ∷ node 7 8 9 0 5 2 ∷ node 3 10 12 0 6 0 ∷ []))
     ++ atLevel 1 "(Array:5)" (refused 7 0)
     ++ atLevel 2 "(Array:5)" (refused 6 7)
-    ++ atBoth "(\"Array\":{a})" (accepted 13 (node 9 0 13 0 0 0 ∷ node 7 1 8 0 1 1 ∷ node 11 9 12 0 2 0 ∷ node 7 10 11 2 1 2 ∷ []))
+    ++ atBoth "(\"Array\":{a})"
+    (accepted 13 (node 9 0 13 0 0 0 ∷ node 7 1 8 0 1 1 ∷ node 11 9 12 0 2 0 ∷ node 7 10 11 2 1 2 ∷ []))
     ++ atBoth "{1 0Lct}" (refused 6 4)

@@ -1,4 +1,5 @@
--- Texts whose values are bad, one for each way of 01's 'bad value' that is not starred there, and one that is not. Assumes nothing.
+-- Texts whose values are bad, one for each way of 01's 'bad value' that is not starred there, and one that is not.
+-- Assumes nothing.
 use mathlib.Core.List.{List, [], _∷_, _++_}
 use Rattle.examples.specs.Starred.{Example, node, refused, accepted, atBoth}
 

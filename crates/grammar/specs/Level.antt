@@ -1,11 +1,13 @@
--- Levels: a level is the set of the forms that it has beyond the common ones, so that a further level, or a retired form, is one
--- more set. Assumes nothing.
+-- Levels: a level is the set of the forms that it has beyond the common ones, so that a further level, or a retired
+-- form, is one more set. Assumes nothing.
 use mathlib.Core.Path.{_≡_}
 use mathlib.Core.Bool.{Bool, true, false, _&&_}
 use Rattle.lexicon.specs.declared.Head.{Head}
-use Rattle.lexicon.specs.declared.Head.the-variants.{Array, Set, Bag, Mix, IntervalSet, IntervalBag, TupleArray, Relation, TupleBag, Article, Excuse, Heading, Renaming}
+use Rattle.lexicon.specs.declared.Head.the-variants.{Array, Set, Bag, Mix, IntervalSet, IntervalBag, TupleArray}
+use Rattle.lexicon.specs.declared.Head.the-variants.{Relation, TupleBag, Article, Excuse, Heading, Renaming}
 use Rattle.grammar.specs.Tree
-use Rattle.grammar.specs.Tree.{Arrow, rightward, leftward, Joiner, Collection, array, set, bag, Style, Value, Plain, Item, Row, Listing, Attributes, Bounds}
+use Rattle.grammar.specs.Tree.{Arrow, rightward, leftward, Joiner, Collection, array, set, bag, Style, Value}
+use Rattle.grammar.specs.Tree.{Plain, Item, Row, Listing, Attributes, Bounds}
 
 -- the forms that a level may have or lack
 pub data Feature : Type 0 where

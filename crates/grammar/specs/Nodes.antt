@@ -6,10 +6,14 @@ use lib.ListN.{length}
 use Rattle.grammar.specs.Tokens
 use Rattle.grammar.specs.Tokens.{Span, Atom, Spelling, quoted, word, codePoint}
 use Rattle.grammar.specs.Tree
-use Rattle.grammar.specs.Tree.{Names, oneName, moreNames, PlainName, textName, nestingName, Name, plainName, bareName, Arrow, rightward, leftward, Joiner, Collection, Measure, Count, less, lessEqual, Between, twoDots, starSign, Style, Value, Plain, Item, Row, Listing, Attributes, Bounds}
+use Rattle.grammar.specs.Tree.{Names, oneName, moreNames, PlainName, textName, nestingName, Name, plainName}
+use Rattle.grammar.specs.Tree.{bareName, Arrow, rightward, leftward, Joiner, Collection, Measure, Count, less}
+use Rattle.grammar.specs.Tree.{lessEqual, Between, twoDots, starSign, Style, Value, Plain, Item, Row, Listing}
+use Rattle.grammar.specs.Tree.{Attributes, Bounds}
 
 pub data NodeKind : Type 0 where
-  anIgnorance aBoolean anInteger aFraction aBits aBlob aText aNesting aPair aTuple aLot anArray aSet aBag anInterval : NodeKind
+  anIgnorance aBoolean anInteger aFraction aBits aBlob aText aNesting : NodeKind
+  aPair aTuple aLot anArray aSet aBag anInterval : NodeKind
 
 pub data Role : Type 0 where
   root this thatAfter thatBefore name value count low high single : Role
@@ -189,11 +193,14 @@ abbrev mutual
   nodesPlain (Tree.text w s) p r n = leaf aText s p r (spellingDetail w)
   nodesPlain (Tree.nesting m) p r n = leaf aNesting (namesSpan m) p r 0
   nodesPlain (Tree.group o v c) p r n = nodes v p r n
-  nodesPlain (Tree.pair o a k b c) p r n = branch aPair (over o c) p r 0 (both (λ i. nodesPlain a n this i) (λ i. nodes b n thatAfter i) (n + 1))
-  nodesPlain (Tree.arrowed o a j k b c) p r n = branch aPair (over o c) p r 0 (both (λ i. nodes a n (leftRole j) i) (λ i. nodes b n (rightRole j) i) (n + 1))
+  nodesPlain (Tree.pair o a k b c) p r n =
+      branch aPair (over o c) p r 0 (both (λ i. nodesPlain a n this i) (λ i. nodes b n thatAfter i) (n + 1))
+  nodesPlain (Tree.arrowed o a j k b c) p r n =
+      branch aPair (over o c) p r 0 (both (λ i. nodes a n (leftRole j) i) (λ i. nodes b n (rightRole j) i) (n + 1))
   nodesPlain (Tree.tuple o i c) p r n = branch aTuple (over o c) p r 0 (nodesAttributes i n (n + 1))
   nodesPlain (Tree.lot o i c) p r n = branch aLot (over o c) p r 0 (nodesListing i n (n + 1))
-  nodesPlain (Tree.counted o h s k b i e c) p r n = branch (collectionKind h) (over o c) p r 0 (nodesListing i n (n + 1))
+  nodesPlain (Tree.counted o h s k b i e c) p r n =
+      branch (collectionKind h) (over o c) p r 0 (nodesListing i n (n + 1))
   nodesPlain (Tree.interval o b c) p r n = branch anInterval (over o c) p r (boundsDetail b) (nodesBounds b n (n + 1))
 
   -- the nodes of what stands between commas, under the parent p

@@ -3,7 +3,8 @@ use mathlib.Core.Path.{_≡_}
 use mathlib.Core.Bool.{true, false}
 use mathlib.Core.List.{List, [], _∷_, _++_}
 use Rattle.lexicon.specs.declared.Head.{Head}
-use Rattle.grammar.specs.Tokens.{Span, Tok, tok, atom, ignorance, text, headWord, round, square, mark, colon, later}
+use Rattle.grammar.specs.Tokens.{Span, Tok, tok, atom, ignorance, text, headWord, round, square, mark, colon}
+use Rattle.grammar.specs.Tokens.{later}
 use Rattle.grammar.specs.Tree.{Value}
 use Rattle.grammar.specs.Yield.{yieldValue}
 use Rattle.grammar.specs.Level.{Level, intervals, hasHead, keeps}
@@ -28,13 +29,15 @@ module _ (l : Level) where
   pub record WrongEnd (before : List Tok) : Type 0 where
     pub none : Sentence before → ⊥
 
-  -- 01: 'A place for a value is one where, after the tokens before it, the Ignorance literal would not be in the wrong place'
+  -- 01: 'A place for a value is one where, after the tokens before it, the Ignorance literal would not be in the wrong
+  -- place'
   abbrev pub ForValue : List Tok → Span → Type 0
   ForValue before s = Begins (before ++ (tok (atom ignorance) s ∷ []))
 
   -- a construct beyond the level: a head not of it, an Interval if it has none, the later literal at any level
   pub data Beyond : List Tok → Type 0 where
-    newerHead : {o s k : Span} {h : Head} {ts : List Tok} → hasHead l h ≡ false → Beyond (tok round o ∷ tok (text (headWord h)) s ∷ tok (mark colon) k ∷ ts)
+    newerHead : {o s k : Span} {h : Head} {ts : List Tok} → hasHead l h ≡ false →
+        Beyond (tok round o ∷ tok (text (headWord h)) s ∷ tok (mark colon) k ∷ ts)
     newerBracket : {o : Span} {ts : List Tok} → l intervals ≡ false → Beyond (tok square o ∷ ts)
     laterLiteral : {s : Span} {ts : List Tok} → Beyond (tok later s ∷ ts)
 

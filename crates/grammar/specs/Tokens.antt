@@ -1,4 +1,5 @@
--- The tokens as the tree rules see them: a literal, a Text, `::`, a bracket or another sign, and where it stands. Assumes nothing.
+-- The tokens as the tree rules see them: a literal, a Text, `::`, a bracket or another sign, and where it stands.
+-- Assumes nothing.
 use mathlib.Core.Bool.{Bool}
 use Prim.Native.Nat.{ℕ}
 use Rattle.lexicon.specs.declared.Bound.{Bound}
@@ -6,9 +7,11 @@ use Rattle.lexicon.specs.declared.Head.{Head}
 use Rattle.lexicon.specs.declared.Form.{Form}
 use Rattle.lexicon.specs.declared.Form.the-variants.{Quoted, Word, HeadWord, CodePoint}
 use Rattle.lexicon.specs.declared.Sign.{Sign}
-use Rattle.lexicon.specs.declared.Sign.the-variants.{RoundOpen, RoundClose, CurlyOpen, CurlyClose, SquareOpen, SquareClose, Comma, ArrowRight, ArrowLeft, Dots, Star}
+use Rattle.lexicon.specs.declared.Sign.the-variants.{RoundOpen, RoundClose, CurlyOpen, CurlyClose, SquareOpen}
+use Rattle.lexicon.specs.declared.Sign.the-variants.{SquareClose, Comma, ArrowRight, ArrowLeft, Dots, Star}
 use Rattle.lexicon.specs.declared.Kind.{Kind}
-use Rattle.lexicon.specs.declared.Kind.the-variants.{Ignorance, Boolean, Integer, Fraction, Bits, Blob, Text, Later, Symbol, Colon, TwoColons}
+use Rattle.lexicon.specs.declared.Kind.the-variants.{Ignorance, Boolean, Integer, Fraction, Bits, Blob, Text, Later}
+use Rattle.lexicon.specs.declared.Kind.the-variants.{Symbol, Colon, TwoColons}
 
 -- the first byte and the byte after the last
 pub record Span : Type 0 where

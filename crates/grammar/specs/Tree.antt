@@ -1,6 +1,6 @@
--- Derivations: 01, 'How values nest', a constructor for each line, groups included. A tree holds the span of each of its tokens, and
--- only what the lines allow can be written down: a bare head word before `:` directly behind `(` has no tree but a head's.
--- Assumes nothing.
+-- Derivations: 01, 'How values nest', a constructor for each line, groups included. A tree holds the span of each of
+-- its tokens, and only what the lines allow can be written down: a bare head word before `:` directly behind `(` has no
+-- tree but a head's. Assumes nothing.
 use mathlib.Core.Bool.{Bool}
 use Rattle.lexicon.specs.declared.Head.{Head}
 use Rattle.grammar.specs.Tokens.{Span, Atom, Spelling, Wording}
@@ -54,7 +54,8 @@ pub data Between : Type 0 where
   twoDots : Between
   starSign : Side → Side → Between
 
--- what stands between commas: the attribute directly behind `(`, any other attribute, a member of a Lot, of a counted collection
+-- what stands between commas: the attribute directly behind `(`, any other attribute, a member of a Lot, of a counted
+-- collection
 pub data Style : Type 0 where
   opening attribute member : Style
   copy : Measure → Style

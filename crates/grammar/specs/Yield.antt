@@ -6,9 +6,13 @@ use Rattle.lexicon.specs.declared.Bound.the-variants.{Open, Less, LessEqual}
 use Rattle.lexicon.specs.declared.Head.{Head}
 use Rattle.lexicon.specs.declared.Head.the-variants as Head
 use Rattle.grammar.specs.Tokens
-use Rattle.grammar.specs.Tokens.{Span, Tok, tok, Mark, atom, text, names, round, curly, square, mark, boolean, integer, spelled, headWord}
+use Rattle.grammar.specs.Tokens.{Span, Tok, tok, Mark, atom, text, names, round, curly, square, mark, boolean}
+use Rattle.grammar.specs.Tokens.{integer, spelled, headWord}
 use Rattle.grammar.specs.Tree
-use Rattle.grammar.specs.Tree.{Names, oneName, moreNames, PlainName, textName, nestingName, Name, plainName, bareName, Arrow, rightward, leftward, Joiner, Collection, array, set, bag, Measure, Count, number, truth, Side, less, lessEqual, Between, twoDots, starSign, Style, Value, Plain, Item, Row, Listing, Attributes, Bounds}
+use Rattle.grammar.specs.Tree.{Names, oneName, moreNames, PlainName, textName, nestingName, Name, plainName}
+use Rattle.grammar.specs.Tree.{bareName, Arrow, rightward, leftward, Joiner, Collection, array, set, bag, Measure}
+use Rattle.grammar.specs.Tree.{Count, number, truth, Side, less, lessEqual, Between, twoDots, starSign, Style}
+use Rattle.grammar.specs.Tree.{Value, Plain, Item, Row, Listing, Attributes, Bounds}
 
 -- a sign with its span, in front of what follows
 abbrev pub sign : Mark → Span → List Tok → List Tok
@@ -62,12 +66,15 @@ abbrev mutual
   yieldPlain (Tree.text w s) r = tok (text (spelled w)) s ∷ r
   yieldPlain (Tree.nesting n) r = yieldNames n r
   yieldPlain (Tree.group o v c) r = tok round o ∷ yieldValue v (sign Tokens.roundClose c r)
-  yieldPlain (Tree.pair o p k v c) r = tok round o ∷ yieldPlain p (sign Tokens.colon k (yieldValue v (sign Tokens.roundClose c r)))
-  yieldPlain (Tree.arrowed o v a k w c) r = tok round o ∷ yieldValue v (sign (arrowMark a) k (yieldValue w (sign Tokens.roundClose c r)))
+  yieldPlain (Tree.pair o p k v c) r =
+      tok round o ∷ yieldPlain p (sign Tokens.colon k (yieldValue v (sign Tokens.roundClose c r)))
+  yieldPlain (Tree.arrowed o v a k w c) r =
+      tok round o ∷ yieldValue v (sign (arrowMark a) k (yieldValue w (sign Tokens.roundClose c r)))
   yieldPlain (Tree.tuple o l c) r = tok round o ∷ yieldAttributes l (sign Tokens.roundClose c r)
   yieldPlain (Tree.lot o l c) r = tok curly o ∷ yieldListing l (sign Tokens.curlyClose c r)
   yieldPlain (Tree.counted o h s k b l e c) r =
-      tok round o ∷ tok (text (headWord (collectionHead h))) s ∷ sign Tokens.colon k (tok curly b ∷ yieldListing l (sign Tokens.curlyClose e (sign Tokens.roundClose c r)))
+      tok round o ∷ tok (text (headWord (collectionHead h))) s ∷
+      sign Tokens.colon k (tok curly b ∷ yieldListing l (sign Tokens.curlyClose e (sign Tokens.roundClose c r)))
   yieldPlain (Tree.interval o b c) r = tok square o ∷ yieldBounds b (sign Tokens.squareClose c r)
 
   pub yieldItem : {s : Style} → Item s → List Tok → List Tok

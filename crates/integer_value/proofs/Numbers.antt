@@ -13,8 +13,10 @@ use mir.ValLaws.{toZ-ofZ, toZ-pos}
 use Rattle.lexicon.specs.declared.Base.{Base}
 use Rattle.lexicon.specs.declared.Base.the-variants.{Two, Eight, Ten, Sixteen}
 use Rattle.lexicon.specs.declared.Set.{Set}
-use Rattle.lexicon.specs.Bytes.{radix, digitSet, size}
+use Rattle.lexicon.specs.Bytes.{radix, digitSet}
+use Rattle.lexicon.specs.Parts.{size}
 use Rattle.lexicon.specs.Values.{digit, valueFrom}
+use Rattle.lexicon.proofs.Bases.{size-radix}
 use Rattle.values.specs.declared.IntegerAnswer.{IntegerAnswer}
 use Rattle.values.specs.Integer.{Within, answer, refusal}
 use Rattle.integer_value.specs.declared.digits.Size.the-variants as Size
@@ -45,7 +47,7 @@ keeps c v n d p h l = let x = le-div-iff-mul-le {k = n} {x = v} {y = c - d} p .0
 -- the same as the code has it, for the limit 2^63
 module _ (b : Base) (v c : ℕ) {s : Set} {n d : ℕ} (p : s ≡ digitSet b) (q : n ≡ size s) (e : d ≡ digit c) (h : c < 256) where
   base-is : n ≡ radix b
-  base-is = q ∙ ap size p
+  base-is = q ∙ ap size p ∙ size-radix b
 
   pub divides : 0 < n
   divides = let x = base-is in let y = radix-some b in omega arith

@@ -19,7 +19,8 @@ use Rattle.lexicon.specs.Space.{Skips}
 use Rattle.lexicon.specs.Values.{Digits, value, IntegerOf}
 use Rattle.lexicon.proofs.Spaces.{skips-same, landed}
 use Rattle.lexicon.proofs.Groups.{digits-at}
-use Rattle.lexicon.proofs.Numbers.{Numeral, marked, bare, clear, in-marks, bare-short, letter, same-base, valued}
+use Rattle.lexicon.specs.Parts.{Numeral, marked, bare, letter}
+use Rattle.lexicon.proofs.Numbers.{clear, in-marks, bare-short, same-base, valued}
 use Rattle.lexicon.proofs.Integers.{start-sign, of-integer}
 use Rattle.number.proofs.Marks.{start-plus, start-minus, start-other}
 use Rattle.values.specs.Integer.{Exactly}

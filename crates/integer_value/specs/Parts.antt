@@ -13,7 +13,7 @@ use Rattle.lexicon.specs.declared.Base.the-variants.{Ten}
 use Rattle.lexicon.specs.Bytes.{digits, radix}
 use Rattle.lexicon.specs.Space.{Skips}
 use Rattle.lexicon.specs.Values.{Digits, value, IntegerOf}
-use Rattle.lexicon.proofs.Integers.{Start}
+use Rattle.lexicon.specs.Parts.{Start}
 use Rattle.number.specs.Number.{HasMark, NoMark}
 use Rattle.values.specs.declared.IntegerAnswer.{IntegerAnswer}
 use Rattle.integer_value.specs.declared.digits.Size as Size

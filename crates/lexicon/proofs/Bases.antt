@@ -1,9 +1,19 @@
--- A choice between the four bases. Assumes nothing.
+-- A choice between the four bases, and the number of their digits. Assumes nothing.
+use mathlib.Core.Path.{_≡_, refl}
 use mathlib.Core.List.{List}
 use Prim.Native.Nat.{ℕ}
 use Rattle.rules.specs.Rule.{Rule, _or_, Takes, left, right}
 use Rattle.lexicon.specs.declared.Base.{Base}
 use Rattle.lexicon.specs.declared.Base.the-variants.{Two, Eight, Ten, Sixteen}
+use Rattle.lexicon.specs.Bytes.{digitSet, radix}
+use Rattle.lexicon.specs.Parts.{size}
+
+-- the digits of a base are as many as its radix
+pub size-radix : (b : Base) → size (digitSet b) ≡ radix b
+size-radix Two = refl
+size-radix Eight = refl
+size-radix Ten = refl
+size-radix Sixteen = refl
 
 abbrev anyBase : (Base → Rule) → Rule
 anyBase r = r Two or r Eight or r Ten or r Sixteen

@@ -20,8 +20,9 @@ use Rattle.lexicon.specs.Values.{Digits}
 use Rattle.lexicon.proofs.Bases.{some-base, any-base}
 use Rattle.lexicon.proofs.Spaces.{skips-same, landed, Ahead, ahead-apart}
 use Rattle.lexicon.proofs.Groups.{digits-cut, digits-at, to-row, of-row}
-use Rattle.lexicon.proofs.Numbers.{Numeral, SomeNumeral, clear, view, numeral-at, numeral-same, valued, of-nonsigned, to-nonsigned, to-base, further-ahead}
-use Rattle.lexicon.proofs.Integers.{Start, decimal-blank, start-sign, start-same, start-of, to-integer, some-cut}
+use Rattle.lexicon.specs.Parts.{Numeral, SomeNumeral, Start}
+use Rattle.lexicon.proofs.Numbers.{clear, view, numeral-at, numeral-same, valued, of-nonsigned, to-nonsigned, to-base, further-ahead}
+use Rattle.lexicon.proofs.Integers.{decimal-blank, start-sign, start-same, start-of, to-integer, some-cut}
 
 -- ---- a symbol with dividing space on both sides
 

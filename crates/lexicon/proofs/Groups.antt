@@ -16,6 +16,7 @@ use Rattle.rules.proofs.Ways.{never, never-takes}
 use Rattle.lexicon.specs.Space.{blank, sp}
 use Rattle.lexicon.specs.Literals.{joint, unit, groups}
 use Rattle.lexicon.specs.Values.{Digits, lastUnit, nextUnit, read}
+use Rattle.lexicon.specs.Parts.{Further, Ended}
 use Rattle.lexicon.proofs.Spaces.{skips-same, landed}
 
 -- no byte of the class begins a joint
@@ -58,17 +59,6 @@ module _ {text : List ℕ} where
       skips-same (landed c (cl .no-blank) (left t) a) (landed c (cl .no-blank) (left u) b)
 
 -- ---- rows of units
-
--- a joint, if any, and a unit stand at j
-pub record Further (text : List ℕ) (n : ℕ) (c : Class) (j : ℕ) : Type 0 where
-  pub from : ℕ
-  pub end : ℕ
-  pub joined : Takes text (opt joint) j from
-  pub next : Takes text (unit n c) from end
-
--- none does
-pub record Ended (text : List ℕ) (n : ℕ) (c : Class) (j : ℕ) : Type 0 where
-  pub stops : Further text n c j → ⊥
 
 module _ {text : List ℕ} {n : ℕ} {c : Class} where
   pub snoc-digits : {i j m e : ℕ} {ds : List ℕ} → Digits text n c i j ds → Takes text (opt joint) j m → Takes text (unit n c) m e → Digits text n c i e (ds ++ read text m n)

@@ -3,7 +3,7 @@
 use mathlib.Core.Path.{_≡_, refl, subst, sym, _∙_}
 use mathlib.Core.Bool.{true}
 use mathlib.Core.List.{List}
-use Prim.Native.Nat.{ℕ, _+_, _<_}
+use Prim.Native.Nat.{ℕ, _<_}
 use lib.ListN.{getD}
 use Rattle.rules.specs.Class.{In}
 use Rattle.rules.specs.Rule.{At, Takes, nothing, byte, both, left, right}
@@ -11,10 +11,11 @@ use Rattle.rules.proofs.Classes.{apart, apartSpan, apart-no}
 use Rattle.rules.proofs.Matches.{starting}
 use Rattle.rules.proofs.Ways.{never}
 use Rattle.lexicon.specs.Bytes.{decimal, wordRest}
-use Rattle.lexicon.specs.Space.{blank, Skips}
+use Rattle.lexicon.specs.Space.{blank}
 use Rattle.lexicon.specs.Literals.{sign, plusMinus, integer}
 use Rattle.lexicon.proofs.Spaces.{skips-same, landed, Ahead}
-use Rattle.lexicon.proofs.Numbers.{SomeNumeral, numeral-at, numeral-cut, of-nonsigned, to-nonsigned, to-base}
+use Rattle.lexicon.specs.Parts.{SomeNumeral, Start, behind, unsigned}
+use Rattle.lexicon.proofs.Numbers.{numeral-at, numeral-cut, of-nonsigned, to-nonsigned, to-base}
 
 pub decimal-blank : never decimal blank ≡ true
 unfolding never apart apartSpan
@@ -23,11 +24,6 @@ decimal-blank = refl
 signs-digits : apart plusMinus decimal ≡ true
 unfolding apart apartSpan
 signs-digits = refl
-
--- g is where a number may begin: behind the sign and its dividing space, or at i itself
-pub data Start (text : List ℕ) (i g : ℕ) : Type 0 where
-  behind : At text plusMinus i → Skips text (i + 1) g → Start text i g
-  unsigned : (At text plusMinus i → ⊥) → g ≡ i → Start text i g
 
 module _ (text : List ℕ) where
   pub start-same : {i g h : ℕ} → Start text i g → Takes text sign i h → At text decimal h → h ≡ g

@@ -18,9 +18,10 @@ use Rattle.lexicon.specs.declared.Base.{Base}
 use Rattle.lexicon.specs.declared.Base.the-variants.{Two, Eight, Ten, Sixteen}
 use Rattle.lexicon.specs.Bytes.{decimal, digits}
 use Rattle.lexicon.specs.Literals.{codeMark, codeOfBase, codePoint}
+use Rattle.lexicon.specs.Parts.{letter, Marked}
 use Rattle.lexicon.proofs.Bases.{some-base}
 use Rattle.lexicon.proofs.Spaces.{byte-single}
-use Rattle.lexicon.proofs.Numbers.{letter, same-base, letter-no-digit}
+use Rattle.lexicon.proofs.Numbers.{same-base, letter-no-digit}
 
 module _ (text : List ℕ) where
   -- behind `0c` stands the base's mark, or for base ten the first digit itself
@@ -41,11 +42,6 @@ module _ (text : List ℕ) where
       let h : s ≡ i + 2 = omega arith in inr (refl, subst (λ (y : ℕ). In decimal (getD text y 0)) h (x .1), h)
   told Sixteen (both (byte a e) (both (byte b f) (byte d g))) x = marks Sixteen _ _ _ (omega arith) d g
 
-  -- the mark of base b from i, whose digits begin at s, is the only one that digits follow
-  pub record Marked (i : ℕ) (b : Base) (s : ℕ) : Type 0 where
-    pub mark : Takes text (codeMark b) i s
-    pub only : (a : Base) {t : ℕ} → Takes text (codeMark a) i t → At text (digits a) t → (a ≡ b) × (t ≡ s)
-
   mark-byte : (b : Base) (i : ℕ) → i + 2 < length text → getD text (i + 2) 0 ≡ letter b → Takes text (one (just (letter b))) (i + 2) (i + 3)
   mark-byte b i h f =
       let e : i + 3 ≡ i + 2 + 1 = omega arith in
@@ -57,14 +53,14 @@ module _ (text : List ℕ) where
   take-mark Ten t h f = both t (left (mark-byte Ten _ h f))
   take-mark Sixteen (both t u) h f = both t (both u (mark-byte Sixteen _ h f))
 
-  pub by-mark : (b : Base) {i : ℕ} → Takes text (lit "0c") i (i + 2) → i + 2 < length text → getD text (i + 2) 0 ≡ letter b → Marked i b (i + 3)
+  pub by-mark : (b : Base) {i : ℕ} → Takes text (lit "0c") i (i + 2) → i + 2 < length text → getD text (i + 2) 0 ≡ letter b → Marked text i b (i + 3)
   by-mark b {i} z h f = record { mark = take-mark b z h f; only = λ a t x. go a (told a t x) }
     where
       go : (a : Base) {t : ℕ} → Told a i t → (a ≡ b) × (t ≡ i + 3)
       go a (inl y) = (same-base b a f (y .1), y .2)
       go a (inr y) = absurd (letter-no-digit b (subst (λ (v : ℕ). In decimal v) f (y .1)))
 
-  pub by-digit : {i : ℕ} → Takes text (lit "0c") i (i + 2) → ((b : Base) → getD text (i + 2) 0 ≡ letter b → ⊥) → Marked i Ten (i + 2)
+  pub by-digit : {i : ℕ} → Takes text (lit "0c") i (i + 2) → ((b : Base) → getD text (i + 2) 0 ≡ letter b → ⊥) → Marked text i Ten (i + 2)
   by-digit {i} z n = record { mark = both z (right (nothing refl)); only = λ a t x. go a (told a t x) }
     where
       go : (a : Base) {t : ℕ} → Told a i t → (a ≡ Ten) × (t ≡ i + 2)
@@ -72,7 +68,7 @@ module _ (text : List ℕ) where
       go a (inr y) = (y .0, y .2)
 
   -- a mark that digits follow is the only one
-  pub marked : (b : Base) {i s : ℕ} → Takes text (codeMark b) i s → At text (digits b) s → Marked i b s
+  pub marked : (b : Base) {i s : ℕ} → Takes text (codeMark b) i s → At text (digits b) s → Marked text i b s
   marked b {i} {s} t x = record { mark = t; only = λ a u y. go a (told b t x) (told a u y) }
     where
       go : (a : Base) {u : ℕ} → Told b i s → Told a i u → (a ≡ b) × (u ≡ s)

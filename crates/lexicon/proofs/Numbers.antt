@@ -21,14 +21,8 @@ use Rattle.lexicon.specs.Literals.{joint, prefix, ofBase, nonsigned}
 use Rattle.lexicon.specs.Values.{Digits, lastUnit, nextUnit, OfBase, Number, value}
 use Rattle.lexicon.proofs.Bases.{some-base, any-base}
 use Rattle.lexicon.proofs.Spaces.{skips-same, landed, landed-here, Ahead}
-use Rattle.lexicon.proofs.Groups.{Clear, Further, digits-same, digits-cut, digits-forward, digits-at, underscore-blank, to-row, of-row, unit-end, unit-at}
-
--- the mark's letter
-abbrev pub letter : Base → ℕ
-letter Two = 0x62
-letter Eight = 0x6F
-letter Ten = 0x64
-letter Sixteen = 0x78
+use Rattle.lexicon.specs.Parts.{Further, letter, Numeral, marked, bare, SomeNumeral}
+use Rattle.lexicon.proofs.Groups.{Clear, digits-same, digits-cut, digits-forward, digits-at, underscore-blank, to-row, of-row, unit-end, unit-at}
 
 abbrev marks : Class
 marks = anyOf "bodx"
@@ -99,11 +93,6 @@ base-letter Sixteen = refl
 
 pub same-base : (b c : Base) {n : ℕ} → n ≡ letter b → n ≡ letter c → c ≡ b
 same-base b c p q = sym (base-letter c) ∙ ap base (sym q ∙ p) ∙ base-letter b
-
--- 0, a letter, dividing space and digits; or decimal digits alone
-pub data Numeral (text : List ℕ) : Base → ℕ → ℕ → List ℕ → Type 0 where
-  marked : {b : Base} {i g j : ℕ} {ds : List ℕ} → At text (just 0x30) i → At text (just (letter b)) (i + 1) → Takes text (opt sp) (i + 2) g → Digits text 1 (digits b) g j ds → Numeral text b i j ds
-  bare : {i j : ℕ} {ds : List ℕ} → Digits text 1 decimal i j ds → Numeral text Ten i j ds
 
 module _ {text : List ℕ} where
   -- ---- the view
@@ -211,12 +200,7 @@ module _ (text : List ℕ) where
   to-nonsigned b t = any-base ofBase b t
 
   -- a match of the rule, as a numeral of some base
-  pub record SomeNumeral (i j : ℕ) : Type 0 where
-    pub of : Base
-    pub bytes : List ℕ
-    pub is : Numeral text of i j bytes
-
-  pub of-nonsigned : {i j : ℕ} → Takes text nonsigned i j → SomeNumeral i j
+  pub of-nonsigned : {i j : ℕ} → Takes text nonsigned i j → SomeNumeral text i j
   of-nonsigned t =
       let s = some-base ofBase t in let r = of-base (s .0) (s .1) in record { of = s .0; bytes = r .0; is = r .1 }
 

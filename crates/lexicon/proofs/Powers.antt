@@ -6,16 +6,17 @@ use Prim.Native.Nat.{ℕ, _+_, _≤_, _<_}
 use native.Mathlib.Nat.{le-antisymm}
 use lib.ListN.{getD}
 use Rattle.rules.specs.Class.{Class, _to_, just, anyOf}
-use Rattle.rules.specs.Rule.{Rule, _then_, At, Takes, nothing, byte, both, left, right, Longest, Fails}
+use Rattle.rules.specs.Rule.{At, Takes, nothing, byte, both, left, right, Longest, Fails}
 use Rattle.rules.proofs.Classes.{apart, apartSpan, includes, inSome, includes-in}
 use Rattle.rules.proofs.Matches.{starting}
 use Rattle.rules.proofs.Ways.{never}
 use Rattle.lexicon.specs.Bytes.{decimal, radix}
 use Rattle.lexicon.specs.Space.{blank, Skips}
-use Rattle.lexicon.specs.Literals.{plusMinus, integer, spaced, power}
+use Rattle.lexicon.specs.Literals.{plusMinus, integer, power}
 use Rattle.lexicon.specs.Values.{Number, value}
 use Rattle.lexicon.proofs.Spaces.{Ahead}
-use Rattle.lexicon.proofs.Numbers.{Numeral, SomeNumeral, numeral, numeral-at, number-same, valued, of-nonsigned, to-nonsigned, to-base}
+use Rattle.lexicon.specs.Parts.{Numeral, SomeNumeral, exponent, SmallPower}
+use Rattle.lexicon.proofs.Numbers.{numeral, numeral-at, number-same, valued, of-nonsigned, to-nonsigned, to-base}
 use Rattle.lexicon.proofs.Integers.{decimal-blank}
 use Rattle.lexicon.proofs.Fractions.{Symbol, of-spaced, to-spaced, symbol-ahead, ahead-most, behind-symbol, some, star-apart, caret-apart}
 
@@ -42,26 +43,12 @@ pub record Found (text : List ℕ) (b i p : ℕ) : Type 0 where
   pub stands : At text (just b) place
   pub behind : Skips text (place + 1) p
 
--- `^` and the exponent
-abbrev pub exponent : Rule
-exponent = spaced "^" then integer
-
 -- a power from i to j
 pub record Power (text : List ℕ) (i j : ℕ) : Type 0 where
   pub start : ℕ
   pub end : ℕ
   pub star : Symbol text 0x2A i start
   pub base : SomeNumeral text start end
-  pub behind : Takes text exponent end j
-
--- one with a radix below 2
-pub record SmallPower (text : List ℕ) (i j : ℕ) : Type 0 where
-  pub start : ℕ
-  pub end : ℕ
-  pub before : Takes text (spaced "*") i start
-  pub number-is : ℕ
-  pub number : Number text start end number-is
-  pub small : number-is < 2
   pub behind : Takes text exponent end j
 
 module _ (text : List ℕ) where

@@ -25,7 +25,8 @@ use Rattle.lexicon.specs.Literals.{plusMinus, integer, fraction}
 use Rattle.lexicon.specs.Symbols.{Colons}
 use Rattle.lexicon.specs.Token.{Lexeme, anIgnorance, aBoolean, anInteger, aFraction, aBits, aBlob, aQuoted, aWord, aCodePoint, aLater, aSymbol, rule, headWord, Here, Told, Is}
 use Rattle.lexicon.proofs.Groups.{digits-forward}
-use Rattle.lexicon.proofs.Numbers.{SomeNumeral, to-base}
+use Rattle.lexicon.specs.Parts.{SomeNumeral}
+use Rattle.lexicon.proofs.Numbers.{to-base}
 use Rattle.lexicon.proofs.Integers.{of-integer}
 use Rattle.lexicon.proofs.Fractions as Fractions
 use Rattle.lexicon.proofs.Fractions.{symbol-ahead, point-apart, slash-apart, Significand, pointed, divided, of-significand, significand-start, ahead-most, some}

@@ -1,28 +1,34 @@
--- Bad values, refusal 5: 01, 'a code point outside 0..D7FF and E000..10FFFF; denominator 0; radix below 2; in base-64 Blobs,
--- a `=` with a base-64 character other than `=` anywhere later in the literal'. Each is a property of a literal's bytes, from
--- place i to place j. Assumes nothing.
+-- Bad values, refusal 5: 01, 'a code point outside 0..D7FF and E000..10FFFF; denominator 0; radix below 2; in base-64
+-- Blobs, a `=` with a base-64 character other than `=` anywhere later in the literal'. Each is a property of a
+-- literal's bytes, from place i to place j. Assumes nothing.
 use mathlib.Core.Path.{_≡_}
 use mathlib.Core.Logic.{_⊎_}
 use mathlib.Core.List.{List, _∷_}
 use Prim.Native.Nat.{ℕ, _≤_, _<_}
+use Rattle.rules.specs.Class.{byteOf}
 use Rattle.rules.specs.Rule.{_then_, _or_, many, opt, lit, Takes, Among}
 use Rattle.lexicon.specs.Bytes.{base64}
 use Rattle.lexicon.specs.Space.{sp}
 use Rattle.lexicon.specs.Literals.{integer, significand, spaced, power, unescaped, escape, segment}
-use Rattle.lexicon.specs.Values.{Digits, Number, CodeOf}
+use Rattle.lexicon.specs.Values.{Digits, Number, CodeOf, Quoted}
 
 -- a number that is a code point
 abbrev pub Scalar : ℕ → Type 0
 Scalar v = (v ≤ 0xD7FF) ⊎ ((0xE000 ≤ v) × (v ≤ 0x10FFFF))
 
+-- some number among them is none
+pub data Outside : List ℕ → Type 0 where
+  now : {c : ℕ} {cs : List ℕ} → (Scalar c → ⊥) → Outside (c ∷ cs)
+  later : {c : ℕ} {cs : List ℕ} → Outside cs → Outside (c ∷ cs)
+
 -- a byte other than `=`
 pub data Other : List ℕ → Type 0 where
-  now : {d : ℕ} {ds : List ℕ} → (d ≡ 0x3D → ⊥) → Other (d ∷ ds)
+  now : {d : ℕ} {ds : List ℕ} → (d ≡ byteOf "=" → ⊥) → Other (d ∷ ds)
   later : {d : ℕ} {ds : List ℕ} → Other ds → Other (d ∷ ds)
 
 -- a `=`, and anywhere later another byte
 pub data Misplaced : List ℕ → Type 0 where
-  now : {ds : List ℕ} → Other ds → Misplaced (0x3D ∷ ds)
+  now : {ds : List ℕ} → Other ds → Misplaced (byteOf "=" ∷ ds)
   later : {d : ℕ} {ds : List ℕ} → Misplaced ds → Misplaced (d ∷ ds)
 
 module _ (text : List ℕ) where
@@ -54,9 +60,17 @@ module _ (text : List ℕ) where
     pub before : Takes text (opt sp) i start
     pub bad : BadSegment start j
 
+  -- a bad escape in the first segment or in a further one
   pub data BadQuoted : ℕ → ℕ → Type 0 where
     inFirst : {i m j : ℕ} → BadSegment i m → Takes text (many (opt sp then segment)) m j → BadQuoted i j
-    inFurther : {i m j : ℕ} → Takes text segment i m → Among text (opt sp then segment) BadFurther m j → BadQuoted i j
+    inFurther : {i m j : ℕ} → Takes text segment i m → Among text (opt sp then segment) BadFurther m j →
+        BadQuoted i j
+
+  -- the same in short: some character of the text is no code point (text_value/proofs/Short.antt: `short-of`, `of-short`)
+  pub record BadCharacter (i j : ℕ) : Type 0 where
+    pub characters : List ℕ
+    pub are : Quoted text i j characters
+    pub outside : Outside characters
 
   -- ---- Fraction
 

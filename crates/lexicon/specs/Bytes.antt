@@ -4,7 +4,8 @@ use mathlib.Core.List.{List, [], _∷_}
 use Prim.Native.Nat.{ℕ, _+_, _*_}
 use Rattle.rules.specs.Class.{Class, _to_, anyOf, anyIn, has}
 use Rattle.lexicon.specs.declared.Set.{Set}
-use Rattle.lexicon.specs.declared.Set.the-variants.{Binary, Octal, Decimal, Hexadecimal, Base64, WordStart, WordRest, Dividing}
+use Rattle.lexicon.specs.declared.Set.the-variants.{Binary, Octal, Decimal, Hexadecimal, Base64, WordStart}
+use Rattle.lexicon.specs.declared.Set.the-variants.{WordRest, Dividing}
 use Rattle.lexicon.specs.declared.Base.{Base}
 use Rattle.lexicon.specs.declared.Base.the-variants.{Two, Eight, Ten, Sixteen}
 
@@ -70,17 +71,6 @@ sum (s ∷ ss) b = weight s * bit (has (members s) b) + sum ss b
 abbrev pub classOf : ℕ → ℕ
 classOf = sum sets
 
--- how many digits a set of digits has; 0 for another set
-abbrev pub size : Set → ℕ
-size Binary = 2
-size Octal = 8
-size Decimal = 10
-size Hexadecimal = 16
-size Base64 = 0
-size WordStart = 0
-size WordRest = 0
-size Dividing = 0
-
 -- the digits of a base, and their number
 abbrev pub digitSet : Base → Set
 digitSet Two = Binary
@@ -92,4 +82,7 @@ abbrev pub digits : Base → Class
 digits b = members (digitSet b)
 
 abbrev pub radix : Base → ℕ
-radix b = size (digitSet b)
+radix Two = 2
+radix Eight = 8
+radix Ten = 10
+radix Sixteen = 16

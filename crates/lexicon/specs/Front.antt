@@ -1,5 +1,5 @@
--- What is dropped at the front: 01, 'A leading EF BB BF is dropped. Then, if `#!` comes next, everything through the first
--- byte 0A is dropped, or all of it if there is none.' Assumes nothing.
+-- What is dropped at the front: 01, 'A leading EF BB BF is dropped. Then, if `#!` comes next, everything through the
+-- first byte 0A is dropped, or all of it if there is none.' Assumes nothing.
 use mathlib.Core.List.{List, [], _∷_}
 use Prim.Native.Nat.{ℕ}
 use Rattle.rules.specs.Class.{Class, _upto_, just}

@@ -10,6 +10,8 @@ pub mod Symbols
 pub mod Values
 pub mod Bad
 pub mod Token
--- no rules: what the answers of searches say, and what the code holds of a number of any size
+-- no rules: what the answers of searches say, what the code holds of a number of any size, and what it promises of
+-- parts of a literal
 pub mod Found
 pub mod Limited
+pub mod Parts

@@ -1,5 +1,5 @@
--- The literals of levels 1 and 2, as source document 003 prints them, with 01's readings: dividing space that leads to no more
--- of the literal is not part of it, and belongs to a number only behind a sign. Assumes nothing.
+-- The literals of levels 1 and 2, as source document 003 prints them, with 01's readings: dividing space that leads to
+-- no more of the literal is not part of it, and belongs to a number only behind a sign. Assumes nothing.
 use mathlib.Core.Bool.{Bool, true, false}
 use mathlib.Core.List.{[], _∷_}
 use Prim.Native.Nat.{ℕ}
@@ -51,7 +51,8 @@ nonsigned = ofBase Two or ofBase Eight or ofBase Ten or ofBase Sixteen
 abbrev pub plusMinus : Class
 plusMinus = anyOf "+-"
 
--- `<[+-]>? <sp>?`
+-- 003: `<[+-]>? <sp>?`. Narrower: dividing space only behind a sign, so that no number begins with it
+-- (docs/DECISIONS.md, point 1)
 abbrev pub sign : Rule
 sign = opt (one plusMinus then opt sp)
 
@@ -87,7 +88,8 @@ fraction = significand then opt power
 
 -- ---- Bits, Blob
 
--- `<sp>? [[<[..]> ** n]+]* % [_ | <sp>]`
+-- 003: `<sp>? [[<[..]> ** n]+]* % [_ | <sp>]`. Narrower: dividing space only where a digit follows
+-- (docs/DECISIONS.md, point 2)
 abbrev pub maybe : ℕ → Class → Rule
 maybe n c = opt (opt sp then groups n c)
 
@@ -119,7 +121,9 @@ word = one wordStart then many (one wordRest)
 abbrev pub plainByte : Class
 plainByte = 0x20 upto 0x21 ∷ 0x23 upto 0x5B ∷ 0x5D upto 0x5F ∷ 0x61 upto 0x7F ∷ []
 
--- U+00A0..BF, and the sequences from U+00C0 on
+-- U+00A0 and above, as UTF-8 has them. In the table of well-formed sequences the row of two bytes begins with C2 to DF;
+-- C2 80..9F are U+0080..9F, which may not stand. So C2 stands apart, with A0..BF behind it only, and the other rows are
+-- as they are, that of two bytes from C3 on
 abbrev pub above9F : Rule
 above9F = one (0xC2 upto 0xC2 ∷ []) then one (0xA0 upto 0xBF ∷ []) or beyond 0xC3
 

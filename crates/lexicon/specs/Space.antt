@@ -1,5 +1,5 @@
--- Dividing space: 01, 'any run of the four bytes 09, 0A, 0D, 20 and whole comments (two grave accents and anything between)';
--- 003's `sp`. Assumes nothing.
+-- Dividing space: 01, 'any run of the four bytes 09, 0A, 0D, 20 and whole comments (two grave accents and anything
+-- between)'; 003's `sp`. Assumes nothing.
 use mathlib.Core.List.{List, [], _∷_}
 use Prim.Native.Nat.{ℕ}
 use Rattle.rules.specs.Class.{Class, _upto_, anyOf}

@@ -8,7 +8,8 @@ use Rattle.rules.specs.Rule.{Rule, one, _then_, many, lit, Longest}
 use Rattle.lexicon.specs.declared.Bound.{Bound}
 use Rattle.lexicon.specs.declared.Bound.the-variants.{Open, Less, LessEqual}
 use Rattle.lexicon.specs.declared.Sign.{Sign}
-use Rattle.lexicon.specs.declared.Sign.the-variants.{RoundOpen, RoundClose, CurlyOpen, CurlyClose, SquareOpen, SquareClose, Comma, ArrowRight, ArrowLeft, Dots, Star}
+use Rattle.lexicon.specs.declared.Sign.the-variants.{RoundOpen, RoundClose, CurlyOpen, CurlyClose, SquareOpen}
+use Rattle.lexicon.specs.declared.Sign.the-variants.{SquareClose, Comma, ArrowRight, ArrowLeft, Dots, Star}
 
 -- the sides of a star
 abbrev pub side : Bound → String

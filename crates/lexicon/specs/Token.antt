@@ -1,5 +1,5 @@
--- The token at a place: 01, 'At each place the longest match of any token rule is the token; two rules that match equally long
--- don't occur'; colon runs are no longest match and stand apart. Assumes nothing.
+-- The token at a place: 01, 'At each place the longest match of any token rule is the token; two rules that match
+-- equally long don't occur'; colon runs are no longest match and stand apart. Assumes nothing.
 use mathlib.Core.Path.{_≡_}
 use mathlib.Core.Logic.{_⊎_}
 use mathlib.Core.Bool.{Bool}
@@ -12,14 +12,17 @@ use Rattle.rules.specs.Class.{has}
 use Rattle.rules.specs.Rule.{Rule, lit, Takes}
 use Rattle.lexicon.specs.declared.Sign.{Sign}
 use Rattle.lexicon.specs.declared.Head.{Head}
-use Rattle.lexicon.specs.declared.Head.the-variants.{Array, Set, Bag, Mix, IntervalSet, IntervalBag, TupleArray, Relation, TupleBag, Article, Excuse, Heading, Renaming}
+use Rattle.lexicon.specs.declared.Head.the-variants.{Array, Set, Bag, Mix, IntervalSet, IntervalBag, TupleArray}
+use Rattle.lexicon.specs.declared.Head.the-variants.{Relation, TupleBag, Article, Excuse, Heading, Renaming}
 use Rattle.lexicon.specs.declared.Form.the-variants.{Quoted, Word, HeadWord, CodePoint}
 use Rattle.lexicon.specs.declared.Kind.{Kind}
-use Rattle.lexicon.specs.declared.Kind.the-variants.{Ignorance, Boolean, Integer, Fraction, Bits, Blob, Text, Later, Symbol, Colon, TwoColons}
+use Rattle.lexicon.specs.declared.Kind.the-variants.{Ignorance, Boolean, Integer, Fraction, Bits, Blob, Text}
+use Rattle.lexicon.specs.declared.Kind.the-variants.{Later, Symbol, Colon, TwoColons}
 use Rattle.lexicon.specs.declared.Next.{Next}
 use Rattle.lexicon.specs.declared.Next.the-variants.{Token, End, NoToken}
 use Rattle.lexicon.specs.Space.{Skips}
-use Rattle.lexicon.specs.Literals.{ignorance, boolean, integer, fraction, bits, blob, quoted, word, codePoint, later, plusMinus}
+use Rattle.lexicon.specs.Literals.{ignorance, boolean, integer, fraction, bits, blob, quoted, word, codePoint}
+use Rattle.lexicon.specs.Literals.{later, plusMinus}
 use Rattle.lexicon.specs.Symbols.{symbol, Colons}
 use Rattle.lexicon.specs.Bad.{BadCode, BadQuoted, BadFraction, BadPadding}
 
@@ -67,12 +70,13 @@ headWord Heading = "Heading"
 headWord Renaming = "Renaming"
 
 module _ (text : List ℕ) where
-  -- the longest match of any rule from i is the lexeme's, to j
+  -- `Here`: 01's 'longest match of any token rule'. It is the lexeme's, from i to j
   pub record Here (l : Lexeme) (i j : ℕ) : Type 0 where
     pub takes : Takes text (rule l) i j
     pub most : (m : Lexeme) {k : ℕ} → Takes text (rule m) i k → k ≤ j
 
-  -- what else a token tells: whether an Integer is signed, and which head word a bare word is, if any
+  -- `Told`: what a token of a kind is, case by case. Beside its longest match: whether an Integer is signed, which head
+  -- word a bare word is, if any, and how many colons stand there
   abbrev pub Told : Kind → ℕ → ℕ → Type 0
   Told Ignorance i j = Here anIgnorance i j
   Told (Boolean b) i j = Here (aBoolean b) i j
@@ -110,9 +114,11 @@ module _ (text : List ℕ) where
   Bad Colon i j = ⊥
   Bad TwoColons i j = ⊥
 
-  -- what comes next at or after a place: dividing space is passed over; the end is a token at the text length
+  -- `Comes`: what comes next at or after a place, for each answer of `token::next::next`, whose contract it is.
+  -- Dividing space is passed over; the end is a token at the text length
   abbrev pub Comes : ℕ → Next → Type 0
   Comes at (Token t) =
-      Skips text at (t .first) × (t .first < length text) × Is (t .kind) (t .first) (t .end) × Says (t .bad) (Bad (t .kind) (t .first) (t .end))
+      Skips text at (t .first) × (t .first < length text) × Is (t .kind) (t .first) (t .end) ×
+      Says (t .bad) (Bad (t .kind) (t .first) (t .end))
   Comes at (End place) = (place ≡ length text) × (i : ℕ) × Skips text at i × (length text ≤ i)
   Comes at (NoToken place) = Skips text at place × (place < length text) × ((k : Kind) (j : ℕ) → Is k place j → ⊥)

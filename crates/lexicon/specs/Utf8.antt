@@ -1,5 +1,5 @@
--- UTF-8 as the Unicode Standard's table of well-formed byte sequences has it (table 3-7), a row a line; and 01's place of
--- refusal 3. Assumes nothing.
+-- UTF-8 as the Unicode Standard's table of well-formed byte sequences has it (table 3-7), a row a line; and 01's place
+-- of refusal 3. Assumes nothing.
 use mathlib.Core.List.{List, [], _∷_}
 use Prim.Native.Nat.{ℕ, _<_}
 use lib.ListN.{length}
@@ -15,7 +15,7 @@ range a b = one (a upto b ∷ [])
 abbrev pub tail : Rule
 tail = range 0x80 0xBF
 
--- the rows that begin with a byte above 7F, the second row's first byte from `low` on
+-- the rows that begin with a byte above 7F; the first of them, two bytes, from first byte `low` on (C2 in the table)
 abbrev pub beyond : ℕ → Rule
 beyond low =
     range low 0xDF then tail

@@ -6,7 +6,7 @@ use Prim.Native.Nat.{ℕ, zero, suc, _+_, _-_, _*_}
 use lib.Dec.{leb, eqb}
 use lib.IntN.{ℤ, pos, negℤ}
 use lib.ListN.{getD}
-use Rattle.rules.specs.Class.{Class, In, anyOf}
+use Rattle.rules.specs.Class.{Class, In, byteOf, anyOf}
 use Rattle.rules.specs.Rule.{one, plus, opt, lit, Takes}
 use Rattle.lexicon.specs.declared.Base.{Base}
 use Rattle.lexicon.specs.Bytes.{digits, radix}
@@ -22,7 +22,7 @@ read text i (suc n) = getD text i 0 ∷ read text (i + 1) n
 
 -- the number that a digit's byte stands for: 0 to 9, and A to F for 10 to 15
 abbrev pub digit : ℕ → ℕ
-digit b = cond (leb b 0x39) (b - 0x30) (b - 0x37)
+digit b = cond (leb b (byteOf "9")) (b - byteOf "0") (b - (byteOf "A" - 10))
 
 -- digits read from left to right, after a number v
 abbrev pub valueFrom : ℕ → ℕ → List ℕ → ℕ
@@ -44,18 +44,19 @@ scalar (a ∷ b ∷ c ∷ d ∷ s) = (((a - 0xF0) * 64 + (b - 0x80)) * 64 + (c -
 
 -- the character that a letter after a backslash stands for
 pub data Letter : ℕ → ℕ → Type 0 where
-  quotationMark : Letter 0x71 0x22
-  graveAccent : Letter 0x67 0x60
-  reverseSolidus : Letter 0x62 0x5C
-  tab : Letter 0x74 0x09
-  lineFeed : Letter 0x6E 0x0A
-  carriageReturn : Letter 0x72 0x0D
+  quotationMark : Letter (byteOf "q") 0x22
+  graveAccent : Letter (byteOf "g") 0x60
+  reverseSolidus : Letter (byteOf "b") 0x5C
+  tab : Letter (byteOf "t") 0x09
+  lineFeed : Letter (byteOf "n") 0x0A
+  carriageReturn : Letter (byteOf "r") 0x0D
 
 module _ (text : List ℕ) where
   -- the bytes ds are those of the units from i to j, without what joins them
   pub data Digits (n : ℕ) (c : Class) : ℕ → ℕ → List ℕ → Type 0 where
     lastUnit : {i j : ℕ} → Takes text (unit n c) i j → Digits n c i j (read text i n)
-    nextUnit : {i m k j : ℕ} {ds : List ℕ} → Takes text (unit n c) i m → Takes text (opt joint) m k → Digits n c k j ds → Digits n c i j (read text i n ++ ds)
+    nextUnit : {i m k j : ℕ} {ds : List ℕ} → Takes text (unit n c) i m → Takes text (opt joint) m k →
+        Digits n c k j ds → Digits n c i j (read text i n ++ ds)
 
   -- a number without a sign from i to j is v
   pub record OfBase (b : Base) (i j v : ℕ) : Type 0 where
@@ -74,7 +75,7 @@ module _ (text : List ℕ) where
     pub before : Takes text sign i start
     pub size : ℕ
     pub number : Number start j size
-    pub value-is : z ≡ cond (eqb (getD text i 0) 0x2D) (negℤ (pos size)) (pos size)
+    pub value-is : z ≡ cond (eqb (getD text i 0) (byteOf "-")) (negℤ (pos size)) (pos size)
 
   -- ---- characters
 
@@ -96,7 +97,8 @@ module _ (text : List ℕ) where
   -- one that does: characters and escapes
   pub data Escaped : ℕ → ℕ → ℕ → Type 0 where
     itself : {i j : ℕ} → Takes text unescaped i j → Escaped i j (scalarAt i j)
-    letter : {i j m c : ℕ} → Takes text (lit "\\") i m → Letter (getD text m 0) c → Takes text (one escapeLetter) m j → Escaped i j c
+    letter : {i j m c : ℕ} → Takes text (lit "\\") i m → Letter (getD text m 0) c → Takes text (one escapeLetter) m j →
+        Escaped i j c
     number : {i j m e v : ℕ} → Takes text (lit "\\<") i m → CodeOf m e v → Takes text (lit ">") e j → Escaped i j v
 
   -- characters one after the other
@@ -105,12 +107,15 @@ module _ (text : List ℕ) where
     next : {i m j c : ℕ} {cs : List ℕ} → Item i m c → Row Item m j cs → Row Item i j (c ∷ cs)
 
   pub data Segment : ℕ → ℕ → List ℕ → Type 0 where
-    plain : {i m e j : ℕ} {cs : List ℕ} → Takes text (lit "\"") i m → (In (anyOf "\\") (getD text m 0) → ⊥) → Row Plain m e cs → Takes text (lit "\"") e j → Segment i j cs
-    escaped : {i m e j : ℕ} {cs : List ℕ} → Takes text (lit "\"\\") i m → Row Escaped m e cs → Takes text (lit "\"") e j → Segment i j cs
+    plain : {i m e j : ℕ} {cs : List ℕ} → Takes text (lit "\"") i m → (In (anyOf "\\") (getD text m 0) → ⊥) →
+        Row Plain m e cs → Takes text (lit "\"") e j → Segment i j cs
+    escaped : {i m e j : ℕ} {cs : List ℕ} → Takes text (lit "\"\\") i m → Row Escaped m e cs →
+        Takes text (lit "\"") e j → Segment i j cs
 
   pub data Quoted : ℕ → ℕ → List ℕ → Type 0 where
     lastSegment : {i j : ℕ} {cs : List ℕ} → Segment i j cs → Quoted i j cs
-    nextSegment : {i m k j : ℕ} {cs ds : List ℕ} → Segment i m cs → Takes text (opt sp) m k → Quoted k j ds → Quoted i j (cs ++ ds)
+    nextSegment : {i m k j : ℕ} {cs ds : List ℕ} → Segment i m cs → Takes text (opt sp) m k → Quoted k j ds →
+        Quoted i j (cs ++ ds)
 
   -- the characters of a Text literal from i to j, as code points
   pub data TextOf : ℕ → ℕ → List ℕ → Type 0 where

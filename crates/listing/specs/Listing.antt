@@ -4,12 +4,13 @@ use mathlib.Core.List.{List, [], _∷_, _++_}
 use Prim.Native.Nat.{ℕ, zero, suc, _+_, _*_, _/_, _%_}
 use lib.Dec.{ltb}
 use lib.ListN.{getD}
+use Rattle.rules.specs.Class.{byteOf}
 use Rattle.grammar.specs.Nodes.{nodeWords}
 use Rattle.reading.specs.declared.Answer.{Answer}
 
 -- the byte of a digit, 0 to 9
 abbrev pub digit : ℕ → ℕ
-digit d = 48 + d
+digit d = byteOf "0" + d
 
 -- the decimal digits of n, the last of them only if there are more than k
 unfoldable pub digits : ℕ → ℕ → List ℕ
@@ -21,10 +22,10 @@ abbrev pub decimal : ℕ → List ℕ
 decimal n = digits (suc n) n
 
 abbrev pub space : ℕ
-space = 32
+space = byteOf " "
 
 abbrev pub newline : ℕ
-newline = 10
+newline = 0x0A
 
 -- numbers, each behind one space, and the line's end
 abbrev pub fields : List ℕ → List ℕ
@@ -46,8 +47,8 @@ nodeLines t (suc n) = nodeLines t n ++ nodeLine (λ k. getD t (n * nodeWords + k
 
 -- by the answer's number: `ok` with level and count, and the nodes; or `no` with number and place
 abbrev pub listed : ℕ → ℕ → Answer → List ℕ → List ℕ
-listed zero level a t = headLine 111 107 level (a .count) ++ nodeLines t (a .count)
-listed (suc n) level a t = headLine 110 111 (suc n) (a .place)
+listed zero level a t = headLine (byteOf "o") (byteOf "k") level (a .count) ++ nodeLines t (a .count)
+listed (suc n) level a t = headLine (byteOf "n") (byteOf "o") (suc n) (a .place)
 
 abbrev pub listing : ℕ → Answer → List ℕ → List ℕ
 listing level a t = listed (a .number) level a t

@@ -14,7 +14,7 @@ use Rattle.rules.specs.Rule.{Rule, one, _then_, _or_, opt, row, lit, Takes, not
 use Rattle.rules.proofs.Classes.{apart, apartSpan, just-is}
 use Rattle.rules.proofs.Matches.{starting, ending, forward, row-end, move-at}
 use Rattle.rules.proofs.Tests.{says-no, refuted, not-there}
-use Rattle.rules.proofs.Ways.{never, covers, covers-all}
+use Rattle.rules.proofs.Ways.{covers, covers-all}
 use Rattle.lexicon.specs.declared.Base.the-variants.{Two, Eight, Sixteen}
 use Rattle.lexicon.specs.declared.Set.{Set}
 use Rattle.lexicon.specs.declared.Set.the-variants.{Binary, Octal, Hexadecimal, Base64}
@@ -33,12 +33,7 @@ use Rattle.number.specs.declared.groups.Groups.the-variants as Groups
 use Rattle.number.specs.Groups.{Grouped}
 use Rattle.number.specs.Blob.{TailOf, digits-stand, none-stand}
 use Rattle.number.proofs.Sums.{first-pad, later-pad, no-pad, misplaced}
-
--- ---- no base-64 character begins a joint
-
-pub clear-base64 : Clear base64
-unfolding never apart apartSpan
-clear-base64 = record { no-joint = refl; no-blank = refl }
+use Rattle.number.proofs.Joints.{clear-base64}
 
 -- ---- the digits behind a mark
 

@@ -27,10 +27,11 @@ use Rattle.lexicon.specs.Literals.{integer, spaced, significand, power, fractio
 use Rattle.lexicon.specs.Values.{Number, OfBase, value}
 use Rattle.lexicon.proofs.Spaces.{skips-same, Ahead, ahead-apart}
 use Rattle.lexicon.proofs.Groups.{digits-unit, digits-most}
-use Rattle.lexicon.proofs.Numbers.{SomeNumeral, clear, numeral, numeral-at, number-same, valued, to-nonsigned, to-base}
-use Rattle.lexicon.proofs.Integers.{Start, of-integer, to-integer, decimal-blank}
+use Rattle.lexicon.specs.Parts.{SomeNumeral, Start, SmallPower, exponent}
+use Rattle.lexicon.proofs.Numbers.{clear, numeral, numeral-at, number-same, valued, to-nonsigned, to-base}
+use Rattle.lexicon.proofs.Integers.{of-integer, to-integer, decimal-blank}
 use Rattle.lexicon.proofs.Fractions.{Significand, pointed, divided, Symbol, of-spaced, to-spaced, symbol-ahead, symbol-from, stops, some, ends-same, ahead-most, of-significand, to-significand, significand-start, align-point, align-ratio, behind-symbol, significand-cut, point-apart, slash-apart, star-apart, point-slash}
-use Rattle.lexicon.proofs.Powers.{Found, SmallPower, exponent, no-caret, no-exponent, whole-exponent, no-star, no-radix, no-power, whole-power, radix-is, small-power, power-ahead}
+use Rattle.lexicon.proofs.Powers.{Found, no-caret, no-exponent, whole-exponent, no-star, no-radix, no-power, whole-power, radix-is, small-power, power-ahead}
 use Rattle.text.proofs.Searches.{fails-end}
 use Rattle.number.specs.declared.integer.Number as Numbers
 use Rattle.number.specs.Number.{IsNumber, NoNumber, Numbered, OfBase as OfBaseAnswer}

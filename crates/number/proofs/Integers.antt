@@ -7,8 +7,8 @@ use lib.ListN.{length}
 use Rattle.rules.specs.Rule.{Longest, Fails}
 use Rattle.lexicon.specs.declared.Base.{Base}
 use Rattle.lexicon.specs.Literals.{integer}
-use Rattle.lexicon.proofs.Numbers.{SomeNumeral}
-use Rattle.lexicon.proofs.Integers.{Start, of-integer, to-integer}
+use Rattle.lexicon.specs.Parts.{SomeNumeral, Start}
+use Rattle.lexicon.proofs.Integers.{of-integer, to-integer}
 use Rattle.text.proofs.Searches.{fails-end}
 use Rattle.number.specs.declared.integer.Number.{Number}
 use Rattle.number.specs.declared.integer.Number.the-variants as Number

@@ -1,5 +1,5 @@
--- What joins two units ends in one place only. Assumes nothing.
-use mathlib.Core.Path.{_≡_, sym, _∙_}
+-- No digit begins what joins two units, and that ends in one place only. Assumes nothing.
+use mathlib.Core.Path.{_≡_, refl, sym, subst, _∙_}
 use mathlib.Core.Bool.{Bool, true, false}
 use mathlib.Core.List.{List}
 use Prim.Native.Nat.{ℕ, _+_, _≤_}
@@ -10,11 +10,38 @@ use Rattle.rules.specs.Class.{Class, just, anyOf}
 use Rattle.rules.specs.Rule.{one, opt, At, Takes, nothing, byte, left, right, Longest}
 use Rattle.rules.proofs.Matches.{forward, starting}
 use Rattle.rules.proofs.Tests.{there, not-there}
-use Rattle.rules.proofs.Ways.{never-takes}
+use Rattle.rules.proofs.Classes.{apart, apartSpan}
+use Rattle.rules.proofs.Ways.{never, never-takes}
+use Rattle.lexicon.specs.declared.Base.{Base}
+use Rattle.lexicon.specs.declared.Base.the-variants.{Two, Eight, Ten, Sixteen}
+use Rattle.lexicon.specs.declared.Set.{Set}
+use Rattle.lexicon.specs.Bytes.{members, base64, digitSet}
 use Rattle.lexicon.specs.Space.{sp, Skips}
 use Rattle.lexicon.specs.Literals.{joint}
 use Rattle.lexicon.proofs.Spaces.{landed}
 use Rattle.lexicon.proofs.Groups.{Clear, underscore-space}
+use Rattle.lexicon.proofs.Numbers.{clear}
+use Rattle.number.specs.Groups.{OfDigits}
+
+pub clear-base64 : Clear base64
+unfolding never apart apartSpan
+clear-base64 = record { no-joint = refl; no-blank = refl }
+
+pub clear-digits : {s : Set} → OfDigits s → Clear (members s)
+clear-digits OfDigits.binary = clear Two
+clear-digits OfDigits.octal = clear Eight
+clear-digits OfDigits.decimal = clear Ten
+clear-digits OfDigits.hexadecimal = clear Sixteen
+clear-digits OfDigits.base64 = clear-base64
+
+pub of-base : (b : Base) (s : Set) → s ≡ digitSet b → OfDigits s
+of-base b s e = subst OfDigits (sym e) (go b)
+  where
+    go : (b : Base) → OfDigits (digitSet b)
+    go Two = OfDigits.binary
+    go Eight = OfDigits.octal
+    go Ten = OfDigits.decimal
+    go Sixteen = OfDigits.hexadecimal
 
 module _ (text : List ℕ) (at : ℕ) where
   abbrev Line : Bool → Type 0

@@ -15,13 +15,13 @@ use Rattle.lexicon.specs.declared.Set.{Set}
 use Rattle.lexicon.specs.Bytes.{members, digits, digitSet, radix, decimal}
 use Rattle.lexicon.specs.Space.{sp, Skips}
 use Rattle.lexicon.specs.Literals.{unit, plusMinus}
-use Rattle.lexicon.proofs.Integers.{Start, behind, unsigned}
+use Rattle.lexicon.specs.Parts.{Start, behind, unsigned, letter, Numeral, marked, bare}
 use Rattle.lexicon.specs.Values.{Digits, value}
 use Rattle.lexicon.specs.Limited.{limit}
 use Rattle.lexicon.proofs.Limits.{limited-value}
 use Rattle.lexicon.proofs.Spaces.{skips-same, landed}
-use Rattle.lexicon.proofs.Groups.{Clear, digits-most, digits-forward, digits-unit, digits-at}
-use Rattle.lexicon.proofs.Numbers.{letter, Numeral, marked, bare, clear, in-marks, bare-short, aligned, same-base}
+use Rattle.lexicon.proofs.Groups.{digits-most, digits-forward, digits-unit, digits-at}
+use Rattle.lexicon.proofs.Numbers.{clear, in-marks, bare-short, aligned, same-base}
 use Rattle.text.specs.declared.digit.Lettered.{Lettered}
 use Rattle.text.specs.declared.digit.Lettered.the-variants as Lettered
 use Rattle.text.specs.Letters.{Letters}
@@ -135,9 +135,6 @@ module _ (text : List ℕ) (i : ℕ) where
 
   pub row-missing : (b : Base) (s : Set) (r : Groups) → s ≡ digitSet b → Grouped text s 1 i r → r ≡ Groups.Nothing → Fails text (unit 1 (digits b)) i
   row-missing b s r e g f = subst (λ (x : Set). Fails text (unit 1 (members x)) i) e (subst (λ (x : Groups). Grouped text s 1 i x) f g)
-
-pub clear-set : (b : Base) (s : Set) → s ≡ digitSet b → Clear (members s)
-clear-set b s e = subst (λ (x : Set). Clear (members x)) (sym e) (clear b)
 
 -- ---- the sign
 

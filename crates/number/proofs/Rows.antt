@@ -11,11 +11,11 @@ use Rattle.lexicon.specs.declared.Set.{Set}
 use Rattle.lexicon.specs.Bytes.{members}
 use Rattle.lexicon.specs.Literals.{unit, joint}
 use Rattle.lexicon.specs.Values.{Digits, read, lastUnit}
-use Rattle.lexicon.proofs.Groups.{Clear, unit-end, unit-byte, snoc-digits}
-use Rattle.number.specs.Groups.{Summed, Row}
+use Rattle.lexicon.proofs.Groups.{unit-end, unit-byte, snoc-digits}
+use Rattle.number.specs.Groups.{OfDigits, Summed, Row}
 use Rattle.number.specs.Tally.{tallies}
 use Rattle.number.proofs.Sums.{tallies-append, tallies-split}
-use Rattle.number.proofs.Joints.{joint-end}
+use Rattle.number.proofs.Joints.{clear-digits, joint-end}
 
 module _ (text : List ℕ) (set : Set) (n : ℕ) where
   abbrev Unit : ℕ → ℕ → Type 0
@@ -87,7 +87,7 @@ module _ (text : List ℕ) (set : Set) (n : ℕ) where
   pub no-units : (i j : ℕ) → 1 ≤ n → Units i j → j ≡ i → Fails text (unit n (members set)) i
   no-units i j h l e = subst (λ (k : ℕ). Fails text (unit n (members set)) k) e (units-end i j h l)
 
-  module _ (i j m s : ℕ) (h : 1 ≤ n) (cl : Clear (members set)) (r : Summed text set n i j s) (p : Longest text (opt joint) j m) where
+  module _ (i j m s : ℕ) (h : 1 ≤ n) (d : OfDigits set) (r : Summed text set n i j s) (p : Longest text (opt joint) j m) where
     -- none behind the joint either
     ended : Fails text (unit n (members set)) m → Row text set n i j s
     ended f = record { row = r; ended = record { stops = λ x. go (x .joined) (x .next) } }
@@ -96,10 +96,10 @@ module _ (text : List ℕ) (set : Set) (n : ℕ) where
         first-byte {k} u = move-at text (members set) (add-zero k) (unit-byte n (members set) k u 0 h)
 
         go : {k e : ℕ} → Takes text (opt joint) j k → Unit k e → ⊥
-        go t u = f .none (starting (joint-end (members set) cl t (first-byte u) p) u)
+        go t u = f .none (starting (joint-end (members set) (clear-digits d) t (first-byte u) p) u)
 
     pub row-unjoined : Fails text (unit n (members set)) j → m ≡ j → Row text set n i j s
     row-unjoined f e = ended (subst (λ (k : ℕ). Fails text (unit n (members set)) k) (sym e) f)
 
     pub row-joined : (e : ℕ) → Units m e → e ≡ m → Row text set n i j s
-    row-joined e l d = ended (no-units m e h l d)
+    row-joined e l q = ended (no-units m e h l q)

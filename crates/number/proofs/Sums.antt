@@ -11,7 +11,7 @@ use lib.Dec.{eqb, ltb}
 use lib.ListN.{getD}
 use Rattle.rules.specs.Test.{Says}
 use Rattle.lexicon.specs.declared.Set.{Set}
-use Rattle.lexicon.specs.Bytes.{size}
+use Rattle.lexicon.specs.Parts.{size}
 use Rattle.lexicon.specs.Values.{read}
 use Rattle.lexicon.specs.Limited.{limit, limited}
 use Rattle.lexicon.proofs.Limits.{read-more}

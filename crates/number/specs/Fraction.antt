@@ -15,7 +15,7 @@ use Rattle.lexicon.specs.Found.{Finds, Judges}
 use Rattle.lexicon.specs.Literals.{unit, integer, spaced, significand, fraction}
 use Rattle.lexicon.specs.Values.{Number}
 use Rattle.lexicon.specs.Bad.{BadFraction}
-use Rattle.lexicon.proofs.Integers.{Start}
+use Rattle.lexicon.specs.Parts.{Start}
 use Rattle.number.specs.declared.Numeral as Numeral
 use Rattle.number.specs.declared.Numeral.{Numeral}
 use Rattle.number.specs.Groups.{Row}
@@ -67,6 +67,7 @@ pub record Behind (text : List ℕ) (b : Base) (e : ℕ) (r : Literal) : Type 0 
 
 -- the literal that begins with a number at i: a Fraction if one stands there, else an Integer
 abbrev pub NumeralAt : List ℕ → ℕ → Numeral → Type 0
-NumeralAt text i (Numeral.the-variants.Integer j) = Fails text fraction i × Finds text integer i (Found.the-variants.At j)
+NumeralAt text i (Numeral.the-variants.Integer j) =
+    Fails text fraction i × Finds text integer i (Found.the-variants.At j)
 NumeralAt text i (Numeral.the-variants.Fraction j z) = Judges text fraction (BadFraction text) i (Literal.At j z)
 NumeralAt text i Numeral.the-variants.Nothing = Fails text fraction i × Fails text integer i

@@ -4,13 +4,22 @@ use mathlib.Core.List.{List}
 use Prim.Native.Nat.{ℕ}
 use Rattle.rules.specs.Rule.{Fails}
 use Rattle.lexicon.specs.declared.Set.{Set}
+use Rattle.lexicon.specs.declared.Set.the-variants as Set
 use Rattle.lexicon.specs.Bytes.{members}
 use Rattle.lexicon.specs.Literals.{unit}
 use Rattle.lexicon.specs.Values.{Digits}
-use Rattle.lexicon.proofs.Groups.{Ended}
+use Rattle.lexicon.specs.Parts.{Ended}
 use Rattle.number.specs.declared.groups.Groups as Groups
 use Rattle.number.specs.declared.groups.Groups.{Groups}
 use Rattle.number.specs.Tally.{tallies}
+
+-- the sets that units are made of: no byte of them begins what joins two units
+pub data OfDigits : Set → Type 0 where
+  binary : OfDigits Set.Binary
+  octal : OfDigits Set.Octal
+  decimal : OfDigits Set.Decimal
+  hexadecimal : OfDigits Set.Hexadecimal
+  base64 : OfDigits Set.Base64
 
 -- the units from i to j, and the sum over their bytes
 pub record Summed (text : List ℕ) (set : Set) (n i j s : ℕ) : Type 0 where

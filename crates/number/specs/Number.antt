@@ -2,7 +2,7 @@
 use mathlib.Core.Path.{_≡_}
 use mathlib.Core.List.{List}
 use Prim.Native.Nat.{ℕ, _+_, _≤_, min}
-use Rattle.rules.specs.Class.{just}
+use Rattle.rules.specs.Class.{byteOf, just}
 use Rattle.rules.specs.Rule.{Takes, Fails, At, opt}
 use Rattle.lexicon.specs.declared.Base.{Base}
 use Rattle.lexicon.specs.Bytes.{digits, digitSet, radix}
@@ -10,7 +10,7 @@ use Rattle.lexicon.specs.Space.{sp}
 use Rattle.lexicon.specs.Literals.{unit}
 use Rattle.lexicon.specs.Values.{Digits, value}
 use Rattle.lexicon.specs.Limited.{limit}
-use Rattle.lexicon.proofs.Numbers.{letter, Numeral, SomeNumeral}
+use Rattle.lexicon.specs.Parts.{letter, Numeral, SomeNumeral}
 use Rattle.text.specs.declared.digit.Lettered as Lettered
 use Rattle.text.specs.declared.digit.Lettered.{Lettered}
 use Rattle.number.specs.declared.integer.Number as Number
@@ -19,7 +19,7 @@ use Rattle.number.specs.Groups.{Row}
 
 -- a mark of the base stands at i
 pub record HasMark (text : List ℕ) (b : Base) (i : ℕ) : Type 0 where
-  pub zero : At text (just 0x30) i
+  pub zero : At text (just (byteOf "0")) i
   pub letter-is : At text (just (letter b)) (i + 1)
 
 pub record NoMark (text : List ℕ) (i : ℕ) : Type 0 where
@@ -50,7 +50,8 @@ Numbered text i Number.the-variants.Nothing = NoNumber text i
 
 -- none that has a mark
 pub record NoMarked (text : List ℕ) (i : ℕ) : Type 0 where
-  pub none : {b : Base} {g j : ℕ} {ds : List ℕ} → HasMark text b i → Takes text (opt sp) (i + 2) g → Digits text 1 (digits b) g j ds → ⊥
+  pub none : {b : Base} {g j : ℕ} {ds : List ℕ} → HasMark text b i → Takes text (opt sp) (i + 2) g →
+      Digits text 1 (digits b) g j ds → ⊥
 
 abbrev pub MarkedNumber : List ℕ → ℕ → Number → Type 0
 MarkedNumber text i (Number.the-variants.At b j v) = IsNumber text b i j v

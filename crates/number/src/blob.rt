@@ -12,11 +12,10 @@ ghost use Prim.Native.Nat.{_+_, _≤_};
 ghost use lib.ListN.{length};
 ghost use Rattle.rules.specs.Test.{Says};
 ghost use Rattle.rules.specs.Rule.{Takes, row};
-ghost use Rattle.lexicon.specs.Bytes.{members};
 ghost use Rattle.lexicon.specs.Found.{Finds, Judges};
 ghost use Rattle.lexicon.specs.Literals.{bits as bitsOf, blob as blobOf};
 ghost use Rattle.lexicon.specs.Bad.{BadPadding};
-ghost use Rattle.lexicon.proofs.Groups.{Clear};
+ghost use Rattle.number.specs.Groups.{OfDigits};
 ghost use Rattle.number.specs.Blob.{TailOf};
 
 // The end of the digits behind a mark, and the sum over them.
@@ -40,7 +39,7 @@ fn marked(text: &[u8], at: usize, second: u8, third: u8) -> bool
 
 // The digits behind a mark. Dividing space that leads to none is not taken.
 fn tail_at(text: &[u8], at: usize, set: Set, width: usize) -> Tail
-    requires { ⌜ (at ≤ length (now text)) × (1 ≤ width) × Clear (members set) ⌝ }
+    requires { ⌜ (at ≤ length (now text)) × (1 ≤ width) × OfDigits set ⌝ }
     ensures { λ r. ⌜ TailOf (now (text .entry)) set width at (r .end) (r .sum) ⌝ }
 {
     let from = space(text, at);

@@ -16,7 +16,7 @@ ghost use lib.ListN.{length};
 ghost use Rattle.rules.specs.Rule.{_then_};
 ghost use Rattle.lexicon.specs.Found.{Finds, Judges};
 ghost use Rattle.lexicon.specs.Literals.{integer as integerOf, spaced, power as powerOf};
-ghost use Rattle.lexicon.proofs.Powers.{SmallPower};
+ghost use Rattle.lexicon.specs.Parts.{SmallPower};
 ghost use Rattle.number.specs.Fraction.{Pointed, Divided, Behind, NumeralAt};
 
 // The digits behind a significand's point, of the base that stands before it.

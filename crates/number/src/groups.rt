@@ -12,9 +12,8 @@ ghost use lib.ListN.{length};
 ghost use Rattle.rules.specs.Rule.{one, many, opt, Longest};
 ghost use Rattle.lexicon.specs.Bytes.{members};
 ghost use Rattle.lexicon.specs.Literals.{unit, joint as jointOf};
-ghost use Rattle.lexicon.proofs.Groups.{Clear};
 ghost use Rattle.text.specs.Classes.{IsTable};
-ghost use Rattle.number.specs.Groups.{Grouped};
+ghost use Rattle.number.specs.Groups.{OfDigits, Grouped};
 
 // The end of the longest row of groups and the sum over its digits.
 pub enum Groups {
@@ -64,7 +63,7 @@ fn joint(text: &[u8], at: usize) -> usize
 
 // The longest row of units from a place. The table of classes is made once, for all of them.
 pub(crate) fn longest_row(text: &[u8], at: usize, set: Set, width: usize) -> Groups
-    requires { ⌜ (at ≤ length (now text)) × (1 ≤ width) × Clear (members set) ⌝ }
+    requires { ⌜ (at ≤ length (now text)) × (1 ≤ width) × OfDigits set ⌝ }
     ensures { λ r. ⌜ Grouped (now (text .entry)) set width at r ⌝ }
 {
     let classes = classes();

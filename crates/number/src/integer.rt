@@ -11,7 +11,7 @@ ghost use Prim.Native.Nat.{_≤_};
 ghost use lib.ListN.{length};
 ghost use Rattle.lexicon.specs.Found.{Finds};
 ghost use Rattle.lexicon.specs.Literals.{integer as integerOf};
-ghost use Rattle.lexicon.proofs.Integers.{Start};
+ghost use Rattle.lexicon.specs.Parts.{Start};
 ghost use Rattle.number.specs.Number.{Marks, OfBase, MarkedNumber, Numbered};
 
 // A number's base, the place behind it, and its value up to the limit.

@@ -8,7 +8,7 @@ ghost use mathlib.Core.Path.{_≡_};
 ghost use Prim.Native.Nat.{_+_, _≤_};
 ghost use lib.ListN.{length};
 ghost use Rattle.rules.specs.Test.{Says};
-ghost use Rattle.lexicon.specs.Bytes.{size};
+ghost use Rattle.lexicon.specs.Parts.{size};
 ghost use Rattle.lexicon.specs.Values.{read};
 ghost use Rattle.lexicon.specs.Limited.{limit};
 ghost use Rattle.number.specs.Tally.{paddedOf, tallyOf, tallies};

@@ -1,6 +1,6 @@
--- Demand 3, the old reading and the new: unless the lower level answers 'newer form', the readings end alike in number, place, count
--- and every word of the table; if it does, its place is the first byte of the first construct beyond it at a place for a value, and
--- the higher level accepts the text or refuses it there or later. Assumes nothing.
+-- Demand 3, the old reading and the new: unless the lower level answers 'newer form', the readings end alike in number,
+-- place, count and every word of the table; if it does, its place is the first byte of the first construct beyond it at
+-- a place for a value, and the higher level accepts the text or refuses it there or later. Assumes nothing.
 use mathlib.Core.Path.{_≡_}
 use mathlib.Core.Logic.{_⊎_}
 use mathlib.Core.List.{List}
@@ -35,7 +35,8 @@ module _ (limits : Limits) (l : Level) (bytes : List ℕ) where
     pub least : {q : ℕ} → NewerFrom q → place ≤ q
 
 -- two readings of one text with equal tables, at the lower level and at the higher: answer and table at exit of each
-pub record Agree (limits : Limits) (lower : Level) (bytes : List ℕ) (old : Answer) (oldTable : List ℕ) (new : Answer) (newTable : List ℕ) : Type 0 where
+pub record Agree (limits : Limits) (lower : Level) (bytes : List ℕ)
+    (old : Answer) (oldTable : List ℕ) (new : Answer) (newTable : List ℕ) : Type 0 where
   pub alike : (old .number ≡ 7 → ⊥) → (old ≡ new) × (oldTable ≡ newTable)
   pub first-newer : old .number ≡ 7 → FirstNewer limits lower bytes (old .place)
   pub there-or-later : old .number ≡ 7 → (new .number ≡ 0) ⊎ (old .place ≤ new .place)

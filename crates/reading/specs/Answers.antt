@@ -1,5 +1,5 @@
--- The answer of a reading: 01, 'Table of refusals', in its order. One record states number, place, count and the table at exit for
--- every level number, text and table at entry. Assumes nothing.
+-- The answer of a reading: 01, 'Table of refusals', in its order. One record states number, place, count and the table
+-- at exit for every level number, text and table at entry. Assumes nothing.
 use mathlib.Core.Path.{_≡_}
 use mathlib.Core.Bool.{true}
 use mathlib.Core.List.{List, [], _++_}
@@ -36,10 +36,16 @@ module _ (rules : Rules) (bytes : List ℕ) where
   pub data Reading (room number : ℕ) : Answer → Option Value → Type 0 where
     noLevel : ((l : Level) → LevelOf number l → ⊥) → Reading room number (answer 1 0 0) none
     tooLong : {l : Level} → LevelOf number l → rules .text < length bytes → Reading room number (answer 2 0 0) none
-    notUtf8 : {l : Level} {p : ℕ} → LevelOf number l → length bytes ≤ rules .text → BadAt bytes p → Reading room number (answer 3 p 0) none
-    faulty : {l : Level} {n p : ℕ} → LevelOf number l → length bytes ≤ rules .text → WellFormed bytes → FirstFault (rules .limits) l bytes n p → Reading room number (answer n p 0) none
-    noRoom : {l : Level} {v : Value} → LevelOf number l → length bytes ≤ rules .text → WellFormed bytes → Accepted (rules .limits) bytes l v → room < length (table v) → Reading room number (answer 8 (length bytes) (length (table v))) none
-    accepted : {l : Level} {v : Value} → LevelOf number l → length bytes ≤ rules .text → WellFormed bytes → Accepted (rules .limits) bytes l v → length (table v) ≤ room → Reading room number (answer 0 (length bytes) (length (table v))) (some v)
+    notUtf8 : {l : Level} {p : ℕ} → LevelOf number l → length bytes ≤ rules .text → BadAt bytes p →
+        Reading room number (answer 3 p 0) none
+    faulty : {l : Level} {n p : ℕ} → LevelOf number l → length bytes ≤ rules .text → WellFormed bytes →
+        FirstFault (rules .limits) l bytes n p → Reading room number (answer n p 0) none
+    noRoom : {l : Level} {v : Value} → LevelOf number l → length bytes ≤ rules .text → WellFormed bytes →
+        Accepted (rules .limits) bytes l v → room < length (table v) →
+        Reading room number (answer 8 (length bytes) (length (table v))) none
+    accepted : {l : Level} {v : Value} → LevelOf number l → length bytes ≤ rules .text → WellFormed bytes →
+        Accepted (rules .limits) bytes l v → length (table v) ≤ room →
+        Reading room number (answer 0 (length bytes) (length (table v))) (some v)
 
 -- the nodes of an accepted text; of a refused text there are none
 abbrev pub nodesOf : Option Value → List Node

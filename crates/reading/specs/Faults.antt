@@ -1,5 +1,5 @@
--- Faulty tokens: 01, 'tokens from left to right; the first faulty token decides. At one token: 4, 6, 7, 5, 11', and 'a token that
--- begins a newer form is 7 and never 6'. Assumes nothing.
+-- Faulty tokens: 01, 'tokens from left to right; the first faulty token decides. At one token: 4, 6, 7, 5, 11', and 'a
+-- token that begins a newer form is 7 and never 6'. Assumes nothing.
 use mathlib.Core.Path.{_≡_}
 use mathlib.Core.Bool.{true}
 use mathlib.Core.List.{List, [], _∷_, _++_}
@@ -31,16 +31,20 @@ module _ (limits : Limits) (l : Level) (bytes : List ℕ) where
   -- what is wrong with the token at or after p, behind the tokens ts: the refusal's number and place
   pub data Fault (ts : List Tok) (p : ℕ) : ℕ → ℕ → Type 0 where
     noToken : {q : ℕ} → Comes bytes p (Next.NoToken q) → Fault ts p 4 q
-    wrong : {t : Token.Token} → Comes bytes p (Next.Token t) → (NewerAt ts t → ⊥) → Wrong l ts (seen t) → Fault ts p 6 (t .first)
+    wrong : {t : Token.Token} → Comes bytes p (Next.Token t) → (NewerAt ts t → ⊥) → Wrong l ts (seen t) →
+        Fault ts p 6 (t .first)
     wrongEnd : {q : ℕ} → Comes bytes p (Next.End q) → WrongEnd l ts → Fault ts p 6 q
     newer : {t : Token.Token} → Comes bytes p (Next.Token t) → NewerAt ts t → Fault ts p 7 (t .first)
-    badValue : {t : Token.Token} → Comes bytes p (Next.Token t) → (NewerAt ts t → ⊥) → (Wrong l ts (seen t) → ⊥) → t .bad ≡ true → Fault ts p 5 (t .first)
-    tooDeep : {t : Token.Token} → Comes bytes p (Next.Token t) → (NewerAt ts t → ⊥) → (Wrong l ts (seen t) → ⊥) → (t .bad ≡ true → ⊥) → TooDeep ts t → Fault ts p 11 (t .first)
+    badValue : {t : Token.Token} → Comes bytes p (Next.Token t) → (NewerAt ts t → ⊥) → (Wrong l ts (seen t) → ⊥) →
+        t .bad ≡ true → Fault ts p 5 (t .first)
+    tooDeep : {t : Token.Token} → Comes bytes p (Next.Token t) → (NewerAt ts t → ⊥) → (Wrong l ts (seen t) → ⊥) →
+        (t .bad ≡ true → ⊥) → TooDeep ts t → Fault ts p 11 (t .first)
 
   -- the tokens ts stand from the front up to p, and none of them is faulty
   pub data Passed : List Tok → ℕ → Type 0 where
     begun : {p : ℕ} → Front bytes p → Passed [] p
-    passed : {p : ℕ} {ts : List Tok} {t : Token.Token} → Passed ts p → Comes bytes p (Next.Token t) → ((n q : ℕ) → Fault ts p n q → ⊥) → Passed (ts ++ (seen t ∷ [])) (t .end)
+    passed : {p : ℕ} {ts : List Tok} {t : Token.Token} → Passed ts p → Comes bytes p (Next.Token t) →
+        ((n q : ℕ) → Fault ts p n q → ⊥) → Passed (ts ++ (seen t ∷ [])) (t .end)
 
   -- the first faulty token
   pub record FirstFault (number place : ℕ) : Type 0 where

@@ -4,7 +4,9 @@ use Prim.Native.Nat.{ℕ, suc, pred}
 use Rattle.lexicon.specs.declared.Token as Token
 use Rattle.lexicon.specs.declared.Next.the-variants as Next
 use Rattle.lexicon.specs.Token.{Comes}
-use Rattle.grammar.specs.Tokens.{Tok, tok, Class, atom, text, names, round, curly, square, mark, later, roundClose, curlyClose, squareClose, comma, colon, rightArrow, leftArrow, dots, star, Mark, classKind}
+use Rattle.grammar.specs.Tokens.{Tok, tok, Class, atom, text, names, round, curly, square, mark, later, roundClose}
+use Rattle.grammar.specs.Tokens.{curlyClose, squareClose, comma, colon, rightArrow, leftArrow, dots, star, Mark}
+use Rattle.grammar.specs.Tokens.{classKind}
 
 -- a token as the tree rules see it
 abbrev pub seen : Token.Token → Tok
@@ -13,7 +15,8 @@ seen t = tok (classKind (t .kind)) (record { first = t .first; end = t .end })
 -- from place p the tokens ts stand one after the other, the last of them ending at q
 pub data Follow (bytes : List ℕ) : ℕ → List Tok → ℕ → Type 0 where
   nothing : {p : ℕ} → Follow bytes p [] p
-  next : {p q : ℕ} {t : Token.Token} {ts : List Tok} → Comes bytes p (Next.Token t) → Follow bytes (t .end) ts q → Follow bytes p (seen t ∷ ts) q
+  next : {p q : ℕ} {t : Token.Token} {ts : List Tok} → Comes bytes p (Next.Token t) → Follow bytes (t .end) ts q →
+      Follow bytes p (seen t ∷ ts) q
 
 -- the brackets that stand open behind the tokens: each of `(` `{` `[` counts, groups too
 abbrev pub openMark : Mark → ℕ → ℕ

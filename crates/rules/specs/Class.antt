@@ -9,6 +9,10 @@ use Prim.Native.String as String
 use Prim.Native.String.{String}
 use lib.Dec.{leb}
 
+-- the byte of an ASCII character
+abbrev pub byteOf : Char → ℕ
+byteOf c = code c
+
 -- the bytes from `low` to `high`, both included
 pub record Span : Type 0 where
   pub low : ℕ
@@ -20,7 +24,7 @@ abbrev pub _upto_ : ℕ → ℕ → Span
 a upto b = record { low = a; high = b }
 
 abbrev pub _to_ : Char → Char → Span
-a to b = code a upto code b
+a to b = byteOf a upto byteOf b
 
 abbrev pub Class : Type 0
 Class = List Span
@@ -32,7 +36,7 @@ just b = b upto b ∷ []
 -- the bytes of a text of ASCII characters
 abbrev pub codes : String → List ℕ
 codes String.[] = []
-codes (String._∷_ c s) = code c ∷ codes s
+codes (String._∷_ c s) = byteOf c ∷ codes s
 
 -- any one of them
 abbrev pub anyIn : List ℕ → Class

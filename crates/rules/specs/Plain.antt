@@ -1,5 +1,5 @@
--- The usual notion: which byte strings a rule matches, with no text around them. proofs/Plain.antt shows that what a rule takes
--- of a text is this. Assumes nothing.
+-- The usual notion: which byte strings a rule matches, with no text around them. proofs/Plain.antt shows that what a
+-- rule takes of a text is this. Assumes nothing.
 use mathlib.Core.List.{List, [], _∷_, _++_}
 use Prim.Native.Nat.{ℕ, _-_}
 use lib.ListN.{take, drop}

@@ -1,6 +1,5 @@
--- Rules over bytes, and what a rule takes of a text. A rule takes the text from place i to place j where the bytes from i
--- up to j are a text of the rule. Places count from byte 0 of the whole text.
--- Assumes nothing.
+-- Rules over bytes, and what a rule takes of a text. A rule takes the text from place i to place j where the bytes from
+-- i up to j are a text of the rule. Places count from byte 0 of the whole text. Assumes nothing.
 use mathlib.Core.Path.{_≡_}
 use mathlib.Core.List.{List, [], _∷_}
 use Prim.Native.Nat.{ℕ, zero, suc, _+_, _≤_, _<_}

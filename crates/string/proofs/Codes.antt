@@ -18,8 +18,8 @@ use Rattle.lexicon.specs.Found.{Judges}
 use Rattle.lexicon.specs.Literals.{codeOfBase, codePoint}
 use Rattle.lexicon.specs.Values.{CodeOf}
 use Rattle.lexicon.specs.Bad.{Scalar, BadCode}
-use Rattle.lexicon.proofs.Numbers.{letter}
-use Rattle.lexicon.proofs.Marks.{Marked, by-mark, by-digit, begins, mark-long, first-digit, digits-of}
+use Rattle.lexicon.specs.Parts.{letter, Marked}
+use Rattle.lexicon.proofs.Marks.{by-mark, by-digit, begins, mark-long, first-digit, digits-of}
 use Rattle.string.specs.Parts.{number, numberAt, BadNumber}
 use Rattle.rules.proofs.Tests.{refuted, not-there}
 use Rattle.lexicon.proofs.Bases.{some-base, any-base}

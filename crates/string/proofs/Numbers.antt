@@ -17,11 +17,13 @@ use Rattle.rules.proofs.Matches.{starting, one-at, byte-at}
 use Rattle.lexicon.specs.declared.Base.{Base}
 use Rattle.lexicon.specs.declared.Set.{Set}
 use Rattle.lexicon.specs.declared.Literal as Literal
-use Rattle.lexicon.specs.Bytes.{members, digitSet, digits, radix, size}
+use Rattle.lexicon.specs.Bytes.{members, digitSet, digits, radix}
+use Rattle.lexicon.specs.Parts.{size}
 use Rattle.lexicon.specs.Found.{Judges}
 use Rattle.lexicon.specs.Values.{read}
 use Rattle.lexicon.specs.Limited.{limit, limited}
 use Rattle.lexicon.specs.Bad.{Scalar}
+use Rattle.lexicon.proofs.Bases.{size-radix}
 use Rattle.lexicon.proofs.Limits.{limited-value, read-more}
 use Rattle.string.specs.Parts.{number, BadNumber, Counts}
 use Rattle.rules.proofs.Tests.{says-no, says-yes}
@@ -104,7 +106,10 @@ module _ {text : List ℕ} {s : Set} {i j v : ℕ} where
           record {
             all = d .all;
             ends = record { none = λ t. m (byte-at t) };
-            code = d .code ∙ limited-value (radix b) 0 (read text i (j - i));
+            code =
+                d .code
+                ∙ ap (λ (n : ℕ). foldl (limited n) 0 (read text i (j - i))) (size-radix b)
+                ∙ limited-value (radix b) 0 (read text i (j - i));
           }
 
   pub counting-ends : {b : Base} {o : Bool} → Counting text s i j v → s ≡ digitSet b → o ≡ has (members s) (getD text j 0) → not o ≡ true → Counts text b i j v

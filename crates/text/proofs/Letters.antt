@@ -3,7 +3,7 @@ use mathlib.Core.Path.{_≡_, subst}
 use Prim.Native.Nat.{ℕ}
 use Rattle.lexicon.specs.declared.Base.{Base}
 use Rattle.lexicon.specs.declared.Base.the-variants.{Two, Eight, Ten, Sixteen}
-use Rattle.lexicon.proofs.Numbers.{letter}
+use Rattle.lexicon.specs.Parts.{letter}
 use Rattle.text.specs.declared.digit.Lettered.{Lettered}
 use Rattle.text.specs.Letters.{Letters}
 

@@ -2,7 +2,7 @@
 use mathlib.Core.Path.{_≡_}
 use Prim.Native.Nat.{ℕ}
 use Rattle.lexicon.specs.declared.Base.{Base}
-use Rattle.lexicon.proofs.Numbers.{letter}
+use Rattle.lexicon.specs.Parts.{letter}
 use Rattle.text.specs.declared.digit.Lettered as Lettered
 use Rattle.text.specs.declared.digit.Lettered.{Lettered}
 

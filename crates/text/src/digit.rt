@@ -3,7 +3,8 @@
 use lexicon::Base;
 use lexicon::Set;
 ghost use mathlib.Core.Path.{_≡_};
-ghost use Rattle.lexicon.specs.Bytes.{digitSet, size};
+ghost use Rattle.lexicon.specs.Bytes.{digitSet};
+ghost use Rattle.lexicon.specs.Parts.{size};
 ghost use Rattle.lexicon.specs.Values.{digit as digitOf};
 ghost use Rattle.lexicon.specs.Limited.{limited as limitedOf};
 ghost use Rattle.text.specs.Letters.{Letters};

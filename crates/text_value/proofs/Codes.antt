@@ -8,14 +8,16 @@ use Rattle.rules.specs.Rule.{lit, Takes, both}
 use Rattle.rules.proofs.Matches.{forward, inside}
 use Rattle.lexicon.specs.declared.Base.{Base}
 use Rattle.lexicon.specs.declared.Set.{Set}
-use Rattle.lexicon.specs.Bytes.{digitSet, radix, size}
+use Rattle.lexicon.specs.Bytes.{digitSet, radix}
+use Rattle.lexicon.specs.Parts.{size}
 use Rattle.lexicon.specs.Literals.{codeOfBase, codePoint}
 use Rattle.lexicon.specs.Limited.{limit, limited}
 use Rattle.lexicon.specs.Values.{read, CodeOf}
-use Rattle.lexicon.proofs.Bases.{some-base}
+use Rattle.lexicon.proofs.Bases.{size-radix, some-base}
 use Rattle.lexicon.proofs.Limits.{limited-value, read-more}
+use Rattle.lexicon.specs.Parts.{Marked}
 use Rattle.string.specs.Parts.{numberAt}
-use Rattle.lexicon.proofs.Marks.{Marked, begins, mark-long, first-digit}
+use Rattle.lexicon.proofs.Marks.{begins, mark-long, first-digit}
 use Rattle.text_value.specs.Parts.{CodeIs}
 
 module _ (piece : List ℕ) where
@@ -63,7 +65,7 @@ module _ (piece : List ℕ) where
       v ≡ min limit (numberAt piece b i k)
   counted-all {n} {i} {j} b p q c e =
       c .sum
-      ∙ ap (λ (x : ℕ). foldl (limited x) 0 (read piece i (j - i))) (p ∙ ap size q)
+      ∙ ap (λ (x : ℕ). foldl (limited x) 0 (read piece i (j - i))) (p ∙ ap size q ∙ size-radix b)
       ∙ limited-value (radix b) 0 (read piece i (j - i))
       ∙ ap (λ (x : ℕ). min limit (numberAt piece b i x)) e
 

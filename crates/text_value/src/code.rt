@@ -11,8 +11,8 @@ ghost use lib.ListN.{length};
 ghost use Rattle.rules.specs.Rule.{lit, Takes};
 ghost use Rattle.lexicon.specs.Literals.{codePoint};
 ghost use Rattle.lexicon.specs.Limited.{limit};
+ghost use Rattle.lexicon.specs.Parts as Marks;
 ghost use Rattle.string.specs.Parts.{numberAt};
-ghost use Rattle.lexicon.proofs.Marks as Marks;
 ghost use Rattle.text_value.specs.Parts.{CodeIs};
 
 // The base that the mark tells, and where the digits begin.

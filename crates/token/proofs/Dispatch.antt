@@ -188,14 +188,14 @@ module _ (text : List ℕ) where
       where
         most : (m : Lexeme) {k : ℕ} → Takes text (rule m) i k → k ≤ j
         most m t =
-            ⊎-elim (λ q. l .most (taken-as text anInteger m q t)) (λ q. absurd (f .none (taken-as text aFraction m q t))) (which m (n .others m t))
+            ⊎-elim (λ q. l .most (taken-as text anInteger m q t)) (λ q. absurd (f .none (taken-as text aFraction m q t))) (n .others m t)
 
     fraction-here : {j : ℕ} → Longest text fraction i j → Here text aFraction i j
     fraction-here {j} l = record { takes = l .takes; most = most }
       where
         most : (m : Lexeme) {k : ℕ} → Takes text (rule m) i k → k ≤ j
         most m t =
-            ⊎-elim (λ q. le-of-lt (integer-below text (taken-as text anInteger m q t) (l .takes))) (λ q. l .most (taken-as text aFraction m q t)) (which m (n .others m t))
+            ⊎-elim (λ q. le-of-lt (integer-below text (taken-as text anInteger m q t) (l .takes))) (λ q. l .most (taken-as text aFraction m q t)) (n .others m t)
 
     pub integer-is : {j : ℕ} {s : Bool} → Fails text fraction i → Longest text integer i j → s ≡ has plusMinus (getD text i 0) → TokenAt text (Integer s) i j false
     integer-is f l e = record { is = record { told = (integer-here f l, e) }; bad-is = says-no (λ x. x) }
@@ -208,12 +208,12 @@ module _ (text : List ℕ) where
       where
         go : (m : Lexeme) {k : ℕ} → Takes text (rule m) i k → ⊥
         go m t =
-            ⊎-elim (λ q. g .none (taken-as text anInteger m q t)) (λ q. f .none (taken-as text aFraction m q t)) (which m (n .others m t))
+            ⊎-elim (λ q. g .none (taken-as text anInteger m q t)) (λ q. f .none (taken-as text aFraction m q t)) (n .others m t)
 
   -- where only numbers can begin
   only : (c : Class) {i : ℕ} → begins c (anInteger ∷ aFraction ∷ []) ≡ true → apart c (just 0x3A) ≡ true → At text c i → NumberOnly text i
   only c {i} e d a =
-      record { others = λ l t. begins-with text c (anInteger ∷ aFraction ∷ []) l e a t; no-colon = λ x. apart-no c (just 0x3A) (getD text i 0) d (a .1) (x .1) }
+      record { others = λ l t. which l (begins-with text c (anInteger ∷ aFraction ∷ []) l e a t); no-colon = λ x. apart-no c (just 0x3A) (getD text i 0) d (a .1) (x .1) }
 
   pub nonzero-only : {i : ℕ} → At text decimal i → (getD text i 0 ≡ 0x30 → ⊥) → NumberOnly text i
   unfolding apart apartSpan
@@ -226,7 +226,7 @@ module _ (text : List ℕ) where
   pub minus-only : {i : ℕ} → At text (just 0x2D) i → NoSymbol text i → NumberOnly text i
   unfolding apart apartSpan
   minus-only {i} a f =
-      record { others = go; no-colon = λ x. apart-no (just 0x2D) (just 0x3A) (getD text i 0) refl (a .1) (x .1) }
+      record { others = λ l t. which l (go l t); no-colon = λ x. apart-no (just 0x2D) (just 0x3A) (getD text i 0) refl (a .1) (x .1) }
     where
       go : (l : Lexeme) {k : ℕ} → Takes text (rule l) i k → oneOf (anInteger ∷ aFraction ∷ []) l ≡ true
       go l t =
@@ -267,7 +267,7 @@ module _ (text : List ℕ) where
 
   pub zero-only : {i : ℕ} → At text (just 0x30) i → Marked text i → Fails text bits i → Fails text blob i → Fails text codePoint i → NumberOnly text i
   unfolding apart apartSpan
-  zero-only {i} a m f g h = record { others = go; no-colon = λ x. apart-no (just 0x30) (just 0x3A) (getD text i 0) refl (a .1) (x .1) }
+  zero-only {i} a m f g h = record { others = λ l t. which l (go l t); no-colon = λ x. apart-no (just 0x30) (just 0x3A) (getD text i 0) refl (a .1) (x .1) }
     where
       skip : (n : Lexeme) (ls : List Lexeme) (l : Lexeme) {k : ℕ} → Fails text (rule n) i → Takes text (rule l) i k → oneOf (n ∷ ls) l ≡ true → oneOf ls l ≡ true
       skip n ls l d t e = ⊎-elim (λ q. absurd (d .none (taken-as text n l q t))) (λ q. q) (is-one n ls l e)

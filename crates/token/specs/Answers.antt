@@ -1,7 +1,8 @@
 -- What the searches at a token's first byte answer. Assumes nothing.
 use mathlib.Core.Path.{_≡_}
+use mathlib.Core.Logic.{_⊎_}
 use mathlib.Core.Bool.{Bool, true, false}
-use mathlib.Core.List.{List, [], _∷_}
+use mathlib.Core.List.{List}
 use Prim.Native.Nat.{ℕ, _+_}
 use Rattle.rules.specs.Test.{Says}
 use lib.ListN.{getD}
@@ -16,7 +17,6 @@ use Rattle.lexicon.specs.Symbols.{symbol}
 use Rattle.lexicon.specs.Bytes.{wordStart, decimal}
 use Rattle.lexicon.specs.Literals.{ignorance, boolean, later}
 use Rattle.lexicon.specs.Token.{Lexeme, anInteger, aFraction, aSymbol, rule, Here, Is, Bad}
-use Rattle.lexicon.proofs.Tokens.{oneOf}
 use Rattle.token.specs.declared.symbol.Symbol.{Symbol}
 use Rattle.token.specs.declared.symbol.Symbol.the-variants as Symbol
 use Rattle.token.specs.declared.zero.Fixed.{Fixed}
@@ -50,7 +50,7 @@ colonAt i = Next.Token (record { kind = Colon; first = i; end = i + 1; bad = fal
 
 -- no lexeme but an Integer or a Fraction stands at i
 pub record NumberOnly (text : List ℕ) (i : ℕ) : Type 0 where
-  pub others : (l : Lexeme) {k : ℕ} → Takes text (rule l) i k → oneOf (anInteger ∷ aFraction ∷ []) l ≡ true
+  pub others : (l : Lexeme) {k : ℕ} → Takes text (rule l) i k → (l ≡ anInteger) ⊎ (l ≡ aFraction)
   pub no-colon : At text (just 0x3A) i → ⊥
 
 -- no literal of one spelling stands at i

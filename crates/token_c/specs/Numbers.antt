@@ -7,13 +7,16 @@ use lib.ListN.{length}
 use Rattle.lexicon.specs.declared.Bound.{Bound}
 use Rattle.lexicon.specs.declared.Bound.the-variants.{Open, Less, LessEqual}
 use Rattle.lexicon.specs.declared.Sign.{Sign}
-use Rattle.lexicon.specs.declared.Sign.the-variants.{RoundOpen, RoundClose, CurlyOpen, CurlyClose, SquareOpen, SquareClose, Comma, ArrowRight, ArrowLeft, Dots, Star}
+use Rattle.lexicon.specs.declared.Sign.the-variants.{RoundOpen, RoundClose, CurlyOpen, CurlyClose, SquareOpen}
+use Rattle.lexicon.specs.declared.Sign.the-variants.{SquareClose, Comma, ArrowRight, ArrowLeft, Dots, Star}
 use Rattle.lexicon.specs.declared.Head.{Head}
-use Rattle.lexicon.specs.declared.Head.the-variants.{Array, Set, Bag, Mix, IntervalSet, IntervalBag, TupleArray, Relation, TupleBag, Article, Excuse, Heading, Renaming}
+use Rattle.lexicon.specs.declared.Head.the-variants.{Array, Set, Bag, Mix, IntervalSet, IntervalBag, TupleArray}
+use Rattle.lexicon.specs.declared.Head.the-variants.{Relation, TupleBag, Article, Excuse, Heading, Renaming}
 use Rattle.lexicon.specs.declared.Form.{Form}
 use Rattle.lexicon.specs.declared.Form.the-variants.{Quoted, Word, HeadWord, CodePoint}
 use Rattle.lexicon.specs.declared.Kind.{Kind}
-use Rattle.lexicon.specs.declared.Kind.the-variants.{Ignorance, Boolean, Integer, Fraction, Bits, Blob, Text, Later, Symbol, Colon, TwoColons}
+use Rattle.lexicon.specs.declared.Kind.the-variants.{Ignorance, Boolean, Integer, Fraction, Bits, Blob, Text, Later}
+use Rattle.lexicon.specs.declared.Kind.the-variants.{Symbol, Colon, TwoColons}
 use Rattle.lexicon.specs.declared.Next.{Next}
 use Rattle.lexicon.specs.declared.Next.the-variants.{Token, End, NoToken}
 use Rattle.lexicon.specs.Bytes.{bit}

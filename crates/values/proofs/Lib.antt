@@ -7,6 +7,7 @@ pub mod Sequences
 pub mod Spelled
 pub mod Characters
 pub mod Values
+pub mod Short
 pub mod Formed
 pub mod Texts
 pub mod Fits

@@ -93,17 +93,17 @@ module _ (piece : List ℕ) where
   plain-of (stop e) = ([], row-none (Plain piece) e)
   plain-of (more t u) = let x = plain-of u in (_, Values.next (Plain.itself t) (x .1))
 
-  escape-of : {i j : ℕ} → Takes piece escape i j → (c : ℕ) × Escaped piece i j c
+  pub escape-of : {i j : ℕ} → Takes piece escape i j → (c : ℕ) × Escaped piece i j c
   escape-of (both {m = m} t (left (byte a e))) =
       let l = letter-of (getD piece m 0) (a .1) in (l .0, Escaped.letter t (l .1) (byte a e))
   escape-of (both t (right (both u (both d q)))) = let v = code-of d in (v .0, Escaped.number (both t u) (v .1) q)
 
-  escaped-of : {i j : ℕ} → Takes piece (many (unescaped or escape)) i j → (cs : List ℕ) × Row piece (Escaped piece) i j cs
+  pub escaped-of : {i j : ℕ} → Takes piece (many (unescaped or escape)) i j → (cs : List ℕ) × Row piece (Escaped piece) i j cs
   escaped-of (stop e) = ([], row-none (Escaped piece) e)
   escaped-of (more (left t) u) = let x = escaped-of u in (_, Values.next (Escaped.itself t) (x .1))
   escaped-of (more (right t) u) = let c = escape-of t in let x = escaped-of u in (_, Values.next (c .1) (x .1))
 
-  segment-of : {i j : ℕ} → Takes piece segment i j → (cs : List ℕ) × Segment piece i j cs
+  pub segment-of : {i j : ℕ} → Takes piece segment i j → (cs : List ℕ) × Segment piece i j cs
   segment-of (both a (both {i = m} (left (left (both t u))) z)) =
       let x = plain-of u in
       let b : At piece backslash m → ⊥ = λ w. never-takes piece backslash unescaped backslash-unescaped w t in
@@ -115,7 +115,7 @@ module _ (piece : List ℕ) where
   )
   segment-of (both a (both (right (both b t)) z)) = let x = escaped-of t in (_, Segment.escaped (both a b) (x .1) z)
 
-  further-of : {i m j : ℕ} {cs : List ℕ} → Segment piece i m cs → Takes piece (many (opt sp then segment)) m j → (ds : List ℕ) × Quoted piece i j ds
+  pub further-of : {i m j : ℕ} {cs : List ℕ} → Segment piece i m cs → Takes piece (many (opt sp then segment)) m j → (ds : List ℕ) × Quoted piece i j ds
   further-of {i} {cs = cs} s (stop e) = (cs, lastSegment (subst (λ (x : ℕ). Segment piece i x cs) e s))
   further-of s (more (both p t) u) = let x = further-of (segment-of t .1) u in (_, nextSegment s p (x .1))
 

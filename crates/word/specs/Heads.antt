@@ -3,7 +3,8 @@ use mathlib.Core.List.{List, [], _∷_}
 use Prim.Native.Nat.{ℕ}
 use Rattle.rules.specs.Rule.{lit, Takes}
 use Rattle.lexicon.specs.declared.Head.{Head}
-use Rattle.lexicon.specs.declared.Head.the-variants.{Array, Set, Bag, Mix, IntervalSet, IntervalBag, TupleArray, Relation, TupleBag}
+use Rattle.lexicon.specs.declared.Head.the-variants.{Array, Set, Bag, Mix, IntervalSet, IntervalBag, TupleArray}
+use Rattle.lexicon.specs.declared.Head.the-variants.{Relation, TupleBag}
 use Rattle.lexicon.specs.declared.Form.{Form}
 use Rattle.lexicon.specs.declared.Form.the-variants.{Quoted, Word, HeadWord, CodePoint}
 use Rattle.lexicon.specs.Token.{headWord}

@@ -1,7 +1,6 @@
 -- `number::blob::bits` meets its contract. Assumes nothing.
 use native.Mathlib.Omega.{arith}
-use Rattle.lexicon.specs.declared.Base.the-variants.{Two, Eight, Sixteen}
-use Rattle.lexicon.proofs.Numbers.{clear}
+use Rattle.number.specs.Groups.{OfDigits}
 use Rattle.number.proofs.Blobs.{mark-within, bits-binary, bits-octal, bits-hexadecimal, bits-none}
 use borrow.Author.Needs.{needs}
 use Rattle.number.proofs.blob.bits.Statement.{statement}
@@ -14,7 +13,7 @@ add-tail-at : tie.Need-add-tail-at
 add-tail-at c = omega (arith, mark-within _ _ _ _ (c .before .marked .result) (c .before .marked .ensures) (c .if1 .taken), c .before .before .before .good .0 .0)
 
 tail-at-requires : tie.Need-tail-at-requires
-tail-at-requires c κs = (mark-within _ _ _ _ (c .before .marked .result) (c .before .marked .ensures) (c .if1 .taken), omega arith, clear Two)
+tail-at-requires c κs = (mark-within _ _ _ _ (c .before .marked .result) (c .before .marked .ensures) (c .if1 .taken), omega arith, OfDigits.binary)
 
 returns : tie.Need-returns
 returns c = bits-binary _ (c .before .before .marked .ensures .true-holds (c .before .if1 .taken)) (c .tail-at .ensures)
@@ -26,7 +25,7 @@ add-tail-at-2 : tie.Need-add-tail-at-2
 add-tail-at-2 c = omega (arith, mark-within _ _ _ _ (c .before .marked2 .result) (c .before .marked2 .ensures) (c .if2 .taken), c .before .before .before .before .before .good .0 .0)
 
 tail-at-requires-2 : tie.Need-tail-at-requires-2
-tail-at-requires-2 c κs = (mark-within _ _ _ _ (c .before .marked2 .result) (c .before .marked2 .ensures) (c .if2 .taken), omega arith, clear Eight)
+tail-at-requires-2 c κs = (mark-within _ _ _ _ (c .before .marked2 .result) (c .before .marked2 .ensures) (c .if2 .taken), omega arith, OfDigits.octal)
 
 returns-2 : tie.Need-returns-2
 returns-2 c = bits-octal _ (c .before .before .marked2 .ensures .true-holds (c .before .if2 .taken)) (c .tail-at2 .ensures)
@@ -38,7 +37,7 @@ add-tail-at-3 : tie.Need-add-tail-at-3
 add-tail-at-3 c = omega (arith, mark-within _ _ _ _ (c .before .marked3 .result) (c .before .marked3 .ensures) (c .if3 .taken), c .before .before .before .before .before .before .before .good .0 .0)
 
 tail-at-requires-3 : tie.Need-tail-at-requires-3
-tail-at-requires-3 c κs = (mark-within _ _ _ _ (c .before .marked3 .result) (c .before .marked3 .ensures) (c .if3 .taken), omega arith, clear Sixteen)
+tail-at-requires-3 c κs = (mark-within _ _ _ _ (c .before .marked3 .result) (c .before .marked3 .ensures) (c .if3 .taken), omega arith, OfDigits.hexadecimal)
 
 returns-3 : tie.Need-returns-3
 returns-3 c = bits-hexadecimal _ (c .before .before .marked3 .ensures .true-holds (c .before .if3 .taken)) (c .tail-at3 .ensures)

@@ -1,8 +1,7 @@
 -- `number::blob::blob` meets its contract. Assumes nothing.
 use native.Mathlib.Omega.{arith}
-use Rattle.lexicon.specs.declared.Base.the-variants.{Two, Sixteen}
-use Rattle.lexicon.proofs.Numbers.{clear}
-use Rattle.number.proofs.Blobs.{mark-within, clear-base64, blob-binary, blob-hexadecimal, blob-base64, blob-none}
+use Rattle.number.specs.Groups.{OfDigits}
+use Rattle.number.proofs.Blobs.{mark-within, blob-binary, blob-hexadecimal, blob-base64, blob-none}
 use borrow.Author.Needs.{needs}
 use Rattle.number.proofs.blob.blob.Statement.{statement}
 use Rattle.number.proofs.blob.blob.Tie as tie
@@ -14,7 +13,7 @@ add-tail-at : tie.Need-add-tail-at
 add-tail-at c = omega (arith, mark-within _ _ _ _ (c .before .marked .result) (c .before .marked .ensures) (c .if1 .taken), c .before .before .before .good .0 .0)
 
 tail-at-requires : tie.Need-tail-at-requires
-tail-at-requires c κs = (mark-within _ _ _ _ (c .before .marked .result) (c .before .marked .ensures) (c .if1 .taken), omega arith, clear Two)
+tail-at-requires c κs = (mark-within _ _ _ _ (c .before .marked .result) (c .before .marked .ensures) (c .if1 .taken), omega arith, OfDigits.binary)
 
 returns : tie.Need-returns
 returns c = blob-binary _ (c .before .before .marked .ensures .true-holds (c .before .if1 .taken)) (c .tail-at .ensures)
@@ -26,7 +25,7 @@ add-tail-at-2 : tie.Need-add-tail-at-2
 add-tail-at-2 c = omega (arith, mark-within _ _ _ _ (c .before .marked2 .result) (c .before .marked2 .ensures) (c .if2 .taken), c .before .before .before .before .before .good .0 .0)
 
 tail-at-requires-2 : tie.Need-tail-at-requires-2
-tail-at-requires-2 c κs = (mark-within _ _ _ _ (c .before .marked2 .result) (c .before .marked2 .ensures) (c .if2 .taken), omega arith, clear Sixteen)
+tail-at-requires-2 c κs = (mark-within _ _ _ _ (c .before .marked2 .result) (c .before .marked2 .ensures) (c .if2 .taken), omega arith, OfDigits.hexadecimal)
 
 returns-2 : tie.Need-returns-2
 returns-2 c = blob-hexadecimal _ (c .before .before .marked2 .ensures .true-holds (c .before .if2 .taken)) (c .tail-at2 .ensures)
@@ -38,7 +37,7 @@ add-tail-at-3 : tie.Need-add-tail-at-3
 add-tail-at-3 c = omega (arith, mark-within _ _ _ _ (c .before .marked3 .result) (c .before .marked3 .ensures) (c .if3 .taken), c .before .before .before .before .before .before .before .good .0 .0)
 
 tail-at-requires-3 : tie.Need-tail-at-requires-3
-tail-at-requires-3 c κs = (mark-within _ _ _ _ (c .before .marked3 .result) (c .before .marked3 .ensures) (c .if3 .taken), omega arith, clear-base64)
+tail-at-requires-3 c κs = (mark-within _ _ _ _ (c .before .marked3 .result) (c .before .marked3 .ensures) (c .if3 .taken), omega arith, OfDigits.base64)
 
 returns-3 : tie.Need-returns-3
 returns-3 c = blob-base64 _ (c .before .before .before .marked3 .ensures .true-holds (c .before .before .if3 .taken)) (c .before .tail-at3 .ensures)

@@ -1,7 +1,8 @@
 -- `number::integer::digits` meets its contract. Assumes nothing.
 use mathlib.Core.Path.{refl}
 use native.Mathlib.Omega.{arith}
-use Rattle.number.proofs.Marks.{clear-set, row-found, row-missing}
+use Rattle.number.proofs.Marks.{row-found, row-missing}
+use Rattle.number.proofs.Joints.{of-base}
 use borrow.Author.Needs.{needs}
 use Rattle.number.proofs.integer.digits.Statement.{statement}
 use Rattle.number.proofs.integer.digits.Tie as tie
@@ -10,7 +11,7 @@ digit-set-requires : tie.Need-digit-set-requires
 digit-set-requires c κs = search needs
 
 longest-row-requires : tie.Need-longest-row-requires
-longest-row-requires c κs = (search needs, omega arith, clear-set (c .before .before .args .base) (c .digit-set .result) (c .digit-set .ensures))
+longest-row-requires c κs = (search needs, omega arith, of-base (c .before .before .args .base) (c .digit-set .result) (c .digit-set .ensures))
 
 enum-known-end : tie.Need-enum-known-end
 enum-known-end c = search needs
