@@ -123,6 +123,13 @@ fn documents(repository: &Repository, root: &Path) -> io::Result<Report> {
         }
     }
     report.findings.extend(rules::unlisted(repository, &listed));
+    let (decisions, map) = (
+        repository.read("docs/DECISIONS.md")?,
+        repository.read("docs/MAP.md")?,
+    );
+    report
+        .findings
+        .extend(rules::decisions(repository, &decisions, &map));
     report.findings.extend(rules::columns(repository));
     Ok(report)
 }

@@ -96,3 +96,54 @@ fn codes(passage: &Passage) -> Vec<String> {
     };
     passage.parts.iter().filter_map(code).collect()
 }
+
+/// Decisions that are named by a number, as D7 in docs/MAP.md or as point 7
+/// in a definition, and do not exist.
+pub fn decisions(repository: &Repository, decisions: &str, map: &str) -> Vec<Finding> {
+    let known: BTreeSet<&str> = decisions
+        .lines()
+        .filter_map(|line| line.split_once(". **").map(|(number, _)| number))
+        .collect();
+    let missing = |file: &str, text: &str, mark: &str| -> Vec<Finding> {
+        let named = text
+            .lines()
+            .enumerate()
+            .flat_map(|(at, line)| numbers(line, mark).map(move |number| (at + 1, number)));
+        let missing = named.filter(|(_, number)| !known.contains(number));
+        let finding = |(line, number): (usize, &str)| {
+            Finding::new(file, line, format!("no decision {number}"))
+        };
+        missing.map(finding).collect()
+    };
+    let mut findings = missing("docs/MAP.md", map, "D");
+    for (path, source) in repository.sources() {
+        if path.contains("/specs/") {
+            findings.extend(missing(path, &source.text, "DECISIONS.md, point "));
+        }
+    }
+    findings
+}
+
+/// The numbers behind a mark that begins a word.
+fn numbers<'a>(line: &'a str, mark: &'a str) -> impl Iterator<Item = &'a str> {
+    line.match_indices(mark).filter_map(move |(at, _)| {
+        let begins = !line[..at].ends_with(|c: char| c.is_alphanumeric());
+        let behind = &line[at + mark.len()..];
+        let end = behind
+            .find(|c: char| !c.is_ascii_digit())
+            .unwrap_or(behind.len());
+        let ends = !behind[end..].starts_with(|c: char| c.is_alphanumeric());
+        (begins && ends && end > 0).then(|| &behind[..end])
+    })
+}
+
+#[cfg(test)]
+mod tests {
+    use super::*;
+
+    #[test]
+    fn numbers_behind_a_mark() {
+        let found: Vec<&str> = numbers("D1, D2; D800 is 0cxD8 and DF D3", "D").collect();
+        assert_eq!(found, ["1", "2", "800", "3"]);
+    }
+}
