@@ -1,7 +1,7 @@
 -- `begin::level::collection_of` meets its contract. Assumes nothing.
 use mathlib.Core.Path.{refl}
 use Rattle.grammar.specs.Tree as Tree
-use Rattle.moves.proofs.Means.{levelOf}
+use Rattle.moves.specs.Means.{levelOf}
 use borrow.Author.Needs.{needs}
 use Rattle.begin.proofs.Levels.{later-head}
 use Rattle.begin.proofs.level.collection_of.Statement.{statement}
