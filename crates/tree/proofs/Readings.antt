@@ -62,11 +62,10 @@ use Rattle.look.proofs.Looking.{got-token}
 use Rattle.begin.specs.Signs.{noMark, isClose}
 use Rattle.begin.specs.Begins.{Begins as Starts}
 use Rattle.begin.proofs.Signs.{close-class}
-use Rattle.tree.specs.Readers
 use Rattle.tree.specs.Readers.{spanOf, opened, Fit, Sized, Inner, Turned, Born, Stands, Faulty, Asks, IsValue, Outcome, Reads, Holds, Turns, Bore, Member, Bracketed, Rounded, entering, signs, Ends, Alone, Slim, Literal, Nesting, Taken}
 use Rattle.tree.specs.Turning.{Narrow, Outer}
 use Rattle.look.proofs.Bounds.{token-bounds}
-use Rattle.tree.proofs.Beginning.{From, Entered, Begun, BeginsSo, begins-so}
+use Rattle.tree.proofs.Beginning.{From, Entered, Begun, begins-so}
 use Rattle.tree.proofs.Turns.{isBare}
 
 pub not-false : (b : Bool) → not b ≡ false → b ≡ true

@@ -1,7 +1,7 @@
 -- What a reader of a value, and of a bracket's members, leaves behind. Assumes nothing.
 use mathlib.Core.Path.{_≡_}
 use mathlib.Core.Bool.{Bool, true, false}
-use mathlib.Core.List.{List, [], _∷_}
+use mathlib.Core.List.{List, _∷_}
 use mathlib.Core.Option.{none}
 use Prim.Native.Nat.{ℕ, suc, _+_, _≤_, _<_}
 use lib.ListN.{length}
@@ -13,7 +13,7 @@ use Rattle.lexicon.specs.declared.Token as Token
 use Rattle.lexicon.specs.declared.Next.the-variants as Next
 use Rattle.lexicon.specs.Token.{Comes}
 use Rattle.grammar.specs.Tokens
-use Rattle.grammar.specs.Tokens.{Span, Mark, Class, classKind}
+use Rattle.grammar.specs.Tokens.{Span, Mark, classKind}
 use Rattle.grammar.specs.Tree.{Value}
 use Rattle.grammar.specs.Nodes as Nodes
 use Rattle.grammar.specs.Nodes.{nodes}

@@ -1,7 +1,7 @@
 -- A whole text: its value, the end behind it, and the answer. Assumes nothing.
 use mathlib.Core.Path.{_≡_}
 use mathlib.Core.List.{List}
-use Prim.Native.Nat.{ℕ, _≤_}
+use Prim.Native.Nat.{ℕ}
 use lib.ListN.{length}
 use Rattle.lexicon.specs.Utf8.{WellFormed}
 use Rattle.grammar.specs.Tree.{Value}

@@ -14,7 +14,6 @@ use moves::Role;
 use moves::Shape;
 use table::Entry;
 use table::put;
-ghost use mathlib.Core.Path.{_≡_};
 ghost use Rattle.grammar.specs.Tokens.{wording};
 ghost use Rattle.grammar.specs.Nodes.{truthDetail};
 ghost use Rattle.moves.specs.declared.Shape.the-variants as Shape;
