@@ -6,7 +6,8 @@ use Rattle.lexicon.specs.declared.Head.{Head}
 use Rattle.grammar.specs.Tree
 use Rattle.grammar.specs.Yield.{collectionHead}
 use Rattle.grammar.specs.Level.{Level, hasHead, hasCollection}
-use Rattle.reading.specs.Answers.{LevelOf}
+use Rattle.reading.specs.declared.Answer.{Answer}
+use Rattle.reading.specs.Answers.{LevelOf, answer}
 use Rattle.moves.specs.declared.Forms.{Forms}
 use Rattle.moves.specs.Means.{levelOf, collectionStyle}
 use Rattle.begin.specs.declared.level.Leveled.{Leveled}
@@ -17,6 +18,11 @@ use Rattle.begin.specs.declared.level.Collection.the-variants as Collect
 abbrev pub LevelFound : ℕ → Leveled → Type 0
 LevelFound n (Leveled.Has forms) = LevelOf n (levelOf forms)
 LevelFound n Leveled.Nothing = (l : Level) → LevelOf n l → ⊥
+
+-- 01's refusal of a number that is no level's: 1 at 0
+abbrev pub unleveledBy : Leveled → Answer
+unleveledBy (Leveled.Has forms) = answer 0 0 0
+unleveledBy Leveled.Nothing = answer 1 0 0
 
 -- the collection of a head, if the level has it
 abbrev pub Collects : Forms → Head → Collection → Type 0

@@ -2,7 +2,9 @@
 use lexicon::Head;
 use moves::Forms;
 use moves::Style;
-ghost use Rattle.begin.specs.Levels.{Collects, LevelFound};
+use reading::Answer;
+ghost use mathlib.Core.Path.{_≡_};
+ghost use Rattle.begin.specs.Levels.{Collects, LevelFound, unleveledBy};
 
 pub enum Leveled {
     Has(Forms),
@@ -31,6 +33,24 @@ pub fn level_of(number: u32) -> Leveled
         });
     }
     Leveled::Nothing
+}
+
+// The refusal of a number that is no level's.
+pub fn unleveled(level: Leveled) -> Answer
+    ensures { λ r. ⌜ r ≡ unleveledBy level ⌝ }
+{
+    match level {
+        Leveled::Has(_) => Answer {
+            number: 0,
+            place: 0,
+            count: 0,
+        },
+        Leveled::Nothing => Answer {
+            number: 1,
+            place: 0,
+            count: 0,
+        },
+    }
 }
 
 // The collection that a head begins, if the level has it.

@@ -9,7 +9,11 @@ use Rattle.lexicon.specs.declared.Kind.{Kind}
 use Rattle.lexicon.specs.declared.Kind.the-variants as Kind
 use Rattle.lexicon.specs.declared.Token as Token
 use Rattle.lexicon.specs.declared.Next.the-variants as Next
+use Rattle.lexicon.specs.declared.Encoding.{Encoding}
+use Rattle.lexicon.specs.declared.Encoding.the-variants as Encoding
 use Rattle.lexicon.specs.Token.{Comes}
+use Rattle.reading.specs.declared.Answer.{Answer}
+use Rattle.reading.specs.Answers.{answer}
 use Rattle.look.specs.declared.answer.Read.{Read}
 use Rattle.look.specs.declared.answer.Read.the-variants as Read
 use Rattle.look.specs.declared.answer.Got.{Got}
@@ -43,6 +47,11 @@ module _ (text : List ℕ) where
   abbrev pub Heads : ℕ → Headed → Type 0
   Heads at (Headed.At h end) = HeadHere at h end
   Heads at (Headed.Other g) = Gets at g × NoHead at
+
+-- 01's refusal of a text that is not UTF-8: 3 at the first byte at which no sequence begins
+abbrev pub unformedBy : Encoding → Answer
+unformedBy Encoding.WellFormed = answer 0 0 0
+unformedBy (Encoding.BadAt q) = answer 3 q 0
 
 -- the refusal of a token, as that of a value
 abbrev pub handedOn : Got → Read

@@ -1,10 +1,12 @@
 // The answers of the readers. A refusal met below stands unchanged above.
+use lexicon::Encoding;
 use lexicon::Next;
 use lexicon::Token;
 use moves::Shape;
+use reading::Answer;
 use token::next::next;
 ghost use mathlib.Core.Path.{_≡_};
-ghost use Rattle.look.specs.Looks.{Gets, handedOn};
+ghost use Rattle.look.specs.Looks.{Gets, unformedBy, handedOn};
 
 // A value: where it ends, how many nodes it has, what it is to a colon behind it. Or the text's first fault.
 pub enum Read {
@@ -46,5 +48,23 @@ pub fn handed(got: Got) -> Read
             place: t.first,
         },
         Got::Refused { number, place } => Read::Refused { number, place },
+    }
+}
+
+// The refusal of a text that is not UTF-8.
+pub fn unformed(encoding: Encoding) -> Answer
+    ensures { λ r. ⌜ r ≡ unformedBy encoding ⌝ }
+{
+    match encoding {
+        Encoding::WellFormed => Answer {
+            number: 0,
+            place: 0,
+            count: 0,
+        },
+        Encoding::BadAt(place) => Answer {
+            number: 3,
+            place,
+            count: 0,
+        },
     }
 }

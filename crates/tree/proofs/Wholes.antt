@@ -39,10 +39,10 @@ use Rattle.look.specs.declared.answer.Got.{Got}
 use Rattle.look.specs.declared.answer.Got.the-variants as Got
 use Rattle.begin.specs.declared.level.Leveled.{Leveled}
 use Rattle.begin.specs.declared.level.Leveled.the-variants as Leveled
-use Rattle.look.specs.Looks.{Gets, handedOn}
+use Rattle.look.specs.Looks.{Gets, handedOn, unformedBy}
 use Rattle.look.specs.Ends.{Behind, further, nothing, atEnd}
 use Rattle.look.proofs.Looking.{got-token}
-use Rattle.begin.specs.Levels.{LevelFound}
+use Rattle.begin.specs.Levels.{LevelFound, unleveledBy}
 use Rattle.tree.specs.Readers.{spanOf, Faulty, Fit, IsValue, Outcome, Reads}
 use Rattle.tree.specs.Whole.{Whole, JudgedAs, Judged, Told, refusal}
 use Rattle.look.proofs.Bounds.{token-bounds}
@@ -145,8 +145,8 @@ module _ (text : List ℕ) (forms : Forms) (rules : Rules) (lent : List ℕ) (h 
 -- ---- the tests over the whole text
 
 module _ (rules : Rules) (text lent : List ℕ) (number : ℕ) (l : Leveled) (x : LevelFound number l) where
-  pub read-no-level : {r : Answer} → l ≡ Leveled.Nothing → r ≡ answer 1 0 0 → Answers rules text lent number r lent
-  read-no-level e q = subst (λ (s : Answer). Answers rules text lent number s lent) (sym q) (record { tree = _; reading = noLevel (subst (λ (y : Leveled). LevelFound number y) e x); left-is = refl })
+  pub read-no-level : {r : Answer} → l ≡ Leveled.Nothing → r ≡ unleveledBy l → Answers rules text lent number r lent
+  read-no-level e q = subst (λ (s : Answer). Answers rules text lent number s lent) (sym (q ∙ ap unleveledBy e)) (record { tree = _; reading = noLevel (subst (λ (y : Leveled). LevelFound number y) e x); left-is = refl })
 
   module _ {forms : Forms} (e : l ≡ Leveled.Has forms) where
     of-level : LevelOf number (levelOf forms)
@@ -156,8 +156,8 @@ module _ (rules : Rules) (text lent : List ℕ) (number : ℕ) (l : Leveled) (x 
     read-long h q = subst (λ (s : Answer). Answers rules text lent number s lent) (sym q) (record { tree = _; reading = tooLong of-level h; left-is = refl })
 
     module _ (h : length text ≤ rules .text) (c : Encoding) (y : Encoded text c) where
-      pub read-bad : {p : ℕ} {r : Answer} → c ≡ Encoding.BadAt p → r ≡ answer 3 p 0 → Answers rules text lent number r lent
-      read-bad i q = subst (λ (s : Answer). Answers rules text lent number s lent) (sym q) (record { tree = _; reading = notUtf8 of-level h (subst (λ (z : Encoding). Encoded text z) i y); left-is = refl })
+      pub read-bad : {p : ℕ} {r : Answer} → c ≡ Encoding.BadAt p → r ≡ unformedBy c → Answers rules text lent number r lent
+      read-bad i q = subst (λ (s : Answer). Answers rules text lent number s lent) (sym (q ∙ ap unformedBy i)) (record { tree = _; reading = notUtf8 of-level h (subst (λ (z : Encoding). Encoded text z) i y); left-is = refl })
 
       pub read-told : {left : List ℕ} {r : Answer} → c ≡ Encoding.WellFormed → Told text rules forms lent left r → Answers rules text lent number r left
       read-told i d = d .answers number of-level (subst (λ (z : Encoding). Encoded text z) i y)

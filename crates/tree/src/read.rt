@@ -3,11 +3,13 @@
 use crate::value::value;
 use begin::level::Leveled;
 use begin::level::level_of;
+use begin::level::unleveled;
 use lexicon::Encoding;
 use look::answer::Got;
 use look::answer::Read;
 use look::answer::get;
 use look::answer::handed;
+use look::answer::unformed;
 use look::end::ended;
 use moves::Forms;
 use reading::Answer;
@@ -106,15 +108,15 @@ fn reading(rules: Rules, number: u32, text: &[u8], table: &mut [u32]) -> Answer
 {
     let named = level_of(number);
     let Leveled::Has(forms) = named else {
-        return refused(1, 0);
+        return unleveled(named);
     };
     if text.len() > rules.text {
         return refused(2, 0);
     }
     let encoding = utf8(text);
-    if let Encoding::BadAt(place) = encoding {
-        return refused(3, place);
-    }
+    let Encoding::WellFormed = encoding else {
+        return unformed(encoding);
+    };
     tokens(rules, text, forms, table)
 }
 

@@ -14,32 +14,32 @@ enum-known-named c = search needs
 enum-told : tie.Need-enum-told
 enum-told c = search needs
 
+unleveled-requires : tie.Need-unleveled-requires
+unleveled-requires c κs = search needs
+
+returns : tie.Need-returns
+returns c = read-no-level _ _ _ _ (c .before .before .before .level-of .result) (c .before .before .before .level-of .ensures) (c .before .enum-told .given .1) (c .unleveled .ensures)
+
 refused-requires : tie.Need-refused-requires
 refused-requires c κs = search needs
 
-returns : tie.Need-returns
-returns c = read-no-level _ _ _ _ (c .before .before .before .level-of .result) (c .before .before .before .level-of .ensures) (c .before .enum-told .given .1) (c .refused .ensures)
-
-refused-requires-2 : tie.Need-refused-requires-2
-refused-requires-2 c κs = search needs
-
 returns-2 : tie.Need-returns-2
-returns-2 c = read-long _ _ _ _ (c .before .before .before .before .before .before .level-of .result) (c .before .before .before .before .before .before .level-of .ensures) (c .before .before .before .before .named .given .1) (c .before .if1 .taken) (c .refused2 .ensures)
+returns-2 c = read-long _ _ _ _ (c .before .before .before .before .before .before .level-of .result) (c .before .before .before .before .before .before .level-of .ensures) (c .before .before .before .before .named .given .1) (c .before .if1 .taken) (c .refused .ensures)
 
 utf8-requires : tie.Need-utf8-requires
 utf8-requires c κs = search needs
 
-enum-known-encoding : tie.Need-enum-known-encoding
-enum-known-encoding c = search needs
-
-refused-requires-3 : tie.Need-refused-requires-3
-refused-requires-3 c κs = search needs
-
-returns-3 : tie.Need-returns-3
-returns-3 c = read-bad _ _ _ _ (c .before .before .before .before .before .before .before .before .before .before .level-of .result) (c .before .before .before .before .before .before .before .before .before .before .level-of .ensures) (c .before .before .before .before .before .before .before .before .named .given .1) (omega (arith, c .before .before .before .before .before .if1 .left)) (c .before .before .before .before .utf8 .result) (c .before .before .before .before .utf8 .ensures) (c .before .before .encoding .given .1) (c .refused3 .ensures)
-
 enum-told-2 : tie.Need-enum-told-2
 enum-told-2 c = search needs
+
+enum-told-3 : tie.Need-enum-told-3
+enum-told-3 c = search needs
+
+unformed-requires : tie.Need-unformed-requires
+unformed-requires c κs = search needs
+
+returns-3 : tie.Need-returns-3
+returns-3 c = read-bad _ _ _ _ (c .before .before .before .before .before .before .before .before .before .level-of .result) (c .before .before .before .before .before .before .before .before .before .level-of .ensures) (c .before .before .before .before .before .before .before .named .given .1) (omega (arith, c .before .before .before .before .if1 .left)) (c .before .before .before .utf8 .result) (c .before .before .before .utf8 .ensures) (c .before .enum-told3 .given .1) (c .unformed .ensures)
 
 tokens-requires : tie.Need-tokens-requires
 tokens-requires c κs = search needs
@@ -57,15 +57,15 @@ reading-spec =
     level-of-requires
     enum-known-named
     enum-told
-    refused-requires
+    unleveled-requires
     returns
-    refused-requires-2
+    refused-requires
     returns-2
     utf8-requires
-    enum-known-encoding
-    refused-requires-3
-    returns-3
     enum-told-2
+    enum-told-3
+    unformed-requires
+    returns-3
     tokens-requires
     same-length
     returns-4)
