@@ -1,4 +1,4 @@
-/* A proved reader of MUON plain text (Muldis Object Notation 0.300.0) at the levels 1 and 2 of a settings box: muon_read gives the nodes
+/* A proved reader of MUON plain text (Muldis Object Notation 0.300.0) at the levels 1 and 2: muon_read gives the nodes
    of a text, muon_integer and muon_text give the value of one literal.
 
    The archive is target/staticlib/libcapi.a, written by `rt staticlib capi` (x86-64); it needs no other library. Linking:

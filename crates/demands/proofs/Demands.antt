@@ -11,7 +11,9 @@ use Rattle.reading.specs.declared.Rules.{Rules}
 use Rattle.reading.specs.Answers.{Reading, Answers, nodesOf, noLevel, tooLong, notUtf8, faulty, noRoom, accepted}
 use Rattle.reading.proofs.Unique.{one-answer}
 use Rattle.reading.proofs.Agree.{levels-agree}
-use Rattle.demands.specs.Demands.{Answered, Demand1, Demand2, Demand3, Demands}
+use Rattle.values.proofs.IntegerExists as IntegerExists
+use Rattle.values.proofs.TextExists as TextExists
+use Rattle.demands.specs.Demands.{ValueAnswers, Answered, Demand1, Demand2, Demand3, Demands}
 use Rattle.demands.proofs.Derived.{decides}
 use Rattle.demands.proofs.Exists.{some-reading}
 use Rattle.demands.proofs.Pieces.{pieces}
@@ -36,6 +38,9 @@ module _ (rules : Rules) (bytes lent : List ℕ) {number : ℕ} where
 
 pub every-answer : Demand1
 every-answer rules bytes lent number = let x = some-reading rules bytes lent number in (x .0, x .1, answered rules bytes lent (x .2))
+
+pub every-value : ValueAnswers
+every-value rules piece lent = (IntegerExists.exactly-one rules piece, TextExists.exactly-one rules piece lent)
 
 pub every-decision : Demand2
 every-decision rules bytes lent number r left a =

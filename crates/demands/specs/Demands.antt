@@ -10,6 +10,9 @@ use Rattle.reading.specs.declared.Answer.{Answer}
 use Rattle.reading.specs.declared.Rules.{Rules}
 use Rattle.reading.specs.Answers.{Answers}
 use Rattle.reading.specs.Agree.{Agree}
+use Rattle.values.specs.declared.IntegerAnswer.{IntegerAnswer}
+use Rattle.values.specs.Integer.{IntegerAnswers}
+use Rattle.values.specs.Text.{TextAnswers}
 use Rattle.demands.specs.Derived.{Acceptable, Decides}
 use Rattle.demands.specs.Pieces.{Pieces}
 
@@ -31,6 +34,15 @@ abbrev pub Demand1 : Type 0
 Demand1 =
     (rules : Rules) (bytes lent : List ℕ) (number : ℕ) →
     (r : Answer) × (left : List ℕ) × Answered rules bytes lent number r left
+
+-- the value calls too have an answer for every piece and buffer, and no other: `every-value`
+abbrev pub ValueAnswers : Type 0
+ValueAnswers =
+    (rules : Rules) (piece lent : List ℕ) →
+    ((z : IntegerAnswer) × IntegerAnswers rules piece z ×
+    ((y : IntegerAnswer) → IntegerAnswers rules piece y → z ≡ y)) ×
+    ((r : Answer) × (left : List ℕ) × TextAnswers rules piece lent r left ×
+    ((s : Answer) (u : List ℕ) → TextAnswers rules piece lent s u → (r ≡ s) × (left ≡ u)))
 
 -- ---- 2. 'At levels 1 and 2, a text is accepted exactly when the MUON grammar, as condensed in document 01, derives
 -- it, no literal in it has a bad value and it keeps the size rules there. The node table is that derivation, node for
@@ -55,7 +67,7 @@ Demand2 =
 -- byte of the first construct beyond level 1 at a place for a value. Level 2 then accepts the text, or its refusal
 -- stands there or later.'
 
--- `old-and-new`: `Agree` has the three sentences as its three fields
+-- `old-and-new`: `Agree` has the last three sentences above as its three fields
 abbrev pub Demand3 : Type 0
 Demand3 =
     (rules : Rules) (bytes lent : List ℕ) (old new : Answer) (oldLeft newLeft : List ℕ) →

@@ -60,7 +60,8 @@ module _ (bytes : List ℕ) (s : Span) where
     noRoom : {cs : List ℕ} → TextOf bytes (s .first) (s .end) cs → length lent < length (encoded cs) →
         GivesText lent (answer 8 (s .end - s .first) (length (encoded cs))) lent
 
--- one law for every kind of literal, and what follows for each call
+-- one law for every kind of literal, and what follows for each call; brackets and Nestings are no literals, and the
+-- Texts inside a Nesting have no nodes
 pub record NodePiece (rules : Rules) (bytes : List ℕ) (n : Node) : Type 0 where
   pub literal : isLiteral (n .kind) ≡ true → Lone rules bytes n
   pub integer : n .kind ≡ anInteger → (r : IntegerAnswer) →

@@ -9,7 +9,8 @@ use Rattle.grammar.specs.Tree
 use Rattle.grammar.specs.Tree.{Arrow, rightward, leftward, Joiner, Collection, array, set, bag, Style, Value}
 use Rattle.grammar.specs.Tree.{Plain, Item, Row, Listing, Attributes, Bounds}
 
--- the forms that a level may have or lack
+-- the forms that a level may have or lack; both of 01's levels have the arrow `<-`, which a later rule may retire
+-- (docs/DECISIONS.md, point 28)
 pub data Feature : Type 0 where
   arrays sets bags intervals leftArrows : Feature
 

@@ -12,7 +12,7 @@ use Rattle.reading.specs.declared.Answer.{Answer}
 abbrev pub digit : ℕ → ℕ
 digit d = byteOf "0" + d
 
--- the decimal digits of n, the last of them only if there are more than k
+-- the decimal digits of n, or its last k if it has more
 unfoldable pub digits : ℕ → ℕ → List ℕ
 digits zero n = []
 digits (suc k) n = cond (ltb n 10) (digit n ∷ []) (digits k (n / 10) ++ (digit (n % 10) ∷ []))

@@ -14,8 +14,9 @@ use Rattle.moves.specs.declared.Style.the-variants as Style
 use Rattle.moves.specs.Means.{levelOf, modeOf}
 use Rattle.moves.specs.Effects.{Asked, Does}
 
--- wherever the reader expects what the mode tells, the move is what a token of the kind does, at whatever place;
--- there is one such move (`one-move` in `proofs/One.antt`)
+-- wherever the reader expects what the mode tells, the move is what a token of the kind does, at whatever place. Where
+-- some configuration has the mode and the token is asked about there is one such move (`one-move` in
+-- `proofs/One.antt`); elsewhere, as behind the head of a Lot, the move is free, and no reader asks for it
 pub record Moves (forms : Forms) (mode : Mode) (kind : Kind) (move : Move) : Type 0 where
   pub does : (c : Config) → modeOf c ≡ mode → Asked c kind → (at : Span) →
       Does (levelOf forms) c (tok (classKind kind) at) move

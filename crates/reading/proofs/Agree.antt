@@ -1,4 +1,4 @@
--- Demand 3, for any two levels of which one has the other's forms. Assumes nothing.
+-- Demand 3, for any two levels of which one has the other's forms, and which both have the arrow `<-` or both lack it. Assumes nothing.
 use mathlib.Core.Path.{_≡_, refl, sym, ap, subst}
 use mathlib.Core.Bool.{true}
 use mathlib.Core.Logic.{_⊎_, inl, inr}

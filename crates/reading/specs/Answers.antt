@@ -26,7 +26,7 @@ pub data LevelOf : ℕ → Level → Type 0 where
 abbrev pub answer : ℕ → ℕ → ℕ → Answer
 answer n p c = record { number = n; place = p; count = c }
 
--- the text is accepted with this derivation: no token is faulty
+-- no token of the text is faulty, the end included, and this is its derivation; room for it is asked behind that
 pub record Accepted (limits : Limits) (bytes : List ℕ) (l : Level) (v : Value) : Type 0 where
   pub of-level : keeps l v ≡ true
   pub passed : AllPassed limits l bytes (yieldValue v [])

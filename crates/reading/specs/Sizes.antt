@@ -5,9 +5,11 @@ use Rattle.grammar.specs.Nodes.{nodeWords}
 use Rattle.reading.specs.declared.Limits.{Limits}
 use Rattle.reading.specs.declared.Rules.{Rules}
 
+-- 01: 'Open brackets at once: at most 32 (each of `(` `{` `[` counts, groups too)'
 abbrev pub baseLimits : Limits
 baseLimits = record { depth = 32 }
 
+-- 01: 'Text: 0 to 32,768 bytes'; 'the smaller of 1,024 and' what the table holds
 abbrev pub base : Rules
 base = record { text = 32768; nodes = 1024; limits = baseLimits }
 
@@ -15,7 +17,7 @@ base = record { text = 32768; nodes = 1024; limits = baseLimits }
 abbrev pub room : Rules → ℕ → ℕ
 room r n = min (r .nodes) (n / nodeWords)
 
--- the bytes of a text at most, whatever the rules: up to here every place and every count of nodes fits a word of the
--- table. No answer depends on it: it bounds the sums of the code
+-- not of 01: the longest text of rules that the code can follow. Up to it every place and every count of nodes fits a
+-- word of the table, and no sum of the code wraps; no answer depends on it
 abbrev pub widest : ℕ
 widest = 1048576

@@ -1,4 +1,5 @@
--- The bytes that a quoted text stands for, byte by byte: its characters need not be told apart. Assumes nothing.
+-- The bytes that a quoted text stands for, byte by byte: its characters need not be told apart. No answer
+-- rests on it. Assumes nothing.
 use mathlib.Core.Path.{_≡_}
 use mathlib.Core.List.{List, [], _∷_, _++_}
 use Prim.Native.Nat.{ℕ, _+_, _-_, _<_}

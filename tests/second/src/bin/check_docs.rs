@@ -130,6 +130,7 @@ fn documents(repository: &Repository, root: &Path) -> io::Result<Report> {
     report
         .findings
         .extend(rules::decisions(repository, &decisions, &map));
+    report.findings.extend(rules::contracts(repository));
     report.findings.extend(rules::columns(repository));
     Ok(report)
 }

@@ -44,6 +44,45 @@ pub fn unlisted(repository: &Repository, listed: &BTreeSet<Function>) -> Vec<Fin
     findings
 }
 
+/// Public functions without a promise, or that ask something of their caller.
+pub fn contracts(repository: &Repository) -> Vec<Finding> {
+    let code = repository
+        .sources()
+        .filter(|(path, _)| path.starts_with("crates/") && path.ends_with(".rt"));
+    code.flat_map(|(path, source)| unpromised(path, &source.text))
+        .collect()
+}
+
+/// In a file of code. A contract stands between a function's head and the
+/// line with the brace that opens its body.
+pub fn unpromised(path: &str, text: &str) -> Vec<Finding> {
+    let mut findings = Vec::new();
+    let mut head: Option<(usize, bool)> = None;
+    for (at, line) in text.lines().enumerate() {
+        if line.starts_with("pub fn ") || line.starts_with("pub extern ") {
+            head = Some((at + 1, false));
+        }
+        let Some((first, promised)) = head else {
+            continue;
+        };
+        let word = line.trim_start();
+        if word.starts_with("requires") {
+            let reason = "a public function has a requires".to_string();
+            findings.push(Finding::new(path, first, reason));
+        }
+        if line == "{" {
+            if !promised {
+                let reason = "a public function has no ensures".to_string();
+                findings.push(Finding::new(path, first, reason));
+            }
+            head = None;
+        } else {
+            head = Some((first, promised || word.starts_with("ensures")));
+        }
+    }
+    findings
+}
+
 /// Crates without a row in README's table, and crates with definitions that
 /// its section on them does not name.
 pub fn crates(repository: &Repository, readme: &Document) -> Vec<Finding> {
@@ -145,5 +184,23 @@ mod tests {
     fn numbers_behind_a_mark() {
         let found: Vec<&str> = numbers("D1, D2; D800 is 0cxD8 and DF D3", "D").collect();
         assert_eq!(found, ["1", "2", "800", "3"]);
+    }
+
+    fn reasons(text: &str) -> Vec<String> {
+        let findings = unpromised("crates/a/src/lib.rt", text);
+        findings.into_iter().map(|finding| finding.reason).collect()
+    }
+
+    #[test]
+    fn public_functions_promise_and_ask_nothing() {
+        let promise = "    ensures { r }\n{\n}\n";
+        assert!(reasons(&format!("pub fn a() -> u8\n{promise}")).is_empty());
+        assert!(reasons(&format!("fn a() -> u8\n    requires {{ x }}\n{promise}")).is_empty());
+        assert_eq!(reasons("pub fn a()\n{\n}\n").len(), 1);
+        assert_eq!(
+            reasons(&format!("pub fn a()\n    requires {{ x }}\n{promise}")).len(),
+            1
+        );
+        assert_eq!(reasons("pub fn a() {\n}\n\nfn b()\n{\n}\n").len(), 1);
     }
 }
