@@ -25,8 +25,10 @@ use Rattle.reading.specs.declared.Limits.{Limits}
 use Rattle.reading.specs.declared.Rules.{Rules}
 use Rattle.reading.specs.Sizes.{room}
 use Rattle.reading.specs.Tokens.{seen, Follow, nothing, next, opened}
-use Rattle.reading.specs.Faults.{NewerAt, TooDeep, Fault, noToken, wrong, wrongEnd, newer, badValue, tooDeep, Passed, begun, passed, AllPassed}
+use Rattle.reading.specs.Faults.{NewerAt, TooDeep, tests, Fault, noToken, wrongEnd, atToken, Passed, begun, passed, AllPassed}
 use Rattle.reading.specs.Answers.{LevelOf, Accepted, Reading, Answers, noLevel, tooLong, notUtf8, faulty, noRoom, accepted}
+use Rattle.reading.specs.Tests.{First}
+use Rattle.reading.proofs.Tests.{None, all-fail, no-number}
 use Rattle.reading.proofs.Rows.{Order, equal, less, more, order, pick, no-end, append, one-row}
 use Rattle.reading.proofs.First.{follows, start, went}
 use Rattle.reading.proofs.Decide.{faultless}
@@ -53,7 +55,7 @@ module _ (limits : Limits) (l : Level) (bytes : List ℕ) (v : Value) where
     unfaulted : {p q n : ℕ} {ts : List Tok} {t : Token.Token} (xs : List Tok) → Follow bytes (d .start) xs p → Comes bytes p (Next.Token t) →
         Follow bytes (t .end) ts q → Comes bytes q (Next.End n) → xs ++ (seen t ∷ ts) ≡ yieldValue v [] → (m x : ℕ) → Fault limits l bytes xs p m x → ⊥
     unfaulted {ts = ts} {t = t} xs f c g z e =
-        faultless bytes limits l c not-newer not-wrong (λ b. d .sound f c (c .3 .true-holds b)) not-deep
+        faultless bytes limits l c (not-newer, (not-wrong, ((λ b. d .sound f c (c .3 .true-holds b)), (not-deep, tt))))
       where
         begins : (us rest : List Tok) → us ++ rest ≡ ts → Begins l (xs ++ (seen t ∷ us))
         begins us rest h =
@@ -67,7 +69,7 @@ module _ (limits : Limits) (l : Level) (bytes : List ℕ) (v : Value) where
                   };
             }
 
-        not-newer : NewerAt limits l bytes xs t → ⊥
+        not-newer : NewerAt l bytes xs t → ⊥
         not-newer n =
             let o = within bytes (n .follow) g z in
             newerBegins l xs (seen t) (n .ahead) (n .newer) (begins (n .ahead) (o .0) (o .1))
@@ -75,7 +77,7 @@ module _ (limits : Limits) (l : Level) (bytes : List ℕ) (v : Value) where
         not-wrong : Wrong l xs (seen t) → ⊥
         not-wrong w = w .none (begins [] ts refl)
 
-        not-deep : TooDeep limits l bytes xs t → ⊥
+        not-deep : TooDeep limits xs t → ⊥
         not-deep h = omega (arith, h .beyond, d .shallow (xs ++ (seen t ∷ [])) ts (append-assoc xs (seen t ∷ []) ts ∙ e))
 
     onward : {p q n : ℕ} {ts : List Tok} (xs : List Tok) → Follow bytes (d .start) xs p → Passed limits l bytes xs p → Follow bytes p ts q →
@@ -103,34 +105,21 @@ module _ (limits : Limits) (l : Level) (bytes : List ℕ) (v : Value) where
     whole = follows bytes limits l (at .1) (a .good)
 
     -- the tests that a token without a fault has passed
-    record Clean (ts : List Tok) (t : Token.Token) : Type 0 where
-      sound : t .bad ≡ true → ⊥
-      shallow : TooDeep limits l bytes ts t → ⊥
-
-    clean : {p : ℕ} {ts : List Tok} {t : Token.Token} → Follow bytes (at .0) ts p → Comes bytes p (Next.Token t) → Clean ts t
+    clean : {p : ℕ} {ts : List Tok} {t : Token.Token} → Follow bytes (at .0) ts p → Comes bytes p (Next.Token t) → None (tests limits l bytes ts t)
     clean {p} {ts} {t} f c = by (within bytes f whole (a .at-end))
       where
-        by : (rest : List Tok) × (ts ++ rest ≡ yieldValue v []) → Clean ts t
+        by : (rest : List Tok) × (ts ++ rest ≡ yieldValue v []) → None (tests limits l bytes ts t)
         by ([], e) =
             let o = one-row bytes f whole (ap (λ (r : List Tok). length r) (sym (append-nil ts) ∙ e)) in
             absurd (no-end bytes (a .from) (subst (λ (q : ℕ). Comes bytes q (Next.Token t)) (o .1) c) (a .at-end))
         by (r ∷ rest, e) =
-            record {
-              sound = λ b. none 5 (t .first) (badValue c not-newer not-wrong b);
-              shallow = λ h. none 11 (t .first) (tooDeep c not-newer not-wrong (λ b. none 5 (t .first) (badValue c not-newer not-wrong b)) h);
-            }
+            all-fail (tests limits l bytes ts t) (λ n x. none n (t .first) (atToken c x))
           where
             none : (n q : ℕ) → Fault limits l bytes ts p n q → ⊥
             none = went bytes limits l (at .1) f (a .good) (omega (arith, ap (λ (r : List Tok). length r) e, length-append ts (r ∷ rest))) .sound
 
-            not-newer : NewerAt limits l bytes ts t → ⊥
-            not-newer n = none 7 (t .first) (newer c n)
-
-            not-wrong : Wrong l ts (seen t) → ⊥
-            not-wrong w = none 6 (t .first) (wrong c not-newer w)
-
     -- one token more
-    deeper : (xs : List Tok) (t : Token.Token) → opened xs ≤ limits .depth → (TooDeep limits l bytes xs t → ⊥) → opened (xs ++ (seen t ∷ [])) ≤ limits .depth
+    deeper : (xs : List Tok) (t : Token.Token) → opened xs ≤ limits .depth → (TooDeep limits xs t → ⊥) → opened (xs ++ (seen t ∷ [])) ≤ limits .depth
     deeper xs t h k = by (order (opened xs) (opened (xs ++ (seen t ∷ [])))) (order (limits .depth) (opened (xs ++ (seen t ∷ []))))
       where
         by : Order (opened xs) (opened (xs ++ (seen t ∷ []))) → Order (limits .depth) (opened (xs ++ (seen t ∷ []))) → opened (xs ++ (seen t ∷ [])) ≤ limits .depth
@@ -145,7 +134,7 @@ module _ (limits : Limits) (l : Level) (bytes : List ℕ) (v : Value) where
     deep xs [] behind f g h = subst (λ (r : List Tok). opened r ≤ limits .depth) (sym (append-nil xs)) h
     deep xs (b ∷ before) behind f (next {t = t} c g) h =
         subst (λ (r : List Tok). opened r ≤ limits .depth) (append-assoc xs (seen t ∷ []) before)
-        (deep (xs ++ (seen t ∷ [])) before behind (append bytes f (next c nothing)) g (deeper xs t h (clean f c .shallow)))
+        (deep (xs ++ (seen t ∷ [])) before behind (append bytes f (next c nothing)) g (deeper xs t h (clean f c .1 .1 .1 .0)))
 
     passed-derived : keeps l v ≡ true → Derived limits l bytes v
     passed-derived k =
@@ -156,7 +145,7 @@ module _ (limits : Limits) (l : Level) (bytes : List ℕ) (v : Value) where
           end = a .from;
           row = whole;
           at-end = a .at-end;
-          sound = λ f c b. clean f c .sound (c .3 .holds-true b);
+          sound = λ f c b. clean f c .1 .1 .0 (c .3 .holds-true b);
           shallow = λ before behind e. deep [] before behind nothing (subst (λ (r : List Tok). Follow bytes (at .0) r (a .from)) (sym e) whole) (omega arith);
         }
 
@@ -185,11 +174,10 @@ module _ (rules : Rules) (bytes lent : List ℕ) where
   -- no fault has one of them
   fault-number : {l : Level} {ts : List Tok} {p n q : ℕ} → Fault (rules .limits) l bytes ts p n q → Passes n → ⊥
   fault-number (noToken c) = no-pass (λ e. omega (arith, e)) (λ e. omega (arith, e))
-  fault-number (wrong c k w) = no-pass (λ e. omega (arith, e)) (λ e. omega (arith, e))
   fault-number (wrongEnd c w) = no-pass (λ e. omega (arith, e)) (λ e. omega (arith, e))
-  fault-number (newer c n) = no-pass (λ e. omega (arith, e)) (λ e. omega (arith, e))
-  fault-number (badValue c k w b) = no-pass (λ e. omega (arith, e)) (λ e. omega (arith, e))
-  fault-number (tooDeep c k w b d) = no-pass (λ e. omega (arith, e)) (λ e. omega (arith, e))
+  fault-number {l} {ts} {n = n} (atToken {t = t} c x) =
+      let T = tests (rules .limits) l bytes ts t in
+      no-pass (λ i. no-number T 0 refl (subst (First T) i x)) (λ i. no-number T 8 refl (subst (First T) i x))
 
   module _ (number : ℕ) where
     -- what stands behind an answer with one of them

@@ -72,7 +72,7 @@ abbrev pub Demand3 : Type 0
 Demand3 =
     (rules : Rules) (bytes lent : List ℕ) (old new : Answer) (oldLeft newLeft : List ℕ) →
     Answers rules bytes lent 1 old oldLeft → Answers rules bytes lent 2 new newLeft →
-    Agree (rules .limits) level1 bytes old oldLeft new newLeft
+    Agree level1 bytes old oldLeft new newLeft
 
 -- ---- all three, of one text read at level 1 into the table `first` and at level 2 into the table `second`:
 -- `all-demands`
@@ -84,4 +84,4 @@ pub record Demands (rules : Rules) (bytes first second : List ℕ) (old : Answer
   pub old-derives : Derives rules bytes first 1 old oldLeft
   pub new-derives : Derives rules bytes second 2 new newLeft
   -- with tables of the same length and the same words
-  pub agree : first ≡ second → Agree (rules .limits) level1 bytes old oldLeft new newLeft
+  pub agree : first ≡ second → Agree level1 bytes old oldLeft new newLeft

@@ -143,10 +143,10 @@ module _ (bytes : List ℕ) (limits : Limits) (l : Level) where
   ahead-is (mark m) p = none-needed p (λ ts s e. e)
   ahead-is later p = none-needed p (λ ts s e. e)
 
-  newer-at : {ts us : List Tok} {t : Token.Token} → Ahead (classKind (t .kind)) (t .end) us → isNewer l ts (seen t) us ≡ true → NewerAt limits l bytes ts t
+  newer-at : {ts us : List Tok} {t : Token.Token} → Ahead (classKind (t .kind)) (t .end) us → isNewer l ts (seen t) us ≡ true → NewerAt l bytes ts t
   newer-at {ts} {us} {t} a e = record { ahead = us; end = a .end; follow = a .follow; newer = holdsNewer l ts (seen t) us e }
 
-  not-newer : {ts us : List Tok} {t : Token.Token} → Ahead (classKind (t .kind)) (t .end) us → isNewer l ts (seen t) us ≡ false → NewerAt limits l bytes ts t → ⊥
+  not-newer : {ts us : List Tok} {t : Token.Token} → Ahead (classKind (t .kind)) (t .end) us → isNewer l ts (seen t) us ≡ false → NewerAt l bytes ts t → ⊥
   not-newer {ts} {us} {t} a e n =
       clash
       (newerHolds l ts (seen t) us
@@ -157,7 +157,7 @@ module _ (bytes : List ℕ) (limits : Limits) (l : Level) where
   abbrev deeper : List Tok → Token.Token → Bool
   deeper ts t = ltb (opened ts) (opened (ts ++ (seen t ∷ []))) && ltb (limits .depth) (opened (ts ++ (seen t ∷ [])))
 
-  is-deeper : (ts : List Tok) (t : Token.Token) → deeper ts t ≡ true → TooDeep limits l bytes ts t
+  is-deeper : (ts : List Tok) (t : Token.Token) → deeper ts t ≡ true → TooDeep limits ts t
   is-deeper ts t e =
       let n = opened (ts ++ (seen t ∷ [])) in
       record {
@@ -165,7 +165,7 @@ module _ (bytes : List ℕ) (limits : Limits) (l : Level) where
         beyond = ltb-true (limits .depth) n (and-right (ltb (opened ts) n) (ltb (limits .depth) n) e);
       }
 
-  not-deeper : (ts : List Tok) (t : Token.Token) → deeper ts t ≡ false → TooDeep limits l bytes ts t → ⊥
+  not-deeper : (ts : List Tok) (t : Token.Token) → deeper ts t ≡ false → TooDeep limits ts t → ⊥
   not-deeper ts t e x =
       let n = opened (ts ++ (seen t ∷ [])) in
       clash (and-both (ltb (opened ts) n) (ltb (limits .depth) n) (lt-ltb (opened ts) n (x .deeper)) (lt-ltb (limits .depth) n (x .beyond))) e
@@ -215,13 +215,13 @@ module _ (bytes : List ℕ) (limits : Limits) (l : Level) where
         (record { tokens = ts; stands = subst (λ (y : Config). Stands limits l bytes ts p y) x s; deep = refl }) q k .0
 
     module _ (t : Token.Token) (k : Comes bytes p (Next.Token t)) (again : Token.Token → Config → Option Verdict) (go-on : Again again) where
-      valued-is : (d : Config) → (NewerAt limits l bytes ts t → ⊥) → step l c (seen t) ≡ some d → (a b : Bool) → t .bad ≡ a → deeper ts t ≡ b →
+      valued-is : (d : Config) → (NewerAt l bytes ts t → ⊥) → step l c (seen t) ≡ some d → (a b : Bool) → t .bad ≡ a → deeper ts t ≡ b →
           Sound Right (valued t a b (λ u. again t d))
       valued-is d n e true b x y = bad-value limits l bytes s k n e x
       valued-is d n e false true x y = too-deep limits l bytes s k n e x (is-deeper ts t y)
       valued-is d n e false false x y = go-on t d (goes-on limits l bytes s k n e x (λ z. not-deeper ts t y z))
 
-      stepped-is : (NewerAt limits l bytes ts t → ⊥) → (m : Option Config) → step l c (seen t) ≡ m → Sound Right (stepped ts t m (again t))
+      stepped-is : (NewerAt l bytes ts t → ⊥) → (m : Option Config) → step l c (seen t) ≡ m → Sound Right (stepped ts t m (again t))
       stepped-is n none e = wrong-place limits l bytes s k n e
       stepped-is n (some d) e = valued-is d n e (t .bad) (deeper ts t) refl refl
 

@@ -26,9 +26,11 @@ use Rattle.reading.specs.declared.Answer.{Answer}
 use Rattle.reading.specs.declared.Limits.{Limits}
 use Rattle.reading.specs.declared.Rules.{Rules}
 use Rattle.reading.specs.Tokens.{seen, Follow, nothing, next}
-use Rattle.reading.specs.Faults.{NewerAt, Fault, noToken, wrong, wrongEnd, newer, badValue, tooDeep, Passed, begun, passed, FirstFault, AllPassed}
+use Rattle.reading.specs.Faults.{NewerAt, tests, Fault, noToken, wrongEnd, atToken, Passed, begun, passed, FirstFault, AllPassed}
 use Rattle.reading.specs.Answers.{LevelOf, first, second, Accepted, Reading, Answers, noLevel, tooLong, notUtf8, faulty, noRoom, accepted}
 use Rattle.reading.specs.Agree.{NewerFrom, FirstNewer, Agree}
+use Rattle.reading.specs.Tests.{First}
+use Rattle.reading.proofs.Tests.{None, no-test, all-fail, behind as others, no-number, Alike, same, first-alike, none-alike}
 use Rattle.reading.proofs.Rows.{Order, equal, less, more, order, pick, no-end, no-none, comes-forward, one-row, row-beyond, append, split}
 use Rattle.reading.proofs.First.{follows, start, went}
 use Rattle.reading.proofs.Unique.{one-level, one-answer}
@@ -37,7 +39,7 @@ module _ (bytes : List ℕ) (limits : Limits) (a b : Level) (within : a Within b
   -- ---- tokens that pass at the lower level hold none of its newer forms
 
   known : {s p : ℕ} {ts : List Tok} → Follow bytes s ts p →
-      ((xs : List Tok) (m : ℕ) (u : Token.Token) → Follow bytes s xs m → Comes bytes m (Next.Token u) → length xs < length ts → NewerAt limits a bytes xs u → ⊥) →
+      ((xs : List Tok) (m : ℕ) (u : Token.Token) → Follow bytes s xs m → Comes bytes m (Next.Token u) → length xs < length ts → NewerAt a bytes xs u → ⊥) →
       Known a ts []
   known {s} {p} {ts} f k =
       record {
@@ -48,39 +50,40 @@ module _ (bytes : List ℕ) (limits : Limits) (a b : Level) (within : a Within b
       }
 
   known-passed : {s p : ℕ} {ts : List Tok} → Front bytes s → Passed limits a bytes ts p → Known a ts []
-  known-passed f g = known (follows bytes limits a f g) (λ xs m u x c h n. went bytes limits a f x g h .sound 7 (u .first) (newer c n))
+  known-passed f g = known (follows bytes limits a f g) (λ xs m u x c h n. went bytes limits a f x g h .sound 7 (u .first) (atToken c (inl (refl, n))))
 
   known-next : {s p : ℕ} {ts : List Tok} {t : Token.Token} → Front bytes s → Passed limits a bytes ts p → Comes bytes p (Next.Token t) →
-      (NewerAt limits a bytes ts t → ⊥) → Known a (ts ++ (seen t ∷ [])) []
+      (NewerAt a bytes ts t → ⊥) → Known a (ts ++ (seen t ∷ [])) []
   known-next {s} {p} {ts} {t} f g c v =
       known (append bytes (follows bytes limits a f g) (next c nothing)) (λ xs m u x d h n. by xs m u x d h n (order (length xs) (length ts)))
     where
-      by : (xs : List Tok) (m : ℕ) (u : Token.Token) → Follow bytes s xs m → Comes bytes m (Next.Token u) → length xs < length (ts ++ (seen t ∷ [])) → NewerAt limits a bytes xs u → Order (length xs) (length ts) → ⊥
+      by : (xs : List Tok) (m : ℕ) (u : Token.Token) → Follow bytes s xs m → Comes bytes m (Next.Token u) → length xs < length (ts ++ (seen t ∷ [])) → NewerAt a bytes xs u → Order (length xs) (length ts) → ⊥
       by xs m u x d h n (equal e) =
           let o = one-row bytes x (follows bytes limits a f g) e in
           let same : u ≡ t = pick bytes (subst (λ (q : ℕ). Comes bytes q (Next.Token u)) (o .1) d) c in
-          v (subst (NewerAt limits a bytes ts) same (subst (λ (r : List Tok). NewerAt limits a bytes r u) (o .0) n))
-      by xs m u x d h n (less k) = went bytes limits a f x g k .sound 7 (u .first) (newer d n)
+          v (subst (NewerAt a bytes ts) same (subst (λ (r : List Tok). NewerAt a bytes r u) (o .0) n))
+      by xs m u x d h n (less k) = went bytes limits a f x g k .sound 7 (u .first) (atToken d (inl (refl, n)))
       by xs m u x d h n (more k) = omega (arith, k, h, length-append ts (seen t ∷ []))
 
-  newer-below : {ts : List Tok} {t : Token.Token} → Known a ts [] → NewerAt limits b bytes ts t → NewerAt limits a bytes ts t
+  newer-below : {ts : List Tok} {t : Token.Token} → Known a ts [] → NewerAt b bytes ts t → NewerAt a bytes ts t
   newer-below {ts} {t} k n = record { ahead = n .ahead; end = n .end; follow = n .follow; newer = newerBelow a b within arrows ts (seen t) (n .ahead) [] k (n .newer) }
 
   -- ---- so they pass at the higher level
 
+  -- the tests at a token that begins no newer form of the lower level: those behind 7 and 6 know no level
+  alike : {s p : ℕ} {ts : List Tok} {t : Token.Token} → Front bytes s → Passed limits a bytes ts p → Comes bytes p (Next.Token t) → (NewerAt a bytes ts t → ⊥) →
+      Alike (tests limits a bytes ts t) (tests limits b bytes ts t)
+  alike {ts = ts} {t = t} f g d v =
+      let w = wrongAlike a b within arrows ts (seen t) [] (known-next f g d v) in
+      let known = others (others (tests limits a bytes ts t)) in
+      (refl, (λ x. absurd (v x)), (λ x. newer-below (known-passed f g) x), (refl, w .0, w .1, same known))
+
   higher : {s p : ℕ} {ts : List Tok} → Front bytes s → Passed limits a bytes ts p → ((n q : ℕ) → Fault limits a bytes ts p n q → ⊥) → (n q : ℕ) → Fault limits b bytes ts p n q → ⊥
   higher f g k n q (noToken d) = k 4 q (noToken d)
-  higher {ts = ts} f g k n q (wrong {t = t} d v w) =
-      let v′ : NewerAt limits a bytes ts t → ⊥ = λ x. k 7 (t .first) (newer d x) in
-      k 6 q (wrong d v′ (wrongAlike a b within arrows ts (seen t) [] (known-next f g d v′) .1 w))
   higher {ts = ts} f g k n q (wrongEnd d w) = k 6 q (wrongEnd d (record { none = λ s. w .none (sentenceAlike a b within arrows ts [] (known-passed f g) s) }))
-  higher f g k n q (newer d x) = k 7 q (newer d (newer-below (known-passed f g) x))
-  higher {ts = ts} f g k n q (badValue {t = t} d v w e) =
-      let v′ : NewerAt limits a bytes ts t → ⊥ = λ x. k 7 (t .first) (newer d x) in
-      k 5 q (badValue d v′ (λ x. w (wrongAlike a b within arrows ts (seen t) [] (known-next f g d v′) .0 x)) e)
-  higher {ts = ts} f g k n q (tooDeep {t = t} d v w e h) =
-      let v′ : NewerAt limits a bytes ts t → ⊥ = λ x. k 7 (t .first) (newer d x) in
-      k 11 q (tooDeep d v′ (λ x. w (wrongAlike a b within arrows ts (seen t) [] (known-next f g d v′) .0 x)) e (record { deeper = h .deeper; beyond = h .beyond }))
+  higher {ts = ts} f g k n q (atToken {t = t} d x) =
+      let none : None (tests limits a bytes ts t) = all-fail (tests limits a bytes ts t) (λ m y. k m (t .first) (atToken d y)) in
+      no-test (tests limits b bytes ts t) n (none-alike (tests limits a bytes ts t) (tests limits b bytes ts t) (alike f g d (none .0)) none) x
 
   pub passed-too : {p : ℕ} {ts : List Tok} → Passed limits a bytes ts p → Passed limits b bytes ts p
   passed-too (begun f) = begun f
@@ -90,14 +93,10 @@ module _ (bytes : List ℕ) (limits : Limits) (a b : Level) (within : a Within b
 
   fault-too : {s p n q : ℕ} {ts : List Tok} → Front bytes s → Passed limits a bytes ts p → (n ≡ 7 → ⊥) → Fault limits a bytes ts p n q → Fault limits b bytes ts p n q
   fault-too f g h (noToken d) = noToken d
-  fault-too {ts = ts} f g h (wrong {t = t} d v w) =
-      wrong d (λ x. v (newer-below (known-passed f g) x)) (wrongAlike a b within arrows ts (seen t) [] (known-next f g d v) .0 w)
   fault-too {ts = ts} f g h (wrongEnd d w) = wrongEnd d (record { none = λ s. w .none (sentenceAlikeBack a b within arrows ts [] (known-passed f g) s) })
-  fault-too f g h (newer d x) = absurd (h refl)
-  fault-too {ts = ts} f g h (badValue {t = t} d v w e) =
-      badValue d (λ x. v (newer-below (known-passed f g) x)) (λ x. w (wrongAlike a b within arrows ts (seen t) [] (known-next f g d v) .1 x)) e
-  fault-too {ts = ts} f g h (tooDeep {t = t} d v w e k) =
-      tooDeep d (λ x. v (newer-below (known-passed f g) x)) (λ x. w (wrongAlike a b within arrows ts (seen t) [] (known-next f g d v) .1 x)) e (record { deeper = k .deeper; beyond = k .beyond })
+  fault-too f g h (atToken d (inl x)) = absurd (h (x .0))
+  fault-too {n = n} {ts = ts} f g h (atToken {t = t} d (inr x)) =
+      atToken d (first-alike (tests limits a bytes ts t) (tests limits b bytes ts t) n (alike f g d (x .0)) (inr x))
 
   pub first-too : {n q : ℕ} → (n ≡ 7 → ⊥) → FirstFault limits a bytes n q → FirstFault limits b bytes n q
   first-too h f =
@@ -125,18 +124,17 @@ module _ (bytes : List ℕ) (limits : Limits) (a b : Level) (within : a Within b
   record NewerFault (ts : List Tok) (p q : ℕ) : Type 0 where
     token : Token.Token
     comes : Comes bytes p (Next.Token token)
-    newer : NewerAt limits a bytes ts token
+    newer : NewerAt a bytes ts token
     place-is : q ≡ token .first
 
   newer-fault : {ts : List Tok} {p n q : ℕ} → n ≡ 7 → Fault limits a bytes ts p n q → NewerFault ts p q
   newer-fault e (noToken d) = absurd (omega (arith, e))
-  newer-fault e (wrong d v w) = absurd (omega (arith, e))
   newer-fault e (wrongEnd d w) = absurd (omega (arith, e))
-  newer-fault e (newer {t = t} d x) = record { token = t; comes = d; newer = x; place-is = refl }
-  newer-fault e (badValue d v w x) = absurd (omega (arith, e))
-  newer-fault e (tooDeep d v w x h) = absurd (omega (arith, e))
+  newer-fault e (atToken {t = t} d (inl x)) = record { token = t; comes = d; newer = x .1; place-is = refl }
+  newer-fault {ts} {n = n} e (atToken {t = t} d (inr x)) =
+      absurd (no-number (others (tests limits a bytes ts t)) 7 refl (subst (First (others (tests limits a bytes ts t))) e (x .1)))
 
-  pub first-newer : {n q : ℕ} → n ≡ 7 → FirstFault limits a bytes n q → FirstNewer limits a bytes q
+  pub first-newer : {n q : ℕ} → n ≡ 7 → FirstFault limits a bytes n q → FirstNewer a bytes q
   first-newer {n} {q} e f =
       record {
         here = record { start = at .0; front = at .1; before = f .before; from = f .from; row = row; token = x .token; comes = x .comes; newer = x .newer; place-is = x .place-is };
@@ -152,12 +150,12 @@ module _ (bytes : List ℕ) (limits : Limits) (a b : Level) (within : a Within b
       x : NewerFault (f .before) (f .from) q
       x = newer-fault e (f .fault)
 
-      least : {r : ℕ} (y : NewerFrom limits a bytes r) → Order (length (y .before)) (length (f .before)) → q ≤ r
+      least : {r : ℕ} (y : NewerFrom a bytes r) → Order (length (y .before)) (length (f .before)) → q ≤ r
       least y (equal h) =
           let o = one-row bytes (y .row) (follows bytes limits a (y .front) (f .good)) h in
           let same : y .token ≡ x .token = pick bytes (subst (λ (p : ℕ). Comes bytes p (Next.Token (y .token))) (o .1) (y .comes)) (x .comes) in
           omega (arith, x .place-is, y .place-is, ap (λ (t : Token.Token). t .first) same)
-      least y (less h) = absurd (went bytes limits a (y .front) (y .row) (f .good) h .sound 7 (y .token .first) (newer (y .comes) (y .newer)))
+      least y (less h) = absurd (went bytes limits a (y .front) (y .row) (f .good) h .sound 7 (y .token .first) (atToken (y .comes) (inl (refl, y .newer))))
       least y (more h) =
           omega (
             arith,
@@ -173,20 +171,14 @@ module _ (bytes : List ℕ) (limits : Limits) (a b : Level) (within : a Within b
   -- a fault is not before the place from which its token is looked for
   fault-later : {ts : List Tok} {x p n q : ℕ} → x ≤ p → x ≤ length bytes → Fault limits b bytes ts p n q → x ≤ q
   fault-later h g (noToken d) = omega (arith, h, forward (d .0 .takes))
-  fault-later h g (wrong d v w) = omega (arith, h, comes-forward bytes d)
   fault-later h g (wrongEnd d w) = omega (arith, g, d .0)
-  fault-later h g (newer d v) = omega (arith, h, comes-forward bytes d)
-  fault-later h g (badValue d v w e) = omega (arith, h, comes-forward bytes d)
-  fault-later h g (tooDeep d v w e k) = omega (arith, h, comes-forward bytes d)
+  fault-later h g (atToken d x) = omega (arith, h, comes-forward bytes d)
 
   -- where a token comes, a fault is at its first byte
   fault-there : {ts : List Tok} {p n q : ℕ} {t : Token.Token} → Comes bytes p (Next.Token t) → Fault limits b bytes ts p n q → t .first ≤ q
   fault-there {p = p} c (noToken d) = absurd (no-none bytes p c d)
-  fault-there c (wrong d v w) = omega (arith, ap (λ (t : Token.Token). t .first) (pick bytes c d))
   fault-there {p = p} c (wrongEnd d w) = absurd (no-end bytes p c d)
-  fault-there c (newer d v) = omega (arith, ap (λ (t : Token.Token). t .first) (pick bytes c d))
-  fault-there c (badValue d v w e) = omega (arith, ap (λ (t : Token.Token). t .first) (pick bytes c d))
-  fault-there c (tooDeep d v w e k) = omega (arith, ap (λ (t : Token.Token). t .first) (pick bytes c d))
+  fault-there c (atToken d x) = omega (arith, ap (λ (t : Token.Token). t .first) (pick bytes c d))
 
   pub there-or-later : {n m p q : ℕ} → n ≡ 7 → FirstFault limits a bytes n p → FirstFault limits b bytes m q → p ≤ q
   there-or-later {n} {m} {p} {q} e f g = by (order (length (g .before)) (length (f .before)))
@@ -251,7 +243,7 @@ module _ (bytes : List ℕ) (rules : Rules) (a b : Level) (within : a Within b) 
     outcome e x (accepted l g w y k) = inl refl
 
     -- two readings of one text at the two levels, with the same words lent
-    pub agree : (lent : List ℕ) {r s : Answer} {t u : List ℕ} → Answers rules bytes lent n r t → Answers rules bytes lent m s u → Agree (rules .limits) a bytes r t s u
+    pub agree : (lent : List ℕ) {r s : Answer} {t u : List ℕ} → Answers rules bytes lent n r t → Answers rules bytes lent m s u → Agree a bytes r t s u
     agree lent x y =
         record {
           alike = λ h. one-answer rules bytes lent (record { tree = x .tree; reading = answer-too (x .reading) h; left-is = x .left-is }) y;
@@ -261,5 +253,5 @@ module _ (bytes : List ℕ) (rules : Rules) (a b : Level) (within : a Within b) 
 
 -- 01's levels 1 and 2
 pub levels-agree : (rules : Rules) (bytes lent : List ℕ) {r s : Answer} {t u : List ℕ} →
-    Answers rules bytes lent 1 r t → Answers rules bytes lent 2 s u → Agree (rules .limits) level1 bytes r t s u
+    Answers rules bytes lent 1 r t → Answers rules bytes lent 2 s u → Agree level1 bytes r t s u
 levels-agree rules bytes lent x y = agree bytes rules level1 level2 oneWithinTwo refl first second lent x y

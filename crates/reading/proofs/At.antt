@@ -253,17 +253,17 @@ module _ (limits : Limits) (l : Level) (bytes : List ℕ) where
 
   -- ---- no newer form
 
-  pub curly-known : {d p : ℕ} {c : Config} (a : At d p c) (t : Token.Token) → classKind (t .kind) ≡ curly → NewerAt limits l bytes (a .tokens) t → ⊥
+  pub curly-known : {d p : ℕ} {c : Config} (a : At d p c) (t : Token.Token) → classKind (t .kind) ≡ curly → NewerAt l bytes (a .tokens) t → ⊥
   curly-known a t e n = not-by-class limits l bytes t (ap mayBegin e) n
 
   -- what the class tells of a newer form
-  beyond-of : {ts : List Tok} {t : Token.Token} {k : Class} → classKind (t .kind) ≡ k → (n : NewerAt limits l bytes ts t) →
+  beyond-of : {ts : List Tok} {t : Token.Token} {k : Class} → classKind (t .kind) ≡ k → (n : NewerAt l bytes ts t) →
       isBeyond l (tok k (record { first = t .first; end = t .end }) ∷ n .ahead) ≡ true
   beyond-of {ts} {t} e n =
       subst (λ (k : Class). isBeyond l (tok k (record { first = t .first; end = t .end }) ∷ n .ahead) ≡ true) e (beyondHolds l (n .newer .beyond))
 
   pub square-known : {d p : ℕ} {c : Config} (a : At d p c) (t : Token.Token) → classKind (t .kind) ≡ square → l intervals ≡ true →
-      NewerAt limits l bytes (a .tokens) t → ⊥
+      NewerAt l bytes (a .tokens) t → ⊥
   square-known a t e h n = not-both (l intervals) h (beyond-of {t = t} e n)
 
   -- a head that the level lacks, and its `:`
@@ -281,7 +281,7 @@ module _ (limits : Limits) (l : Level) (bytes : List ℕ) where
   pub round-known : {d p : ℕ} {c : Config} (a : At d p c) (t : Token.Token) → classKind (t .kind) ≡ round →
       ((u w : Token.Token) (h : Head) → Comes bytes (t .end) (Next.Token u) → u .kind ≡ Kind.Text (Form.HeadWord h) →
       Comes bytes (u .end) (Next.Token w) → w .kind ≡ Kind.Colon → hasHead l h ≡ true) →
-      NewerAt limits l bytes (a .tokens) t → ⊥
+      NewerAt l bytes (a .tokens) t → ⊥
   round-known a t e h n = by (n .follow) (n .newer .beyond) (beyond-of {t = t} e n)
     where
       by : {ts : List Tok} {q : ℕ} → Follow bytes (t .end) ts q → Beyond l (seen t ∷ ts) → isBeyond l (tok round (seen t .at) ∷ ts) ≡ true → ⊥
@@ -293,8 +293,8 @@ module _ (limits : Limits) (l : Level) (bytes : List ℕ) where
 
   -- ---- on
 
-  on : {d p n : ℕ} {c c' : Config} (a : At d p c) (t : Token.Token) → Comes bytes p (Next.Token t) → (NewerAt limits l bytes (a .tokens) t → ⊥) →
-      step l c (seen t) ≡ some c' → t .bad ≡ false → (TooDeep limits l bytes (a .tokens) t → ⊥) → openBehind (classKind (t .kind)) d ≡ n → At n (t .end) c'
+  on : {d p n : ℕ} {c c' : Config} (a : At d p c) (t : Token.Token) → Comes bytes p (Next.Token t) → (NewerAt l bytes (a .tokens) t → ⊥) →
+      step l c (seen t) ≡ some c' → t .bad ≡ false → (TooDeep limits (a .tokens) t → ⊥) → openBehind (classKind (t .kind)) d ≡ n → At n (t .end) c'
   on {d} {p} {n} {c} {c'} a t k v e b h g =
       record {
         tokens = a .tokens ++ (seen t ∷ []);
@@ -303,7 +303,7 @@ module _ (limits : Limits) (l : Level) (bytes : List ℕ) where
       }
 
   -- a token that opens no bracket is not too deep
-  not-deeper : {ts : List Tok} (t : Token.Token) → openBehind (classKind (t .kind)) (opened ts) ≤ opened ts → TooDeep limits l bytes ts t → ⊥
+  not-deeper : {ts : List Tok} (t : Token.Token) → openBehind (classKind (t .kind)) (opened ts) ≤ opened ts → TooDeep limits ts t → ⊥
   not-deeper {ts} t h x = omega (arith, h, openFrom-one 0 ts (seen t), x .deeper)
 
   pub sign-on : {d p : ℕ} {c c' : Config} → At d p c → (t : Token.Token) → Comes bytes p (Next.Token t) → (m : Mark) → classKind (t .kind) ≡ mark m →
@@ -328,7 +328,7 @@ module _ (limits : Limits) (l : Level) (bytes : List ℕ) where
   one-more ts t e = openFrom-one 0 ts (seen t) ∙ opens-more (classKind (t .kind)) (opened ts) e
 
   pub open-on : {d p : ℕ} {c c' : Config} (a : At d p c) (t : Token.Token) → Comes bytes p (Next.Token t) → opens (classKind (t .kind)) ≡ true →
-      (NewerAt limits l bytes (a .tokens) t → ⊥) → d < limits .depth → step l c (seen t) ≡ some c' → At (suc d) (t .end) c'
+      (NewerAt l bytes (a .tokens) t → ⊥) → d < limits .depth → step l c (seen t) ≡ some c' → At (suc d) (t .end) c'
   open-on {d} a t k e v h s =
       on a t k v s (bracket-good t k e) (λ x. omega (arith, one-more (a .tokens) t e, a .deep, h, x .beyond)) (opens-more (classKind (t .kind)) d e)
 
@@ -382,7 +382,7 @@ module _ (limits : Limits) (l : Level) (bytes : List ℕ) where
   bad-here a t k e b s = bad-value limits l bytes (a .stands) k (λ n. not-by-class limits l bytes t (plain-known (classKind (t .kind)) e) n) s b
 
   pub deep-here : {d p : ℕ} {c c' : Config} (a : At d p c) (t : Token.Token) → Comes bytes p (Next.Token t) → opens (classKind (t .kind)) ≡ true →
-      (NewerAt limits l bytes (a .tokens) t → ⊥) → limits .depth ≤ d → step l c (seen t) ≡ some c' → FirstFault limits l bytes 11 (t .first)
+      (NewerAt l bytes (a .tokens) t → ⊥) → limits .depth ≤ d → step l c (seen t) ≡ some c' → FirstFault limits l bytes 11 (t .first)
   deep-here a t k e v h s =
       let more = one-more (a .tokens) t e in
       too-deep limits l bytes (a .stands) k v s (bracket-good t k e)

@@ -22,7 +22,9 @@ use Rattle.grammar.proofs.Viable.{Final, final, oneMore, stuckWrong, wrongStuck
 use Rattle.grammar.proofs.FirstNewer.{headNext, isNewer, newerHolds, holdsNewer, newerFurther}
 use Rattle.reading.specs.declared.Limits.{Limits}
 use Rattle.reading.specs.Tokens.{seen, Follow, nothing, next, opened}
-use Rattle.reading.specs.Faults.{NewerAt, TooDeep, Fault, noToken, wrong, wrongEnd, newer, badValue, tooDeep}
+use Rattle.reading.specs.Faults.{NewerAt, TooDeep, tests, Fault, noToken, wrongEnd, atToken}
+use Rattle.reading.specs.Tests.{First}
+use Rattle.reading.proofs.Tests.{None, no-test, Each, first-or-none}
 use Rattle.reading.proofs.Rows.{Order, equal, less, more, order, pick, no-end, no-none}
 
 -- ---- the end of a text
@@ -52,13 +54,10 @@ whole-final (wantClose c K) e = absurd (false≢true e)
 
 module _ (bytes : List ℕ) (limits : Limits) (l : Level) where
   -- a token that fails no test has no fault
-  pub faultless : {ts : List Tok} {p : ℕ} {t : Token.Token} → Comes bytes p (Next.Token t) → (NewerAt limits l bytes ts t → ⊥) → (Wrong l ts (seen t) → ⊥) → (t .bad ≡ true → ⊥) → (TooDeep limits l bytes ts t → ⊥) → (n q : ℕ) → Fault limits l bytes ts p n q → ⊥
-  faultless {ts} {p} {t} c v w b d n q (noToken a) = no-none bytes p c a
-  faultless {ts} {p} {t} c v w b d n q (wrong a v' w') = w (subst (λ (x : Token.Token). Wrong l ts (seen x)) (pick bytes a c) w')
-  faultless {ts} {p} {t} c v w b d n q (wrongEnd a w') = no-end bytes p c a
-  faultless {ts} {p} {t} c v w b d n q (newer a v') = v (subst (NewerAt limits l bytes ts) (pick bytes a c) v')
-  faultless {ts} {p} {t} c v w b d n q (badValue a v' w' b') = b (subst (λ (x : Token.Token). x .bad ≡ true) (pick bytes a c) b')
-  faultless {ts} {p} {t} c v w b d n q (tooDeep a v' w' b' d') = d (subst (TooDeep limits l bytes ts) (pick bytes a c) d')
+  pub faultless : {ts : List Tok} {p : ℕ} {t : Token.Token} → Comes bytes p (Next.Token t) → None (tests limits l bytes ts t) → (n q : ℕ) → Fault limits l bytes ts p n q → ⊥
+  faultless {ts} {p} {t} c x n q (noToken a) = no-none bytes p c a
+  faultless {ts} {p} {t} c x n q (wrongEnd a w) = no-end bytes p c a
+  faultless {ts} {p} {t} c x n q (atToken a f) = no-test (tests limits l bytes ts t) n x (subst (λ (u : Token.Token). First (tests limits l bytes ts u) n) (pick bytes a c) f)
 
 -- no step is no configuration
 pub no-step : (d : Config) → none ≡ some d → ⊥
@@ -117,27 +116,27 @@ module _ (bytes : List ℕ) (comes : (p : ℕ) → (r : Next) × Comes bytes p r
 
   -- ---- the tests at one token
 
-  newer-or-not : (ts : List Tok) (t : Token.Token) → NewerAt limits l bytes ts t ⊎ (NewerAt limits l bytes ts t → ⊥)
+  newer-or-not : (ts : List Tok) (t : Token.Token) → NewerAt l bytes ts t ⊎ (NewerAt l bytes ts t → ⊥)
   newer-or-not ts t = go (ahead (t .end))
     where
-      go : Ahead (t .end) → NewerAt limits l bytes ts t ⊎ (NewerAt limits l bytes ts t → ⊥)
+      go : Ahead (t .end) → NewerAt l bytes ts t ⊎ (NewerAt l bytes ts t → ⊥)
       go a = by (isNewer l ts (seen t) (a .tokens)) refl
         where
-          by : (b : Bool) → isNewer l ts (seen t) (a .tokens) ≡ b → NewerAt limits l bytes ts t ⊎ (NewerAt limits l bytes ts t → ⊥)
+          by : (b : Bool) → isNewer l ts (seen t) (a .tokens) ≡ b → NewerAt l bytes ts t ⊎ (NewerAt l bytes ts t → ⊥)
           by true e = inl (record { ahead = a .tokens; end = a .end; follow = a .follow; newer = holdsNewer l ts (seen t) (a .tokens) e })
           by false e =
               inr λ n.
               clash (newerHolds l ts (seen t) (a .tokens) (newerFurther l ts (seen t) (n .ahead) (a .tokens) (λ h. a .most (n .follow) h) (n .newer))) e
 
-  deep-or-not : (ts : List Tok) (t : Token.Token) → TooDeep limits l bytes ts t ⊎ (TooDeep limits l bytes ts t → ⊥)
+  deep-or-not : (ts : List Tok) (t : Token.Token) → TooDeep limits ts t ⊎ (TooDeep limits ts t → ⊥)
   deep-or-not ts t = deeper (order (opened ts) (opened (ts ++ (seen t ∷ []))))
     where
-      beyond : opened ts < opened (ts ++ (seen t ∷ [])) → Order (limits .depth) (opened (ts ++ (seen t ∷ []))) → TooDeep limits l bytes ts t ⊎ (TooDeep limits l bytes ts t → ⊥)
+      beyond : opened ts < opened (ts ++ (seen t ∷ [])) → Order (limits .depth) (opened (ts ++ (seen t ∷ []))) → TooDeep limits ts t ⊎ (TooDeep limits ts t → ⊥)
       beyond h (equal e) = inr λ d. omega (arith, e, d .beyond)
       beyond h (less g) = inl (record { deeper = h; beyond = g })
       beyond h (more g) = inr λ d. omega (arith, g, d .beyond)
 
-      deeper : Order (opened ts) (opened (ts ++ (seen t ∷ []))) → TooDeep limits l bytes ts t ⊎ (TooDeep limits l bytes ts t → ⊥)
+      deeper : Order (opened ts) (opened (ts ++ (seen t ∷ []))) → TooDeep limits ts t ⊎ (TooDeep limits ts t → ⊥)
       deeper (equal e) = inr λ d. omega (arith, e, d .deeper)
       deeper (less h) = beyond h (order (limits .depth) (opened (ts ++ (seen t ∷ []))))
       deeper (more h) = inr λ d. omega (arith, h, d .deeper)
@@ -152,27 +151,30 @@ module _ (bytes : List ℕ) (comes : (p : ℕ) → (r : Next) × Comes bytes p r
   pub decided : (ts : List Tok) (p : ℕ) (c : Config) → runs l ts ≡ some c → Decided ts p
   decided ts p c e = go (comes p .0) (comes p .1)
     where
-      shallow : (t : Token.Token) (d : Config) → Comes bytes p (Next.Token t) → (NewerAt limits l bytes ts t → ⊥) → step l c (seen t) ≡ some d → (Wrong l ts (seen t) → ⊥) → (t .bad ≡ true → ⊥) → TooDeep limits l bytes ts t ⊎ (TooDeep limits l bytes ts t → ⊥) → Decided ts p
-      shallow t d a v s w b (inl x) = stops 11 (t .first) (tooDeep a v w b x)
-      shallow t d a v s w b (inr x) = goes t d a (λ n q f. faultless bytes limits l a v w b x n q f) (oneMore l ts c (seen t) e ∙ s)
+      wrong-or-not : (t : Token.Token) → (m : Option Config) → step l c (seen t) ≡ m → Wrong l ts (seen t) ⊎ (Wrong l ts (seen t) → ⊥)
+      wrong-or-not t none s = inl (stuckWrong l ts c (seen t) e s)
+      wrong-or-not t (some d) s = inr λ w. no-step d (sym (wrongStuck l ts c (seen t) e w) ∙ s)
 
-      valued : (t : Token.Token) (d : Config) → Comes bytes p (Next.Token t) → (NewerAt limits l bytes ts t → ⊥) → step l c (seen t) ≡ some d → (Wrong l ts (seen t) → ⊥) → (b : Bool) → t .bad ≡ b → Decided ts p
-      valued t d a v s w true b = stops 5 (t .first) (badValue a v w b)
-      valued t d a v s w false b = shallow t d a v s w (λ x. clash x b) (deep-or-not ts t)
+      bad-or-not : (b : Bool) → (b ≡ true) ⊎ (b ≡ true → ⊥)
+      bad-or-not true = inl refl
+      bad-or-not false = inr λ x. false≢true x
 
-      stepped : (t : Token.Token) → Comes bytes p (Next.Token t) → (NewerAt limits l bytes ts t → ⊥) → (m : Option Config) → step l c (seen t) ≡ m → Decided ts p
-      stepped t a v none s = stops 6 (t .first) (wrong a v (stuckWrong l ts c (seen t) e s))
-      stepped t a v (some d) s = valued t d a v s (λ w. no-step d (sym (wrongStuck l ts c (seen t) e w) ∙ s)) (t .bad) refl
+      each : (t : Token.Token) → Each (tests limits l bytes ts t)
+      each t = (newer-or-not ts t, (wrong-or-not t (step l c (seen t)) refl, (bad-or-not (t .bad), (deep-or-not ts t, tt))))
 
-      placed : (t : Token.Token) → Comes bytes p (Next.Token t) → NewerAt limits l bytes ts t ⊎ (NewerAt limits l bytes ts t → ⊥) → Decided ts p
-      placed t a (inl v) = stops 7 (t .first) (newer a v)
-      placed t a (inr v) = stepped t a v (step l c (seen t)) refl
+      on : (t : Token.Token) → Comes bytes p (Next.Token t) → None (tests limits l bytes ts t) → (m : Option Config) → step l c (seen t) ≡ m → Decided ts p
+      on t a x none s = absurd (x .1 .0 (stuckWrong l ts c (seen t) e s))
+      on t a x (some d) s = goes t d a (λ n q f. faultless bytes limits l a x n q f) (oneMore l ts c (seen t) e ∙ s)
+
+      tested : (t : Token.Token) → Comes bytes p (Next.Token t) → ((n : ℕ) × First (tests limits l bytes ts t) n) ⊎ None (tests limits l bytes ts t) → Decided ts p
+      tested t a (inl f) = stops (f .0) (t .first) (atToken a (f .1))
+      tested t a (inr x) = on t a x (step l c (seen t)) refl
 
       ended : (q : ℕ) → Comes bytes p (Next.End q) → (b : Bool) → whole c ≡ b → Decided ts p
       ended q a true w = ends q a (finalSentence l ts (whole-final c w) e)
       ended q a false w = stops 6 q (wrongEnd a (Viable.wrongEnd l ts c e (λ f. clash (final-whole f) w)))
 
       go : (r : Next) → Comes bytes p r → Decided ts p
-      go (Next.Token t) a = placed t a (newer-or-not ts t)
+      go (Next.Token t) a = tested t a (first-or-none (tests limits l bytes ts t) (each t))
       go (Next.End q) a = ended q a (whole c) refl
       go (Next.NoToken q) a = stops 4 q (noToken a)

@@ -16,7 +16,9 @@ use Rattle.grammar.specs.Level.{Level}
 use Rattle.grammar.specs.Place.{Wrong, WrongEnd}
 use Rattle.reading.specs.declared.Limits.{Limits}
 use Rattle.reading.specs.Tokens.{seen, Follow, nothing, next}
-use Rattle.reading.specs.Faults.{NewerAt, Fault, noToken, wrong, wrongEnd, newer, badValue, tooDeep, Passed, begun, passed, FirstFault, AllPassed}
+use Rattle.reading.specs.Faults.{tests, Fault, noToken, wrongEnd, atToken, Passed, begun, passed, FirstFault, AllPassed}
+use Rattle.reading.specs.Tests.{First}
+use Rattle.reading.proofs.Tests.{one-test}
 use Rattle.reading.proofs.Rows.{Order, equal, less, more, order, pick, same-place, no-end, no-none, none-end, one-row, append}
 
 module _ (bytes : List ℕ) where
@@ -25,41 +27,16 @@ module _ (bytes : List ℕ) where
 
     pub one-fault : {ts : List Tok} {p m n x y : ℕ} → Fault limits l bytes ts p m x → Fault limits l bytes ts p n y → (m ≡ n) × (x ≡ y)
     one-fault {ts} {p} (noToken {q} c) (noToken {q = r} d) = (refl, same-place bytes p (Next.NoToken q) (Next.NoToken r) c d)
-    one-fault {ts} {p} (noToken c) (wrong d v w) = absurd (no-none bytes p d c)
     one-fault {ts} {p} (noToken c) (wrongEnd d w) = absurd (none-end bytes p c d)
-    one-fault {ts} {p} (noToken c) (newer d v) = absurd (no-none bytes p d c)
-    one-fault {ts} {p} (noToken c) (badValue d v w b) = absurd (no-none bytes p d c)
-    one-fault {ts} {p} (noToken c) (tooDeep d v w b e) = absurd (no-none bytes p d c)
-    one-fault {ts} {p} (wrong c v w) (noToken d) = absurd (no-none bytes p c d)
-    one-fault {ts} {p} (wrong c v w) (wrong d v' w') = (refl, ap (λ (t : Token.Token). t .first) (pick bytes c d))
-    one-fault {ts} {p} (wrong c v w) (wrongEnd d e) = absurd (no-end bytes p c d)
-    one-fault {ts} {p} (wrong c v w) (newer d n) = absurd (v (subst (NewerAt limits l bytes ts) (pick bytes d c) n))
-    one-fault {ts} {p} (wrong c v w) (badValue d v' k b) = absurd (k (subst (λ (t : Token.Token). Wrong l ts (seen t)) (pick bytes c d) w))
-    one-fault {ts} {p} (wrong c v w) (tooDeep d v' k b e) = absurd (k (subst (λ (t : Token.Token). Wrong l ts (seen t)) (pick bytes c d) w))
+    one-fault {ts} {p} (noToken c) (atToken d f) = absurd (no-none bytes p d c)
     one-fault {ts} {p} (wrongEnd c e) (noToken d) = absurd (none-end bytes p d c)
-    one-fault {ts} {p} (wrongEnd c e) (wrong d v w) = absurd (no-end bytes p d c)
     one-fault {ts} {p} (wrongEnd {q} c e) (wrongEnd {q = r} d e') = (refl, same-place bytes p (Next.End q) (Next.End r) c d)
-    one-fault {ts} {p} (wrongEnd c e) (newer d n) = absurd (no-end bytes p d c)
-    one-fault {ts} {p} (wrongEnd c e) (badValue d v w b) = absurd (no-end bytes p d c)
-    one-fault {ts} {p} (wrongEnd c e) (tooDeep d v w b x) = absurd (no-end bytes p d c)
-    one-fault {ts} {p} (newer c n) (noToken d) = absurd (no-none bytes p c d)
-    one-fault {ts} {p} (newer c n) (wrong d v w) = absurd (v (subst (NewerAt limits l bytes ts) (pick bytes c d) n))
-    one-fault {ts} {p} (newer c n) (wrongEnd d e) = absurd (no-end bytes p c d)
-    one-fault {ts} {p} (newer c n) (newer d n') = (refl, ap (λ (t : Token.Token). t .first) (pick bytes c d))
-    one-fault {ts} {p} (newer c n) (badValue d v w b) = absurd (v (subst (NewerAt limits l bytes ts) (pick bytes c d) n))
-    one-fault {ts} {p} (newer c n) (tooDeep d v w b e) = absurd (v (subst (NewerAt limits l bytes ts) (pick bytes c d) n))
-    one-fault {ts} {p} (badValue c v w b) (noToken d) = absurd (no-none bytes p c d)
-    one-fault {ts} {p} (badValue c v w b) (wrong d v' k) = absurd (w (subst (λ (t : Token.Token). Wrong l ts (seen t)) (pick bytes d c) k))
-    one-fault {ts} {p} (badValue c v w b) (wrongEnd d e) = absurd (no-end bytes p c d)
-    one-fault {ts} {p} (badValue c v w b) (newer d n) = absurd (v (subst (NewerAt limits l bytes ts) (pick bytes d c) n))
-    one-fault {ts} {p} (badValue c v w b) (badValue d v' w' b') = (refl, ap (λ (t : Token.Token). t .first) (pick bytes c d))
-    one-fault {ts} {p} (badValue c v w b) (tooDeep d v' w' k e) = absurd (k (subst (λ (t : Token.Token). t .bad ≡ true) (pick bytes c d) b))
-    one-fault {ts} {p} (tooDeep c v w b e) (noToken d) = absurd (no-none bytes p c d)
-    one-fault {ts} {p} (tooDeep c v w b e) (wrong d v' k) = absurd (w (subst (λ (t : Token.Token). Wrong l ts (seen t)) (pick bytes d c) k))
-    one-fault {ts} {p} (tooDeep c v w b e) (wrongEnd d x) = absurd (no-end bytes p c d)
-    one-fault {ts} {p} (tooDeep c v w b e) (newer d n) = absurd (v (subst (NewerAt limits l bytes ts) (pick bytes d c) n))
-    one-fault {ts} {p} (tooDeep c v w b e) (badValue d v' w' k) = absurd (b (subst (λ (t : Token.Token). t .bad ≡ true) (pick bytes d c) k))
-    one-fault {ts} {p} (tooDeep c v w b e) (tooDeep d v' w' b' e') = (refl, ap (λ (t : Token.Token). t .first) (pick bytes c d))
+    one-fault {ts} {p} (wrongEnd c e) (atToken d f) = absurd (no-end bytes p d c)
+    one-fault {ts} {p} (atToken c f) (noToken d) = absurd (no-none bytes p c d)
+    one-fault {ts} {p} (atToken c f) (wrongEnd d e) = absurd (no-end bytes p c d)
+    one-fault {ts} {p} {m} (atToken {t = t} c f) (atToken {t = u} d g) =
+        let same : t ≡ u = pick bytes c d in
+        (one-test (tests limits l bytes ts u) (subst (λ (x : Token.Token). First (tests limits l bytes ts x) m) same f) g, ap (λ (x : Token.Token). x .first) same)
 
     -- ---- the tokens that pass
 
@@ -117,11 +94,8 @@ module _ (bytes : List ℕ) where
     -- and none if all pass
     end-fault : {ts : List Tok} {p q n x : ℕ} → Comes bytes p (Next.End q) → (WrongEnd l ts → ⊥) → Fault limits l bytes ts p n x → ⊥
     end-fault {ts} {p} c k (noToken d) = none-end bytes p d c
-    end-fault {ts} {p} c k (wrong d v w) = no-end bytes p d c
     end-fault {ts} {p} c k (wrongEnd d w) = k w
-    end-fault {ts} {p} c k (newer d n) = no-end bytes p d c
-    end-fault {ts} {p} c k (badValue d v w b) = no-end bytes p d c
-    end-fault {ts} {p} c k (tooDeep d v w b e) = no-end bytes p d c
+    end-fault {ts} {p} c k (atToken d f) = no-end bytes p d c
 
     pub all-or-fault : {ts : List Tok} {n x : ℕ} → AllPassed limits l bytes ts → FirstFault limits l bytes n x → ⊥
     all-or-fault {ts} {n} {x} a f = by (order (length ts) (length (f .before)))

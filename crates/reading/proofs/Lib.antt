@@ -1,4 +1,5 @@
 -- The laws of readings.
+pub mod Tests
 pub mod Rows
 pub mod First
 pub mod Unique

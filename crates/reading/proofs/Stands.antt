@@ -2,6 +2,7 @@
 -- each test that fails is the answer's first fault. Assumes nothing.
 use mathlib.Core.Path.{_≡_, refl, sym, _∙_}
 use mathlib.Core.Bool.{Bool, true, false}
+use mathlib.Core.Logic.{inl, inr}
 use mathlib.Core.List.{List, [], _∷_, _++_}
 use mathlib.Core.Option.{none, some}
 use Prim.Native.Nat.{ℕ}
@@ -19,7 +20,7 @@ use Rattle.grammar.proofs.Viable as Viable
 use Rattle.grammar.proofs.Viable.{Final, oneMore, stuckWrong, wrongStuck, Wants, valueWants}
 use Rattle.reading.specs.declared.Limits.{Limits}
 use Rattle.reading.specs.Tokens.{seen}
-use Rattle.reading.specs.Faults.{NewerAt, TooDeep, Fault, noToken, wrong, wrongEnd, newer, badValue, tooDeep, Passed, begun, passed, FirstFault}
+use Rattle.reading.specs.Faults.{NewerAt, TooDeep, tests, Fault, noToken, wrongEnd, atToken, Passed, begun, passed, FirstFault}
 use Rattle.reading.proofs.Decide.{faultless, no-step}
 
 -- the classes that may begin a newer form
@@ -48,19 +49,19 @@ module _ (limits : Limits) (l : Level) (bytes : List ℕ) where
   beyond-class (newerBracket e) = refl
   beyond-class laterLiteral = refl
 
-  pub not-by-class : {ts : List Tok} (t : Token.Token) → mayBegin (classKind (t .kind)) ≡ false → NewerAt limits l bytes ts t → ⊥
+  pub not-by-class : {ts : List Tok} (t : Token.Token) → mayBegin (classKind (t .kind)) ≡ false → NewerAt l bytes ts t → ⊥
   not-by-class t e n = clash (beyond-class (n .newer .beyond)) e
 
-  pub not-by-place : {ts : List Tok} {p : ℕ} {c : Config} → Stands ts p c → (Wants c → ⊥) → (t : Token.Token) → NewerAt limits l bytes ts t → ⊥
+  pub not-by-place : {ts : List Tok} {p : ℕ} {c : Config} → Stands ts p c → (Wants c → ⊥) → (t : Token.Token) → NewerAt l bytes ts t → ⊥
   not-by-place {ts} {p} {c} s h t n = h (valueWants l ts c (s .reached) (seen t .at) (n .newer .place))
 
   -- ---- on
 
   pub goes-on : {ts : List Tok} {p : ℕ} {c d : Config} {t : Token.Token} → Stands ts p c → Comes bytes p (Next.Token t) →
-      (NewerAt limits l bytes ts t → ⊥) → step l c (seen t) ≡ some d → t .bad ≡ false → (TooDeep limits l bytes ts t → ⊥) → Stands (ts ++ (seen t ∷ [])) (t .end) d
+      (NewerAt l bytes ts t → ⊥) → step l c (seen t) ≡ some d → t .bad ≡ false → (TooDeep limits ts t → ⊥) → Stands (ts ++ (seen t ∷ [])) (t .end) d
   goes-on {ts} {p} {c} {d} {t} s k v e b h =
       record {
-        good = passed (s .good) k (λ n q f. faultless bytes limits l k v (λ w. no-step d (sym (wrongStuck l ts c (seen t) (s .reached) w) ∙ e)) (λ x. clash x b) h n q f);
+        good = passed (s .good) k (λ n q f. faultless bytes limits l k (v, ((λ w. no-step d (sym (wrongStuck l ts c (seen t) (s .reached) w) ∙ e)), ((λ x. clash x b), (h, tt)))) n q f);
         reached = oneMore l ts c (seen t) (s .reached) ∙ e;
       }
 
@@ -73,20 +74,20 @@ module _ (limits : Limits) (l : Level) (bytes : List ℕ) where
   no-token s k = stops s (noToken k)
 
   pub wrong-place : {ts : List Tok} {p : ℕ} {c : Config} {t : Token.Token} → Stands ts p c → Comes bytes p (Next.Token t) →
-      (NewerAt limits l bytes ts t → ⊥) → step l c (seen t) ≡ none → FirstFault limits l bytes 6 (t .first)
-  wrong-place {ts} {p} {c} {t} s k v e = stops s (wrong k v (stuckWrong l ts c (seen t) (s .reached) e))
+      (NewerAt l bytes ts t → ⊥) → step l c (seen t) ≡ none → FirstFault limits l bytes 6 (t .first)
+  wrong-place {ts} {p} {c} {t} s k v e = stops s (atToken k (inr (v, inl (refl, stuckWrong l ts c (seen t) (s .reached) e))))
 
   pub wrong-end : {ts : List Tok} {p q : ℕ} {c : Config} → Stands ts p c → Comes bytes p (Next.End q) → (Final c → ⊥) → FirstFault limits l bytes 6 q
   wrong-end {ts} {p} {q} {c} s k h = stops s (wrongEnd k (Viable.wrongEnd l ts c (s .reached) h))
 
-  pub newer-form : {ts : List Tok} {p : ℕ} {c : Config} {t : Token.Token} → Stands ts p c → Comes bytes p (Next.Token t) → NewerAt limits l bytes ts t → FirstFault limits l bytes 7 (t .first)
-  newer-form s k n = stops s (newer k n)
+  pub newer-form : {ts : List Tok} {p : ℕ} {c : Config} {t : Token.Token} → Stands ts p c → Comes bytes p (Next.Token t) → NewerAt l bytes ts t → FirstFault limits l bytes 7 (t .first)
+  newer-form s k n = stops s (atToken k (inl (refl, n)))
 
   pub bad-value : {ts : List Tok} {p : ℕ} {c d : Config} {t : Token.Token} → Stands ts p c → Comes bytes p (Next.Token t) →
-      (NewerAt limits l bytes ts t → ⊥) → step l c (seen t) ≡ some d → t .bad ≡ true → FirstFault limits l bytes 5 (t .first)
-  bad-value {ts} {p} {c} {d} {t} s k v e b = stops s (badValue k v (λ w. no-step d (sym (wrongStuck l ts c (seen t) (s .reached) w) ∙ e)) b)
+      (NewerAt l bytes ts t → ⊥) → step l c (seen t) ≡ some d → t .bad ≡ true → FirstFault limits l bytes 5 (t .first)
+  bad-value {ts} {p} {c} {d} {t} s k v e b = stops s (atToken k (inr (v, inr ((λ w. no-step d (sym (wrongStuck l ts c (seen t) (s .reached) w) ∙ e)), inl (refl, b)))))
 
   pub too-deep : {ts : List Tok} {p : ℕ} {c d : Config} {t : Token.Token} → Stands ts p c → Comes bytes p (Next.Token t) →
-      (NewerAt limits l bytes ts t → ⊥) → step l c (seen t) ≡ some d → t .bad ≡ false → TooDeep limits l bytes ts t → FirstFault limits l bytes 11 (t .first)
+      (NewerAt l bytes ts t → ⊥) → step l c (seen t) ≡ some d → t .bad ≡ false → TooDeep limits ts t → FirstFault limits l bytes 11 (t .first)
   too-deep {ts} {p} {c} {d} {t} s k v e b h =
-      stops s (tooDeep k v (λ w. no-step d (sym (wrongStuck l ts c (seen t) (s .reached) w) ∙ e)) (λ x. clash x b) h)
+      stops s (atToken k (inr (v, inr ((λ w. no-step d (sym (wrongStuck l ts c (seen t) (s .reached) w) ∙ e)), inr ((λ x. clash x b), inl (refl, h))))))

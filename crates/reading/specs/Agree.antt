@@ -12,11 +12,10 @@ use Rattle.lexicon.specs.Token.{Comes}
 use Rattle.grammar.specs.Tokens.{Tok}
 use Rattle.grammar.specs.Level.{Level}
 use Rattle.reading.specs.declared.Answer.{Answer}
-use Rattle.reading.specs.declared.Limits.{Limits}
 use Rattle.reading.specs.Tokens.{Follow}
 use Rattle.reading.specs.Faults.{NewerAt}
 
-module _ (limits : Limits) (l : Level) (bytes : List ℕ) where
+module _ (l : Level) (bytes : List ℕ) where
   -- a construct beyond the level, at a place for a value, has its first byte at this place
   pub record NewerFrom (place : ℕ) : Type 0 where
     pub start : ℕ
@@ -26,7 +25,7 @@ module _ (limits : Limits) (l : Level) (bytes : List ℕ) where
     pub row : Follow bytes start before from
     pub token : Token.Token
     pub comes : Comes bytes from (Next.Token token)
-    pub newer : NewerAt limits l bytes before token
+    pub newer : NewerAt l bytes before token
     pub place-is : place ≡ token .first
 
   -- the one whose first byte comes first
@@ -35,8 +34,8 @@ module _ (limits : Limits) (l : Level) (bytes : List ℕ) where
     pub least : {q : ℕ} → NewerFrom q → place ≤ q
 
 -- two readings of one text with equal tables, at the lower level and at the higher: answer and table at exit of each
-pub record Agree (limits : Limits) (lower : Level) (bytes : List ℕ)
+pub record Agree (lower : Level) (bytes : List ℕ)
     (old : Answer) (oldTable : List ℕ) (new : Answer) (newTable : List ℕ) : Type 0 where
   pub alike : (old .number ≡ 7 → ⊥) → (old ≡ new) × (oldTable ≡ newTable)
-  pub first-newer : old .number ≡ 7 → FirstNewer limits lower bytes (old .place)
+  pub first-newer : old .number ≡ 7 → FirstNewer lower bytes (old .place)
   pub there-or-later : old .number ≡ 7 → (new .number ≡ 0) ⊎ (old .place ≤ new .place)

@@ -13,32 +13,37 @@ use Rattle.grammar.specs.Tokens.{Tok}
 use Rattle.grammar.specs.Level.{Level}
 use Rattle.grammar.specs.Place.{Wrong, WrongEnd, Newer}
 use Rattle.reading.specs.declared.Limits.{Limits}
+use Rattle.reading.specs.Tests.{Test, test, First}
 use Rattle.reading.specs.Tokens.{seen, Follow, opened}
 
+-- the token t behind the tokens ts begins a newer form, by what follows it
+pub record NewerAt (l : Level) (bytes : List ℕ) (ts : List Tok) (t : Token.Token) : Type 0 where
+  pub ahead : List Tok
+  pub end : ℕ
+  pub follow : Follow bytes (t .end) ahead end
+  pub newer : Newer l ts (seen t) ahead
+
+-- it opens one bracket more than may be open at once
+pub record TooDeep (limits : Limits) (ts : List Tok) (t : Token.Token) : Type 0 where
+  pub deeper : opened ts < opened (ts ++ (seen t ∷ []))
+  pub beyond : limits .depth < opened (ts ++ (seen t ∷ []))
+
 module _ (limits : Limits) (l : Level) (bytes : List ℕ) where
-  -- the token t behind the tokens ts begins a newer form, by what follows it
-  pub record NewerAt (ts : List Tok) (t : Token.Token) : Type 0 where
-    pub ahead : List Tok
-    pub end : ℕ
-    pub follow : Follow bytes (t .end) ahead end
-    pub newer : Newer l ts (seen t) ahead
+  -- the token t behind the tokens ts, in the order in which it is judged: 'At one token: 4, 6, 7, 5, 11', and since 'a
+  -- token that begins a newer form is 7 and never 6', 7 before 6. A byte at which no token starts is 4 before all of them
+  abbrev pub tests : List Tok → Token.Token → List Test
+  tests ts t =
+      test 7 (NewerAt l bytes ts t)
+      ∷ test 6 (Wrong l ts (seen t))
+      ∷ test 5 (t .bad ≡ true)
+      ∷ test 11 (TooDeep limits ts t)
+      ∷ []
 
-  -- one bracket more would be too many
-  pub record TooDeep (ts : List Tok) (t : Token.Token) : Type 0 where
-    pub deeper : opened ts < opened (ts ++ (seen t ∷ []))
-    pub beyond : limits .depth < opened (ts ++ (seen t ∷ []))
-
-  -- what is wrong with the token at or after p, behind the tokens ts: the refusal's number and place
+  -- what is wrong at or after p, behind the tokens ts: the refusal's number and place
   pub data Fault (ts : List Tok) (p : ℕ) : ℕ → ℕ → Type 0 where
     noToken : {q : ℕ} → Comes bytes p (Next.NoToken q) → Fault ts p 4 q
-    wrong : {t : Token.Token} → Comes bytes p (Next.Token t) → (NewerAt ts t → ⊥) → Wrong l ts (seen t) →
-        Fault ts p 6 (t .first)
     wrongEnd : {q : ℕ} → Comes bytes p (Next.End q) → WrongEnd l ts → Fault ts p 6 q
-    newer : {t : Token.Token} → Comes bytes p (Next.Token t) → NewerAt ts t → Fault ts p 7 (t .first)
-    badValue : {t : Token.Token} → Comes bytes p (Next.Token t) → (NewerAt ts t → ⊥) → (Wrong l ts (seen t) → ⊥) →
-        t .bad ≡ true → Fault ts p 5 (t .first)
-    tooDeep : {t : Token.Token} → Comes bytes p (Next.Token t) → (NewerAt ts t → ⊥) → (Wrong l ts (seen t) → ⊥) →
-        (t .bad ≡ true → ⊥) → TooDeep ts t → Fault ts p 11 (t .first)
+    atToken : {t : Token.Token} {n : ℕ} → Comes bytes p (Next.Token t) → First (tests ts t) n → Fault ts p n (t .first)
 
   -- the tokens ts stand from the front up to p, and none of them is faulty
   pub data Passed : List Tok → ℕ → Type 0 where

@@ -132,7 +132,7 @@ module _ (text : List ℕ) (limits : Limits) (forms : Forms) (d : ℕ) (t : Toke
   -- an opening bracket that begins no newer form, and where it leads
   record Opens (to : Stack → Config) : Type 0 where
     bracket : Place.opens (classKind (t .kind)) ≡ true
-    known : (K : Stack) (at : ℕ) (a : Asks text limits forms K d at t) → NewerAt limits l text (a .stands .tokens) t → ⊥
+    known : (K : Stack) (at : ℕ) (a : Asks text limits forms K d at t) → NewerAt l text (a .stands .tokens) t → ⊥
     steps : (K : Stack) → step l (want K) (seen t) ≡ some (to K)
 
   goes-in : {to : Stack → Config} → Opens to → d < limits .depth → (K : Stack) (at : ℕ) → Asks text limits forms K d at t → Stands text limits forms (suc d) (t .end) (to K)
