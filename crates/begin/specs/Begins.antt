@@ -23,10 +23,10 @@ use Rattle.moves.specs.declared.Mode.the-variants as Mode
 use Rattle.moves.specs.Means.{levelOf}
 use Rattle.look.specs.declared.answer.Got.{Got}
 use Rattle.look.specs.Looks.{Gets, HeadHere, NoHead}
-use Rattle.begin.specs.declared.level.Collection.the-variants as Collection
+use Rattle.level.specs.declared.Collection.the-variants as Collection
 use Rattle.begin.specs.declared.Begin.{Begin}
 use Rattle.begin.specs.declared.Begin.the-variants as Begin
-use Rattle.begin.specs.Levels.{Collects}
+use Rattle.level.specs.Levels.{Collects}
 use Rattle.begin.specs.Signs.{literal}
 
 module _ (limits : Limits) (d : ℕ) (t : Token.Token) where

@@ -1,4 +1,3 @@
 -- What the tests at a place for a value answer.
-pub mod Levels
 pub mod Signs
 pub mod Begins

@@ -1,6 +1,6 @@
 // How a value begins: 6, 7 and, for a bracket, 11 are tested here.
-use crate::level::Collection;
-use crate::level::collection_of;
+use level::Collection;
+use level::collection_of;
 use lexicon::Head;
 use lexicon::Kind;
 use lexicon::Sign;
@@ -26,7 +26,6 @@ ghost use Rattle.look.specs.Looks.{HeadHere};
 ghost use Rattle.begin.specs.declared.Begin.the-variants as Begin;
 ghost use Rattle.begin.specs.Begins.{Deeper, Begins};
 
-pub mod level;
 pub mod sign;
 
 pub enum Begin {

@@ -29,8 +29,8 @@ pub record TooDeep (limits : Limits) (ts : List Tok) (t : Token.Token) : Type 0 
   pub beyond : limits .depth < opened (ts ++ (seen t ∷ []))
 
 module _ (limits : Limits) (l : Level) (bytes : List ℕ) where
-  -- the token t behind the tokens ts, in the order in which it is judged: 'At one token: 4, 6, 7, 5, 11', and 7 before 6
-  -- since 'a token that begins a newer form is 7 and never 6'. Where no token starts it is 4 before all of them
+  -- the token t behind the tokens ts, in the order in which it is judged: 'At one token: 4, 6, 7, 5, 11', and 7 before
+  -- 6 since 'a token that begins a newer form is 7 and never 6'. Where no token starts it is 4 before all of them
   abbrev pub tests : List Tok → Token.Token → List Test
   tests ts t =
       test 7 (NewerAt l bytes ts t)

@@ -40,10 +40,10 @@ use Rattle.moves.specs.Effects.{held, opening}
 use Rattle.look.specs.declared.answer.Got.{Got}
 use Rattle.begin.specs.declared.Begin.{Begin}
 use Rattle.begin.specs.declared.Begin.the-variants as Begin
-use Rattle.begin.specs.declared.level.Collection.{Collection}
-use Rattle.begin.specs.declared.level.Collection.the-variants as Collection
+use Rattle.level.specs.declared.Collection.{Collection}
+use Rattle.level.specs.declared.Collection.the-variants as Collection
 use Rattle.look.specs.Looks.{Gets, HeadHere, NoHead}
-use Rattle.begin.specs.Levels.{Collects}
+use Rattle.level.specs.Levels.{Collects}
 use Rattle.begin.specs.Signs.{literal}
 use Rattle.begin.specs.Begins.{Deeper, Begins, aLiteral, aName, aMark, aLater, curly, square, squareNewer, headed, headNewer, round}
 use Rattle.tree.specs.Readers.{spanOf, opened, Stands, Faulty, Asks}

@@ -37,12 +37,12 @@ use Rattle.look.specs.declared.answer.Read.{Read}
 use Rattle.look.specs.declared.answer.Read.the-variants as Read
 use Rattle.look.specs.declared.answer.Got.{Got}
 use Rattle.look.specs.declared.answer.Got.the-variants as Got
-use Rattle.begin.specs.declared.level.Leveled.{Leveled}
-use Rattle.begin.specs.declared.level.Leveled.the-variants as Leveled
+use Rattle.level.specs.declared.Leveled.{Leveled}
+use Rattle.level.specs.declared.Leveled.the-variants as Leveled
 use Rattle.look.specs.Looks.{Gets, handedOn, unformedBy}
 use Rattle.look.specs.Ends.{Behind, further, nothing, atEnd}
 use Rattle.look.proofs.Looking.{got-token}
-use Rattle.begin.specs.Levels.{LevelFound, unleveledBy}
+use Rattle.level.specs.Levels.{LevelFound, unleveledBy}
 use Rattle.tree.specs.Readers.{spanOf, Faulty, Fit, IsValue, Outcome, Reads}
 use Rattle.tree.specs.Whole.{Whole, JudgedAs, Judged, Told, refusal}
 use Rattle.look.proofs.Bounds.{token-bounds}

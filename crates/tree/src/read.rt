@@ -1,9 +1,9 @@
 // The reading: tests 1, 2 and 3 over the whole text, then the tokens from left to right, last the room.
 // A function with a `requires` is this crate's own: the text's length is tested before it is called.
 use crate::value::value;
-use begin::level::Leveled;
-use begin::level::level_of;
-use begin::level::unleveled;
+use level::Leveled;
+use level::level_of;
+use level::unleveled;
 use lexicon::Encoding;
 use look::answer::Got;
 use look::answer::Read;

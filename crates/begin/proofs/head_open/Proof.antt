@@ -1,6 +1,6 @@
 -- `begin::head_open` meets its contract. Assumes nothing.
 use Rattle.begin.specs.Begins.{headed, headNewer}
-use Rattle.begin.proofs.Levels.{collects, lacks}
+use Rattle.level.proofs.Levels.{collects, lacks}
 use borrow.Author.Needs.{needs}
 use Rattle.begin.proofs.head_open.Statement.{statement}
 use Rattle.begin.proofs.head_open.Tie as tie

@@ -1,11 +1,11 @@
--- `begin::level::collection_of` meets its contract. Assumes nothing.
+-- `level::collection_of` meets its contract. Assumes nothing.
 use mathlib.Core.Path.{refl}
 use Rattle.grammar.specs.Tree as Tree
 use Rattle.moves.specs.Means.{levelOf}
 use borrow.Author.Needs.{needs}
-use Rattle.begin.proofs.Levels.{later-head}
-use Rattle.begin.proofs.level.collection_of.Statement.{statement}
-use Rattle.begin.proofs.level.collection_of.Tie as tie
+use Rattle.level.proofs.Levels.{later-head}
+use Rattle.level.proofs.collection_of.Statement.{statement}
+use Rattle.level.proofs.collection_of.Tie as tie
 
 enum-told : tie.Need-enum-told
 enum-told c = search needs

@@ -4,7 +4,7 @@ use moves::Forms;
 use moves::Style;
 use reading::Answer;
 ghost use mathlib.Core.Path.{_≡_};
-ghost use Rattle.begin.specs.Levels.{Collects, LevelFound, unleveledBy};
+ghost use Rattle.level.specs.Levels.{Collects, LevelFound, unleveledBy};
 
 pub enum Leveled {
     Has(Forms),

@@ -10,10 +10,10 @@ use Rattle.reading.specs.declared.Answer.{Answer}
 use Rattle.reading.specs.Answers.{LevelOf, answer}
 use Rattle.moves.specs.declared.Forms.{Forms}
 use Rattle.moves.specs.Means.{levelOf, collectionStyle}
-use Rattle.begin.specs.declared.level.Leveled.{Leveled}
-use Rattle.begin.specs.declared.level.Leveled.the-variants as Leveled
-use Rattle.begin.specs.declared.level.Collection.{Collection}
-use Rattle.begin.specs.declared.level.Collection.the-variants as Collection
+use Rattle.level.specs.declared.Leveled.{Leveled}
+use Rattle.level.specs.declared.Leveled.the-variants as Leveled
+use Rattle.level.specs.declared.Collection.{Collection}
+use Rattle.level.specs.declared.Collection.the-variants as Collection
 
 abbrev pub LevelFound : ℕ → Leveled → Type 0
 LevelFound n (Leveled.Has forms) = LevelOf n (levelOf forms)

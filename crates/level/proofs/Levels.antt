@@ -13,9 +13,9 @@ use Rattle.reading.specs.Answers.{LevelOf, first, second}
 use Rattle.moves.specs.declared.Forms.{Forms}
 use Rattle.moves.specs.declared.Style.{Style}
 use Rattle.moves.specs.Means.{levelOf}
-use Rattle.begin.specs.declared.level.Collection.{Collection}
-use Rattle.begin.specs.declared.level.Collection.the-variants as Collection
-use Rattle.begin.specs.Levels.{Collects}
+use Rattle.level.specs.declared.Collection.{Collection}
+use Rattle.level.specs.declared.Collection.the-variants as Collection
+use Rattle.level.specs.Levels.{Collects}
 
 -- a level by its number and its forms
 level-same : {n m : ℕ} {l k : Level} → n ≡ m → ((f : Feature) → l f ≡ k f) → LevelOf m l → LevelOf n k

@@ -1,7 +1,7 @@
--- `begin::level::level_of` meets its contract. Assumes nothing.
-use Rattle.begin.proofs.Levels.{first-level, second-level, no-level}
-use Rattle.begin.proofs.level.level_of.Statement.{statement}
-use Rattle.begin.proofs.level.level_of.Tie as tie
+-- `level::level_of` meets its contract. Assumes nothing.
+use Rattle.level.proofs.Levels.{first-level, second-level, no-level}
+use Rattle.level.proofs.level_of.Statement.{statement}
+use Rattle.level.proofs.level_of.Tie as tie
 
 returns : tie.Need-returns
 returns c = first-level (c .if1 .taken)

@@ -1,9 +1,9 @@
--- `begin::level::unleveled` meets its contract. Assumes nothing.
+-- `level::unleveled` meets its contract. Assumes nothing.
 use mathlib.Core.Path.{sym, ap}
 use borrow.Author.Needs.{needs}
-use Rattle.begin.specs.Levels.{unleveledBy}
-use Rattle.begin.proofs.level.unleveled.Statement.{statement}
-use Rattle.begin.proofs.level.unleveled.Tie as tie
+use Rattle.level.specs.Levels.{unleveledBy}
+use Rattle.level.proofs.unleveled.Statement.{statement}
+use Rattle.level.proofs.unleveled.Tie as tie
 
 enum-told : tie.Need-enum-told
 enum-told c = search needs

@@ -1,0 +1,2 @@
+-- Laws of the forms of a level.
+pub mod Levels

@@ -1,0 +1,2 @@
+-- What is answered of the forms of a level.
+pub mod Levels
