@@ -6,7 +6,7 @@ use Prim.Native.Nat.{ℕ, _+_, _≤_, _<_, _^_}
 use lib.Dec.{eqb}
 use lib.IntN.{ℤ}
 use lib.ListN.{length, getD}
-use Rattle.rules.specs.Class.{just}
+use Rattle.rules.specs.Class.{just, byteOf}
 use Rattle.rules.specs.Rule.{At}
 use Rattle.lexicon.specs.declared.Base.{Base}
 use Rattle.lexicon.specs.declared.Base.the-variants.{Ten}
@@ -24,7 +24,7 @@ module _ (piece : List ℕ) where
   -- the sign, and where the number behind it may begin
   pub record SignOf (minus : Bool) (g : ℕ) : Type 0 where
     pub start : Start piece 0 g
-    pub minus-is : minus ≡ eqb (getD piece 0 0) 0x2D
+    pub minus-is : minus ≡ eqb (getD piece 0 0) (byteOf "-")
 
   -- the mark at i, and where the digits behind it may begin
   pub data MarkOf (i : ℕ) : Base → ℕ → Type 0 where
@@ -33,8 +33,8 @@ module _ (piece : List ℕ) where
 
   -- where the next digit may stand
   pub data JointOf (i : ℕ) : ℕ → Type 0 where
-    line : At piece (just 0x5F) i → JointOf i (i + 1)
-    space : {g : ℕ} → (At piece (just 0x5F) i → ⊥) → Skips piece i g → JointOf i g
+    line : At piece (just (byteOf "_")) i → JointOf i (i + 1)
+    space : {g : ℕ} → (At piece (just (byteOf "_")) i → ⊥) → Skips piece i g → JointOf i g
 
 -- the number n, up to 2^63
 abbrev pub Counted : ℕ → Size → Type 0

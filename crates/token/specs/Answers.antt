@@ -6,7 +6,7 @@ use mathlib.Core.List.{List}
 use Prim.Native.Nat.{ℕ, _+_}
 use Rattle.rules.specs.Test.{Says}
 use lib.ListN.{getD}
-use Rattle.rules.specs.Class.{has, just}
+use Rattle.rules.specs.Class.{has, just, byteOf}
 use Rattle.rules.specs.Rule.{At, Takes, Fails}
 use Rattle.lexicon.specs.declared.Sign.{Sign}
 use Rattle.lexicon.specs.declared.Kind.{Kind}
@@ -51,7 +51,7 @@ colonAt i = Next.Token (record { kind = Colon; first = i; end = i + 1; bad = fal
 -- no lexeme but an Integer or a Fraction stands at i
 pub record NumberOnly (text : List ℕ) (i : ℕ) : Type 0 where
   pub others : (l : Lexeme) {k : ℕ} → Takes text (rule l) i k → (l ≡ anInteger) ⊎ (l ≡ aFraction)
-  pub no-colon : At text (just 0x3A) i → ⊥
+  pub no-colon : At text (just (byteOf ":")) i → ⊥
 
 -- no literal of one spelling stands at i
 pub record Marked (text : List ℕ) (i : ℕ) : Type 0 where
@@ -66,8 +66,8 @@ FixedAt text i Fixed.Nothing = Marked text i
 
 -- the byte at i begins no literal without a minus sign, and is no colon
 pub record NotOpening (text : List ℕ) (i : ℕ) : Type 0 where
-  pub no-quote : getD text i 0 ≡ 0x22 → ⊥
+  pub no-quote : getD text i 0 ≡ byteOf "\"" → ⊥
   pub no-word : has wordStart (getD text i 0) ≡ false
   pub no-digit : has decimal (getD text i 0) ≡ false
-  pub no-plus : getD text i 0 ≡ 0x2B → ⊥
-  pub no-colon : getD text i 0 ≡ 0x3A → ⊥
+  pub no-plus : getD text i 0 ≡ byteOf "+" → ⊥
+  pub no-colon : getD text i 0 ≡ byteOf ":" → ⊥

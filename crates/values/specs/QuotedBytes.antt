@@ -4,7 +4,7 @@ use mathlib.Core.Path.{_≡_}
 use mathlib.Core.List.{List, [], _∷_, _++_}
 use Prim.Native.Nat.{ℕ, _+_, _-_, _<_}
 use lib.ListN.{length, getD}
-use Rattle.rules.specs.Class.{Class, _upto_, just}
+use Rattle.rules.specs.Class.{Class, _upto_, just, byteOf}
 use Rattle.rules.specs.Rule.{one, many, At, Takes}
 use Rattle.lexicon.specs.Space.{Skips}
 use Rattle.lexicon.specs.Encode.{encode}
@@ -12,10 +12,10 @@ use Rattle.lexicon.specs.Values.{read, Letter, CodeOf}
 use Rattle.lexicon.specs.Bad.{Scalar}
 
 abbrev pub quote : Class
-quote = just 0x22
+quote = just (byteOf "\"")
 
 abbrev pub backslash : Class
-backslash = just 0x5C
+backslash = just (byteOf "\\")
 
 abbrev pub notQuote : Class
 notQuote = 0x00 upto 0x21 ∷ 0x23 upto 0xFF ∷ []
@@ -31,7 +31,7 @@ module _ (piece : List ℕ) where
     pub number : ℕ
     pub code : CodeOf piece i end number
     pub scalar : Scalar number
-    pub close : At piece (just 0x3E) end
+    pub close : At piece (just (byteOf ">")) end
     pub behind : j ≡ end + 1
     pub bytes-are : bs ≡ encode number
 
@@ -40,7 +40,7 @@ module _ (piece : List ℕ) where
     itself : At piece other i → j ≡ i + 1 → bs ≡ getD piece i 0 ∷ [] → Item i j bs
     letter : {c : ℕ} → At piece backslash i → i + 1 < length piece → Letter (getD piece (i + 1) 0) c →
         j ≡ i + 2 → bs ≡ c ∷ [] → Item i j bs
-    number : At piece backslash i → At piece (just 0x3C) (i + 1) → Angled (i + 2) j bs → Item i j bs
+    number : At piece backslash i → At piece (just (byteOf "<")) (i + 1) → Angled (i + 2) j bs → Item i j bs
 
   -- the rest of an escaped segment, through its closing quote
   pub data Unescapes : ℕ → ℕ → List ℕ → Type 0 where
