@@ -12,6 +12,7 @@ pub mod Powers
 pub mod Tokens
 pub mod Unique
 pub mod Determined
+pub mod Fit
 pub mod Formed
 pub mod Moved
 pub mod Pieces

@@ -10,7 +10,7 @@ use Rattle.rules.specs.Rule.{_then_, _or_, many, opt, lit, Takes, Among}
 use Rattle.lexicon.specs.Bytes.{base64}
 use Rattle.lexicon.specs.Space.{sp}
 use Rattle.lexicon.specs.Literals.{integer, significand, spaced, power, unescaped, escape, segment}
-use Rattle.lexicon.specs.Values.{Digits, Number, CodeOf, Quoted}
+use Rattle.lexicon.specs.Values.{Digits, Number, BlobOf, CodeOf, Quoted}
 
 -- a number that is a code point
 abbrev pub Scalar : ℕ → Type 0
@@ -101,3 +101,7 @@ module _ (text : List ℕ) where
     pub bytes : List ℕ
     pub digits-are : Digits text 4 base64 start j bytes
     pub misplaced : Misplaced bytes
+
+  -- in the Blob call: 02, request 1. No bytes have the bits that its digits say
+  abbrev pub NoBytes : ℕ → ℕ → Type 0
+  NoBytes i j = (bs : List ℕ) → BlobOf text i j bs → ⊥

@@ -1,5 +1,5 @@
 -- Document 01's tokens, in its order: bytes, UTF-8 as it is read and written, the front, dividing space, the literals
--- of source document 003, symbols, the values of literals and the bad ones, the token at a place.
+-- of source document 003, symbols, the bits of digits, the values of literals and the bad ones, the token at a place.
 pub mod Bytes
 pub mod Utf8
 pub mod Encode
@@ -7,6 +7,8 @@ pub mod Space
 pub mod Front
 pub mod Literals
 pub mod Symbols
+pub mod Expansion
+pub mod Base64
 pub mod Values
 pub mod Bad
 pub mod Token

@@ -1,7 +1,9 @@
 -- What functions inside the library promise of parts of a literal. No answer rests on it. Assumes nothing.
 use mathlib.Core.Path.{_≡_}
+use mathlib.Core.Bool.{cond}
 use mathlib.Core.List.{List}
-use Prim.Native.Nat.{ℕ, _+_, _<_}
+use Prim.Native.Nat.{ℕ, _+_, _-_, _<_}
+use lib.Dec.{leb, eqb}
 use Rattle.rules.specs.Class.{Class, byteOf, just}
 use Rattle.rules.specs.Rule.{Rule, _then_, opt, At, Takes}
 use Rattle.lexicon.specs.declared.Set.{Set}
@@ -25,6 +27,12 @@ size Set.Base64 = 0
 size Set.WordStart = 0
 size Set.WordRest = 0
 size Set.Dividing = 0
+
+-- the value of a base-64 character, where the alphabet has it (lexicon/proofs/Sextets.antt)
+unfoldable pub sextet : ℕ → ℕ
+sextet b =
+    cond (leb (byteOf "a") b) (b - byteOf "a" + 26)
+    (cond (leb (byteOf "A") b) (b - byteOf "A") (cond (leb (byteOf "0") b) (b - byteOf "0" + 52) (cond (eqb b (byteOf "+")) 62 63)))
 
 module _ (text : List ℕ) where
   -- a joint, if any, and a unit stand at j

@@ -1,16 +1,21 @@
--- The values that the grammar gives: the integer of an Integer, the characters of a Text. Assumes nothing.
+-- The values that the grammar gives: the integer of an Integer, the bits of Bits, the bytes of a Blob, the characters of
+-- a Text. Assumes nothing.
 use mathlib.Core.Path.{_≡_}
 use mathlib.Core.Bool.{cond}
-use mathlib.Core.List.{List, [], _∷_, _++_}
-use Prim.Native.Nat.{ℕ, zero, suc, _+_, _-_, _*_}
+use mathlib.Core.List.{List, [], _∷_, _++_, map}
+use Prim.Native.Nat.{ℕ, zero, suc, _+_, _-_, _*_, _<_}
+use Prim.Native.String.{String}
 use lib.Dec.{leb, eqb}
 use lib.IntN.{ℤ, pos, negℤ}
 use lib.ListN.{getD}
 use Rattle.rules.specs.Class.{Class, In, byteOf, anyOf}
-use Rattle.rules.specs.Rule.{one, plus, opt, lit, Takes}
+use Rattle.rules.specs.Rule.{one, _then_, plus, opt, lit, Takes}
+use Rattle.rules.specs.Every.{Every}
 use Rattle.lexicon.specs.declared.Base.{Base}
-use Rattle.lexicon.specs.Bytes.{digits, radix}
+use Rattle.lexicon.specs.Bytes.{binary, octal, hexadecimal, base64, digits, radix}
 use Rattle.lexicon.specs.Space.{sp}
+use Rattle.lexicon.specs.Expansion.{expand}
+use Rattle.lexicon.specs.Base64.{Encodes}
 use Rattle.lexicon.specs.Literals.{unit, joint, prefix, sign, codeMark, word, unescaped, restricted, escapeLetter}
 
 -- the n bytes from place i on
@@ -31,6 +36,10 @@ valueFrom r v (d ∷ ds) = valueFrom r (v * r + digit d) ds
 
 abbrev pub value : ℕ → List ℕ → ℕ
 value r ds = valueFrom r 0 ds
+
+-- bytes
+abbrev pub Octets : List ℕ → Type 0
+Octets bs = Every (λ b. b < 256) bs
 
 -- ---- characters
 
@@ -76,6 +85,28 @@ module _ (text : List ℕ) where
     pub size : ℕ
     pub number : Number start j size
     pub value-is : z ≡ cond (eqb (getD text i 0) (byteOf "-")) (negℤ (pos size)) (pos size)
+
+  -- ---- bits and bytes
+
+  -- the digits behind a mark, or none
+  pub data Behind (mark : String) (n : ℕ) (c : Class) : ℕ → ℕ → List ℕ → Type 0 where
+    markAlone : {i j : ℕ} → Takes text (lit mark) i j → Behind mark n c i j []
+    markDigits : {i m j : ℕ} {ds : List ℕ} → Takes text (lit mark then opt sp) i m → Digits n c m j ds →
+        Behind mark n c i j ds
+
+  -- the bits of a Bits literal from i to j, most significant first in each digit
+  pub data BitsOf : ℕ → ℕ → List ℕ → Type 0 where
+    inBinary : {i j : ℕ} {ds : List ℕ} → Behind "0bb" 1 binary i j ds → BitsOf i j (expand 1 (map digit ds))
+    inOctal : {i j : ℕ} {ds : List ℕ} → Behind "0bo" 1 octal i j ds → BitsOf i j (expand 3 (map digit ds))
+    inHexadecimal : {i j : ℕ} {ds : List ℕ} → Behind "0bx" 1 hexadecimal i j ds → BitsOf i j (expand 4 (map digit ds))
+
+  -- the bytes of a Blob literal from i to j: those whose bits the digits say. A Blob need not have any
+  pub data BlobOf : ℕ → ℕ → List ℕ → Type 0 where
+    inBinary : {i j : ℕ} {ds bs : List ℕ} → Behind "0xb" 8 binary i j ds → Octets bs →
+        expand 8 bs ≡ expand 1 (map digit ds) → BlobOf i j bs
+    inHexadecimal : {i j : ℕ} {ds bs : List ℕ} → Behind "0xx" 2 hexadecimal i j ds → Octets bs →
+        expand 8 bs ≡ expand 4 (map digit ds) → BlobOf i j bs
+    inBase64 : {i j : ℕ} {ds bs : List ℕ} → Behind "0xy" 4 base64 i j ds → Octets bs → Encodes ds bs → BlobOf i j bs
 
   -- ---- characters
 

@@ -4,12 +4,12 @@ use mathlib.Core.List.{List}
 use Prim.Native.Nat.{ℕ, suc, _-_, _≤_, _<_, _^_}
 use lib.IntN.{ℤ, pos, negsuc}
 use lib.ListN.{length}
-use Rattle.rules.specs.Rule.{Takes}
 use Rattle.lexicon.specs.Utf8.{WellFormed, BadAt}
 use Rattle.lexicon.specs.Literals.{integer}
 use Rattle.lexicon.specs.Values.{IntegerOf}
 use Rattle.reading.specs.declared.Rules.{Rules}
 use Rattle.values.specs.declared.IntegerAnswer.{IntegerAnswer}
+use Rattle.values.specs.Exactly.{Exactly}
 
 -- −2^63 to 2^63 − 1, where `negsuc n` is −(n + 1)
 abbrev pub Within : ℤ → Type 0
@@ -24,16 +24,12 @@ answer n p z = record { number = n; place = p; count = 0; value = z }
 abbrev pub refusal : ℕ → ℕ → IntegerAnswer
 refusal n p = answer n p (pos 0)
 
--- the piece is exactly one Integer literal, from byte 0 to its end
-abbrev pub Exactly : List ℕ → Type 0
-Exactly piece = Takes piece integer 0 (length piece)
-
 module _ (rules : Rules) (piece : List ℕ) where
   pub data IntegerAnswers : IntegerAnswer → Type 0 where
     tooLong : rules .text < length piece → IntegerAnswers (refusal 2 0)
     notUtf8 : {p : ℕ} → length piece ≤ rules .text → BadAt piece p → IntegerAnswers (refusal 3 p)
-    notInteger : length piece ≤ rules .text → WellFormed piece → (Exactly piece → ⊥) → IntegerAnswers (refusal 9 0)
-    outside : {z : ℤ} → length piece ≤ rules .text → WellFormed piece → Exactly piece →
+    notInteger : length piece ≤ rules .text → WellFormed piece → (Exactly integer piece → ⊥) → IntegerAnswers (refusal 9 0)
+    outside : {z : ℤ} → length piece ≤ rules .text → WellFormed piece → Exactly integer piece →
         IntegerOf piece 0 (length piece) z → (Within z → ⊥) → IntegerAnswers (refusal 10 0)
-    accepted : {z : ℤ} → length piece ≤ rules .text → WellFormed piece → Exactly piece →
+    accepted : {z : ℤ} → length piece ≤ rules .text → WellFormed piece → Exactly integer piece →
         IntegerOf piece 0 (length piece) z → Within z → IntegerAnswers (answer 0 (length piece) z)

@@ -1,4 +1,8 @@
 -- The answers of the value calls; and the bytes that a quoted text stands for, by which the Text call is proved.
+pub mod Exactly
 pub mod Integer
+pub mod Bytes
 pub mod Text
+pub mod Blob
+pub mod Bits
 pub mod QuotedBytes

@@ -1,0 +1,23 @@
+-- Base-64 characters as a row of bytes alone: how `=` may stand among them, and which bits of the last one before it must be zero.
+-- Assumes nothing.
+use mathlib.Core.Path.{_≡_}
+use mathlib.Core.List.{List, [], _∷_, _++_}
+use Prim.Native.Nat.{ℕ, _%_, _^_, _≤_}
+use lib.ListN.{replicate}
+use Rattle.rules.specs.Class.{byteOf}
+use Rattle.rules.specs.Every.{Every}
+use Rattle.lexicon.specs.Parts.{sextet}
+
+-- the value of the last character, after one of value v
+abbrev pub lastFrom : ℕ → List ℕ → ℕ
+lastFrom v [] = v
+lastFrom v (c ∷ cs) = lastFrom (sextet c) cs
+
+pub record Fit (ds : List ℕ) : Type 0 where
+  pub characters : List ℕ
+  pub padding : ℕ
+  pub are : ds ≡ characters ++ replicate padding (byteOf "=")
+  pub no-pad : Every (λ c. c ≡ byteOf "=" → ⊥) characters
+  pub at-most-two : padding ≤ 2
+  -- two bits of the last character are left over for each `=`
+  pub left-over : lastFrom 0 characters % 4 ^ padding ≡ 0

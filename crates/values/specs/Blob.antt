@@ -1,0 +1,15 @@
+-- The Blob call: the bytes of a Blob literal; one that has none is bad. Assumes nothing.
+use mathlib.Core.List.{List}
+use Rattle.lexicon.specs.Literals.{blob}
+use Rattle.lexicon.specs.Values.{BlobOf}
+use Rattle.lexicon.specs.Bad.{NoBytes}
+use Rattle.reading.specs.declared.Answer.{Answer}
+use Rattle.reading.specs.declared.Rules.{Rules}
+use Rattle.values.specs.Bytes.{Call, BytesAnswers}
+use Prim.Native.Nat.{ℕ}
+
+abbrev pub blobCall : Call
+blobCall = record { literal = blob; Bad = NoBytes; Bytes = BlobOf }
+
+abbrev pub BlobAnswers : Rules → (piece lent : List ℕ) → Answer → List ℕ → Type 0
+BlobAnswers = BytesAnswers blobCall
