@@ -13,6 +13,7 @@ pub mod Tokens
 pub mod Unique
 pub mod Determined
 pub mod Fit
+pub mod Expansions
 pub mod Formed
 pub mod Moved
 pub mod Pieces
