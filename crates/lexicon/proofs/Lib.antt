@@ -14,6 +14,7 @@ pub mod Unique
 pub mod Determined
 pub mod Fit
 pub mod Expansions
+pub mod Sextets
 pub mod Formed
 pub mod Moved
 pub mod Pieces
