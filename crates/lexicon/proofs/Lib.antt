@@ -15,6 +15,7 @@ pub mod Determined
 pub mod Fit
 pub mod Expansions
 pub mod Sextets
+pub mod Encodings
 pub mod Formed
 pub mod Moved
 pub mod Pieces
