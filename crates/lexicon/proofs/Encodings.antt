@@ -151,3 +151,18 @@ encodes-same {ds} {bs} {cs} o p m n =
     let e : expand 8 bs ++ replicate (2 * m .padding) 0 ≡ expand 8 cs ++ replicate (2 * n .padding) 0 = sym (m .bits-are) ∙ ap (expand 6) g ∙ n .bits-are in
     let l = ap (λ (x : ℕ). length (zeros (2 * x))) (r .1) in
     expand-same 8 (omega arith) bs cs o p (ends-same (expand 8 bs) (expand 8 cs) l e .0)
+
+-- fewer than the characters
+pub encodes-short : {ds bs : List ℕ} → Encodes ds bs → length bs ≤ length ds
+encodes-short {ds} {bs} n =
+    let k = n .padding in
+    omega (
+      arith,
+      length-append (expand 8 bs) (replicate (2 * k) 0),
+      ap length (n .bits-are),
+      expand-length 8 bs,
+      expand-length 6 (n .groups),
+      length-append (map character (n .groups)) (replicate k (byteOf "=")),
+      ap length (n .characters-are),
+      length-map (n .groups) character,
+    )

@@ -4,12 +4,15 @@
 use mathlib.Core.Path.{_≡_, refl, subst, sym, ap, _∙_}
 use mathlib.Core.Bool.{true}
 use mathlib.Core.List.{List, _++_, append-assoc}
-use Prim.Native.Nat.{ℕ, zero, suc, _+_, _≤_, _<_}
+use Prim.Native.Nat.{ℕ, zero, suc, _+_, _*_, _≤_, _<_}
 use native.Mathlib.Decide.{decLe}
-use native.Mathlib.Nat.{not-suc-le-zero, le-of-suc-le-suc, add-zero}
+use native.Mathlib.Nat.{not-suc-le-zero, le-of-suc-le-suc, add-zero, mul-one, mul-suc}
 use native.Mathlib.Omega.{arith}
-use Rattle.rules.specs.Class.{Class, anyOf}
+use lib.ListN.{length, length-append}
+use Rattle.rules.specs.Class.{Class, In, anyOf}
 use Rattle.rules.specs.Rule.{_then_, many, plus, opt, At, Takes, nothing, byte, both, left, right, stop, more}
+use Rattle.rules.specs.Every.{Every, none, also}
+use Rattle.rules.proofs.Every.{every-append}
 use Rattle.rules.proofs.Classes.{apart, apartSpan}
 use Rattle.rules.proofs.Matches.{forward, starting, ending}
 use Rattle.rules.proofs.Ways.{never, never-takes}
@@ -90,6 +93,36 @@ module _ {text : List ℕ} {c : Class} where
   pub digits-single : (n : ℕ) {i j : ℕ} {ds : List ℕ} → Digits text (suc n) c i j ds → Digits text 1 c i j ds
   digits-single n (lastUnit u) = single-unit n u
   digits-single n (nextUnit u t d) = single-next n u t (digits-single n d)
+
+-- ---- the bytes of a row
+
+pub read-length : (text : List ℕ) (i n : ℕ) → length (read text i n) ≡ n
+read-length text i zero = refl
+read-length text i (suc n) = omega (arith, read-length text (i + 1) n)
+
+module _ {text : List ℕ} where
+  unit-in : (n : ℕ) (c : Class) {i j : ℕ} → Takes text (unit n c) i j → Every (In c) (read text i n)
+  unit-in zero c u = none
+  unit-in (suc n) c (both (byte a e) u) = also (a .1) (unit-in n c (starting e u))
+
+module _ {text : List ℕ} (n : ℕ) {c : Class} where
+  -- all are digits
+  pub digits-in : {i j : ℕ} {ds : List ℕ} → Digits text n c i j ds → Every (In c) ds
+  digits-in (lastUnit u) = unit-in n c u
+  digits-in (nextUnit u s d) = every-append (unit-in n c u) (digits-in d)
+
+  -- they are whole units
+  pub digits-whole : {i j : ℕ} {ds : List ℕ} → Digits text n c i j ds → (k : ℕ) × (length ds ≡ n * k)
+  digits-whole (lastUnit {i = i} u) = (1, read-length text i n ∙ sym (mul-one n))
+  digits-whole (nextUnit {i = i} {ds = ds} u s d) =
+      let r = digits-whole d in
+      (suc (r .0), omega (arith, length-append (read text i n) ds, read-length text i n, r .1, mul-suc n (r .0)))
+
+  -- and no more than the bytes where they stand
+  pub digits-short : {i j : ℕ} {ds : List ℕ} → Digits text n c i j ds → i + length ds ≤ j
+  digits-short (lastUnit {i = i} u) = omega (arith, read-length text i n, unit-end n c u)
+  digits-short (nextUnit {i = i} {ds = ds} u s d) =
+      omega (arith, length-append (read text i n) ds, read-length text i n, unit-end n c u, forward s, digits-short d)
 
 -- for units of at least one byte, of digits that begin no joint
 module _ (text : List ℕ) (n : ℕ) (c : Class) (cl : Clear c) where

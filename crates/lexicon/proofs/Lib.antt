@@ -16,6 +16,7 @@ pub mod Fit
 pub mod Expansions
 pub mod Sextets
 pub mod Encodings
+pub mod Contents
 pub mod Formed
 pub mod Moved
 pub mod Pieces

@@ -15,7 +15,7 @@ use Rattle.rules.proofs.Matches.{forward, starting}
 use Rattle.rules.proofs.Ways.{never, never-takes}
 use Rattle.lexicon.specs.declared.Base.{Base}
 use Rattle.lexicon.specs.declared.Base.the-variants.{Two, Eight, Ten, Sixteen}
-use Rattle.lexicon.specs.Bytes.{decimal, wordRest, digits, radix}
+use Rattle.lexicon.specs.Bytes.{decimal, wordRest, digits, radix, base64}
 use Rattle.lexicon.specs.Space.{blank, sp}
 use Rattle.lexicon.specs.Literals.{joint, prefix, ofBase, nonsigned}
 use Rattle.lexicon.specs.Values.{Digits, lastUnit, nextUnit, OfBase, Number, value}
@@ -33,6 +33,10 @@ clear Two = record { no-joint = refl; no-blank = refl }
 clear Eight = record { no-joint = refl; no-blank = refl }
 clear Ten = record { no-joint = refl; no-blank = refl }
 clear Sixteen = record { no-joint = refl; no-blank = refl }
+
+pub clear-base64 : Clear base64
+unfolding never apart apartSpan
+clear-base64 = record { no-joint = refl; no-blank = refl }
 
 digits-words : (b : Base) → includes (digits b) wordRest ≡ true
 unfolding includes inSome
