@@ -1,10 +1,11 @@
--- Literals in two texts that have the same bytes there: numbers, characters and bad values are those of the bytes, wherever they stand.
--- Assumes nothing.
+-- Literals in two texts that have the same bytes there: numbers, bits, bytes, characters and bad values are those of the bytes,
+-- wherever they stand. Assumes nothing.
 use mathlib.Core.Path.{_≡_, refl, sym, subst, ap, _∙_}
 use mathlib.Core.Logic.{inl, inr}
 use mathlib.Core.Bool.{cond}
 use mathlib.Core.List.{List, _++_}
 use Prim.Native.Nat.{ℕ, zero, suc, _+_, _-_, _≤_, _<_}
+use Prim.Native.String.{String}
 use native.Mathlib.Omega.{arith}
 use lib.Dec.{eqb}
 use lib.IntN.{ℤ, pos, negℤ}
@@ -16,10 +17,10 @@ use Rattle.lexicon.specs.declared.Kind.{Kind}
 use Rattle.lexicon.specs.declared.Kind.the-variants.{Ignorance, Boolean, Integer, Fraction, Bits, Blob, Text, Later, Symbol, Colon, TwoColons}
 use Rattle.lexicon.specs.declared.Form.the-variants.{Word, HeadWord, CodePoint}
 use Rattle.lexicon.specs.declared.Form.the-variants as Form
-use Rattle.lexicon.specs.Bytes.{base64, digits, radix}
+use Rattle.lexicon.specs.Bytes.{binary, octal, hexadecimal, base64, digits, radix}
 use Rattle.lexicon.specs.Space.{sp}
 use Rattle.lexicon.specs.Literals.{unescaped, escape, segment}
-use Rattle.lexicon.specs.Values.{Digits, lastUnit, nextUnit, read, value, scalar, Number, IntegerOf, Letter, CodeOf, Plain, Escaped, Row, done, Segment, Quoted, lastSegment, nextSegment, TextOf, quotes, bare, coded}
+use Rattle.lexicon.specs.Values.{Digits, lastUnit, nextUnit, read, value, scalar, Number, IntegerOf, Behind, markAlone, markDigits, BitsOf, BlobOf, Letter, CodeOf, Plain, Escaped, Row, done, Segment, Quoted, lastSegment, nextSegment, TextOf, quotes, bare, coded}
 use Rattle.lexicon.specs.Values as Values
 use Rattle.lexicon.specs.Bad.{BadCode, BadEscape, BadSegment, BadFurther, BadQuoted, inFirst, inFurther, ZeroDenominator, SmallRadix, BadPadding}
 use Rattle.lexicon.specs.Token.{Bad}
@@ -168,6 +169,24 @@ module _ (a b : List ℕ) (p q n : ℕ) (w : Window a b p q n) where
   text-moved (bare {i} {j} t) h k =
       subst (TextOf b (shift p q i) (shift p q j)) (sym (bytes-moved i j h (forward t) k)) (bare (on t h k))
   text-moved (coded c) h k = coded (code-moved c h k)
+
+  -- ---- bits and bytes
+
+  pub behind-moved : (mark : String) (m : ℕ) (c : Class) {i j : ℕ} {ds : List ℕ} → Behind a mark m c i j ds → p ≤ i → j ≤ p + n → Behind b mark m c (shift p q i) (shift p q j) ds
+  behind-moved mark m c (markAlone t) h k = markAlone (on t h k)
+  behind-moved mark m c (markDigits t d) h k =
+      let f = forward t in let g = digits-forward d in
+      markDigits (on t h (omega (arith, g, k))) (digits-moved m c d (omega (arith, f, h)) k)
+
+  pub bits-moved : {i j : ℕ} {bs : List ℕ} → BitsOf a i j bs → p ≤ i → j ≤ p + n → BitsOf b (shift p q i) (shift p q j) bs
+  bits-moved (BitsOf.inBinary x) h k = BitsOf.inBinary (behind-moved "0bb" 1 binary x h k)
+  bits-moved (BitsOf.inOctal x) h k = BitsOf.inOctal (behind-moved "0bo" 1 octal x h k)
+  bits-moved (BitsOf.inHexadecimal x) h k = BitsOf.inHexadecimal (behind-moved "0bx" 1 hexadecimal x h k)
+
+  pub blob-moved : {i j : ℕ} {bs : List ℕ} → BlobOf a i j bs → p ≤ i → j ≤ p + n → BlobOf b (shift p q i) (shift p q j) bs
+  blob-moved (BlobOf.inBinary x o e) h k = BlobOf.inBinary (behind-moved "0xb" 8 binary x h k) o e
+  blob-moved (BlobOf.inHexadecimal x o e) h k = BlobOf.inHexadecimal (behind-moved "0xx" 2 hexadecimal x h k) o e
+  blob-moved (BlobOf.inBase64 x o e) h k = BlobOf.inBase64 (behind-moved "0xy" 4 base64 x h k) o e
 
   -- ---- bad values: Text
 

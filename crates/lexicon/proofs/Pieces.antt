@@ -22,11 +22,12 @@ use Rattle.lexicon.specs.declared.Kind.the-variants.{Ignorance, Boolean,
 use Rattle.lexicon.specs.Literals.{plusMinus}
 use Rattle.lexicon.specs.Symbols.{Colons}
 use Rattle.lexicon.specs.Utf8.{WellFormed}
-use Rattle.lexicon.specs.Values.{IntegerOf, TextOf}
+use Rattle.lexicon.specs.Values.{IntegerOf, BitsOf, BlobOf, TextOf}
+use Rattle.lexicon.specs.Bad.{NoBytes}
 use Rattle.lexicon.specs.Token.{Lexeme, anIgnorance, aBoolean, anInteger, aFraction, aBits, aBlob, aQuoted, aWord, aCodePoint, aLater, aSymbol, rule, Here, Told, Is, Bad}
 use Rattle.lexicon.proofs.Unique.{token-forward}
 use Rattle.lexicon.proofs.Formed.{ascii, edges, whole-formed}
-use Rattle.lexicon.proofs.Moved.{integer-moved, text-moved, bad-moved}
+use Rattle.lexicon.proofs.Moved.{integer-moved, bits-moved, blob-moved, text-moved, bad-moved}
 
 module _ (text : List ℕ) where
   -- ---- a token's rule, with ASCII at both ends
@@ -136,7 +137,7 @@ module _ (text : List ℕ) where
     pub token-alone : Is (between text i j) k 0 (length (between text i j))
     token-alone = record { told = told-alone (token-forward text is) (token-within k is) k (is .told) }
 
-    -- a bad value is the piece's own, and so are an integer and characters
+    -- a bad value is the piece's own, and so are an integer, characters, bits and bytes
     pub bad-there : Bad (between text i j) k 0 (length (between text i j)) → Bad text k i j
     bad-there = there text (omega (arith, token-forward text is)) (token-within k is) (λ (x : List ℕ). Bad x k) (λ a b p q n w i j x h l. bad-moved a b p q n w k x h l)
 
@@ -147,3 +148,16 @@ module _ (text : List ℕ) where
     pub text-there : {cs : List ℕ} → TextOf (between text i j) 0 (length (between text i j)) cs → TextOf text i j cs
     text-there {cs} =
         there text (omega (arith, token-forward text is)) (token-within k is) (λ (x : List ℕ) (i j : ℕ). TextOf x i j cs) (λ a b p q n w i j x h l. text-moved a b p q n w x h l)
+
+    pub bits-there : {bs : List ℕ} → BitsOf (between text i j) 0 (length (between text i j)) bs → BitsOf text i j bs
+    bits-there {bs} =
+        there text (omega (arith, token-forward text is)) (token-within k is) (λ (x : List ℕ) (i j : ℕ). BitsOf x i j bs) (λ a b p q n w i j x h l. bits-moved a b p q n w x h l)
+
+    pub blob-there : {bs : List ℕ} → BlobOf (between text i j) 0 (length (between text i j)) bs → BlobOf text i j bs
+    blob-there {bs} =
+        there text (omega (arith, token-forward text is)) (token-within k is) (λ (x : List ℕ) (i j : ℕ). BlobOf x i j bs) (λ a b p q n w i j x h l. blob-moved a b p q n w x h l)
+
+    -- a Blob that has no bytes by itself has none in the text
+    pub no-bytes-there : NoBytes (between text i j) 0 (length (between text i j)) → NoBytes text i j
+    no-bytes-there f bs y =
+        f bs (alone text (omega (arith, token-forward text is)) (token-within k is) (λ (x : List ℕ) (i j : ℕ). BlobOf x i j bs) (λ a b p q n w i j x h l. blob-moved a b p q n w x h l) y)
