@@ -17,6 +17,7 @@ pub mod Expansions
 pub mod Sextets
 pub mod Encodings
 pub mod Contents
+pub mod Paddings
 pub mod Formed
 pub mod Moved
 pub mod Pieces
