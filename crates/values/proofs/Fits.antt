@@ -1,32 +1,24 @@
--- A buffer as long as the piece is always enough: the characters of a Text that is not bad are no more bytes than the literal, so that
--- the refusal 8 needs a shorter buffer. Assumes nothing.
-use mathlib.Core.Path.{_≡_, refl, ap}
-use mathlib.Core.List.{List, []}
-use Prim.Native.Nat.{ℕ, _-_, _≤_}
+-- A buffer that is always enough, from a bound on the bytes of a value that is not bad: the refusal 8 needs a shorter buffer.
+-- Assumes nothing.
+use mathlib.Core.Path.{_≡_}
+use mathlib.Core.List.{List}
+use Prim.Native.Nat.{ℕ, _*_, _≤_}
 use native.Mathlib.Omega.{arith}
-use lib.ListN.{length, length-append}
-use Rattle.lexicon.specs.Values.{TextOf, quotes, bare, coded}
+use lib.ListN.{length}
 use Rattle.reading.specs.declared.Answer.{Answer}
 use Rattle.reading.specs.declared.Rules.{Rules}
-use Rattle.values.specs.Text.{BadText, TextAnswers, tooLong, notUtf8, notText, bad, noRoom, accepted}
-use Rattle.lexicon.specs.Encode.{encode, encoded}
-use Rattle.values.proofs.Characters.{quoted-bytes, word-same}
-use Rattle.values.proofs.Spelled.{code-short, quoted-short, read-length}
-use Rattle.values.proofs.Texts.{text-scalars}
+use Rattle.values.specs.Bytes.{Call, BadPiece, PieceBytes, BytesAnswers, tooLong, notUtf8, notTheLiteral, bad, noRoom, accepted}
 
-module _ (piece : List ℕ) where
-  -- the bytes of a Text that is not bad
-  pub text-short : (BadText piece → ⊥) → {cs : List ℕ} → TextOf piece 0 (length piece) cs → length (encoded cs) ≤ length piece
-  text-short good (quotes q) = omega (arith, quoted-short piece (quoted-bytes piece q (text-scalars piece good (quotes q)) refl))
-  text-short good (bare t) = omega (arith, ap length (word-same piece t .0), read-length piece 0 (length piece - 0))
-  text-short good (coded {v = v} c) = omega (arith, code-short piece c, length-append (encode v) [])
+-- a value has at most k bytes for each byte of its literal
+pub record Bounded (call : Call) (k : ℕ) : Type 0 where
+  pub at-most : (piece : List ℕ) → (BadPiece call piece → ⊥) → {bs : List ℕ} → PieceBytes call piece bs → length bs ≤ k * length piece
 
-  -- with a buffer as long as the piece no answer is the refusal 8
-  pub enough-room : (rules : Rules) (lent : List ℕ) → length piece ≤ length lent → {a : Answer} {t : List ℕ} →
-      TextAnswers rules piece lent a t → a .number ≡ 8 → ⊥
-  enough-room rules lent r (tooLong h) e = omega (arith, e)
-  enough-room rules lent r (notUtf8 h b) e = omega (arith, e)
-  enough-room rules lent r (notText h w n) e = omega (arith, e)
-  enough-room rules lent r (bad h w x b) e = omega (arith, e)
-  enough-room rules lent r (noRoom h w x g t l) e = omega (arith, r, l, text-short g t)
-  enough-room rules lent r (accepted h w x g t l) e = omega (arith, e)
+-- with a buffer k times as long as the piece no answer is the refusal 8
+pub enough-room : {call : Call} {k : ℕ} → Bounded call k → (rules : Rules) (piece lent : List ℕ) → k * length piece ≤ length lent →
+    {a : Answer} {t : List ℕ} → BytesAnswers call rules piece lent a t → a .number ≡ 8 → ⊥
+enough-room bounded rules piece lent r (tooLong h) e = omega (arith, e)
+enough-room bounded rules piece lent r (notUtf8 h b) e = omega (arith, e)
+enough-room bounded rules piece lent r (notTheLiteral h w n) e = omega (arith, e)
+enough-room bounded rules piece lent r (bad h w x b) e = omega (arith, e)
+enough-room bounded rules piece lent r (noRoom h w x g t l) e = omega (arith, r, l, bounded .at-most piece g t)
+enough-room bounded rules piece lent r (accepted h w x g t l) e = omega (arith, e)

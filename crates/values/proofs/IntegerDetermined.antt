@@ -19,7 +19,8 @@ use Rattle.lexicon.proofs.Integers.{start-same, start-of}
 use Rattle.lexicon.proofs.Numbers.{numeral, numeral-at, number-same, of-nonsigned, to-nonsigned, to-base, valued}
 use Rattle.reading.specs.declared.Rules.{Rules}
 use Rattle.values.specs.declared.IntegerAnswer.{IntegerAnswer}
-use Rattle.values.specs.Integer.{Within, Exactly, answer, refusal, IntegerAnswers, tooLong, notUtf8, notInteger, outside, accepted}
+use Rattle.values.specs.Exactly.{Exactly}
+use Rattle.values.specs.Integer.{Within, answer, refusal, IntegerAnswers, tooLong, notUtf8, notInteger, outside, accepted}
 
 -- ---- a literal's integer
 
@@ -43,7 +44,7 @@ module _ (text : List ℕ) {i j : ℕ} where
 
 -- ---- the token rules
 
-pub exactly-token : (piece : List ℕ) → Exactly piece → Here piece anInteger 0 (length piece)
+pub exactly-token : (piece : List ℕ) → Exactly integer piece → Here piece anInteger 0 (length piece)
 exactly-token piece t = record { takes = t; most = λ m u. inside u (omega arith) }
 
 -- ---- the answer

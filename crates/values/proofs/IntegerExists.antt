@@ -16,7 +16,8 @@ use Rattle.decisions.proofs.Cuts.{takes}
 use Rattle.decisions.proofs.Utf8.{encoded}
 use Rattle.reading.specs.declared.Rules.{Rules}
 use Rattle.values.specs.declared.IntegerAnswer.{IntegerAnswer}
-use Rattle.values.specs.Integer.{Within, Exactly, IntegerAnswers, tooLong, notUtf8, notInteger, outside, accepted}
+use Rattle.values.specs.Exactly.{Exactly}
+use Rattle.values.specs.Integer.{Within, IntegerAnswers, tooLong, notUtf8, notInteger, outside, accepted}
 use Rattle.values.proofs.IntegerDetermined.{has-integer, one-answer}
 
 within-or-not : (z : ℤ) → Within z ⊎ (Within z → ⊥)
@@ -31,11 +32,11 @@ module _ (rules : Rules) (piece : List ℕ) where
   pub some-answer : Answered
   some-answer = long (settled (at-most (length piece) (rules .text)))
     where
-      sized : length piece ≤ rules .text → WellFormed piece → Exactly piece → (z : ℤ) → IntegerOf piece 0 (length piece) z → Within z ⊎ (Within z → ⊥) → Answered
+      sized : length piece ≤ rules .text → WellFormed piece → Exactly integer piece → (z : ℤ) → IntegerOf piece 0 (length piece) z → Within z ⊎ (Within z → ⊥) → Answered
       sized h w x z v (inl o) = (_, accepted h w x v o)
       sized h w x z v (inr o) = (_, outside h w x v o)
 
-      found : length piece ≤ rules .text → WellFormed piece → Exactly piece ⊎ (Exactly piece → ⊥) → Answered
+      found : length piece ≤ rules .text → WellFormed piece → Exactly integer piece ⊎ (Exactly integer piece → ⊥) → Answered
       found h w (inl x) = let v = has-integer piece x in sized h w x (v .0) (v .1) (within-or-not (v .0))
       found h w (inr n) = (_, notInteger h w n)
 

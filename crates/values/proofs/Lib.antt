@@ -9,7 +9,7 @@ pub mod Characters
 pub mod Values
 pub mod Short
 pub mod Formed
-pub mod Texts
+pub mod BytesDetermined
+pub mod BytesExists
 pub mod Fits
-pub mod TextDetermined
-pub mod TextExists
+pub mod Texts

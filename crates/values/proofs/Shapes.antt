@@ -4,7 +4,6 @@ use mathlib.Core.Logic.{inl, inr}
 use mathlib.Core.Bool.{true}
 use mathlib.Core.List.{List}
 use Prim.Native.Nat.{ℕ}
-use lib.ListN.{length}
 use Rattle.rules.specs.Class.{Class, just}
 use Rattle.rules.specs.Rule.{lit, At, Takes, byte, both}
 use Rattle.rules.proofs.Classes.{apart, apartSpan, includes, inSome}
@@ -63,14 +62,14 @@ module _ (piece : List ℕ) where
 
   -- ---- a literal is bad in its own way only
 
-  pub quoted-good : Takes piece quoted 0 (length piece) → (BadQuoted piece 0 (length piece) → ⊥) → BadText piece → ⊥
+  pub quoted-good : {i j : ℕ} → Takes piece quoted i j → (BadQuoted piece i j → ⊥) → BadText piece i j → ⊥
   quoted-good t n (inl b) = n b
   quoted-good t n (inr b) = no-code t (code-takes (b .code))
 
-  pub word-good : Takes piece word 0 (length piece) → BadText piece → ⊥
+  pub word-good : {i j : ℕ} → Takes piece word i j → BadText piece i j → ⊥
   word-good t (inl b) = never-takes piece quote word quote-word (bad-first b) t
   word-good t (inr b) = word-code t (code-takes (b .code))
 
-  pub code-good : Takes piece codePoint 0 (length piece) → (BadCode piece 0 (length piece) → ⊥) → BadText piece → ⊥
+  pub code-good : {i j : ℕ} → Takes piece codePoint i j → (BadCode piece i j → ⊥) → BadText piece i j → ⊥
   code-good t n (inl b) = never-takes piece quote codePoint quote-code (bad-first b) t
   code-good t n (inr b) = n b
