@@ -24,7 +24,8 @@ use Rattle.reading.specs.Sizes.{base}
 use Rattle.values.specs.declared.IntegerAnswer.{IntegerAnswer}
 use Rattle.integer_value.specs.declared.digits.Size.{Size}
 use Rattle.integer_value.specs.declared.digits.Size.the-variants as Size
-use Rattle.values.specs.Integer.{Exactly, refusal, IntegerAnswers, tooLong, notUtf8, notInteger, outside, accepted}
+use Rattle.values.specs.Exactly.{Exactly}
+use Rattle.values.specs.Integer.{refusal, IntegerAnswers, tooLong, notUtf8, notInteger, outside, accepted}
 use Rattle.integer_value.specs.Parts as Parts
 use Rattle.integer_value.specs.Parts.{SignOf, MarkOf, Counted, Total, SignedOf, Valued}
 use Rattle.integer_value.proofs.Numbers.{size-outside}
@@ -33,10 +34,10 @@ use Rattle.integer_value.proofs.Starts.{integer-of}
 module _ (piece : List ℕ) where
   -- ---- exactly one literal
 
-  pub exactly-none : Fails piece integer 0 → Says false (Exactly piece)
+  pub exactly-none : Fails piece integer 0 → Says false (Exactly integer piece)
   exactly-none f = says-no (λ t. f .none t)
 
-  pub exactly-at : {j : ℕ} → Longest piece integer 0 j → Says (eqb j (length piece)) (Exactly piece)
+  pub exactly-at : {j : ℕ} → Longest piece integer 0 j → Says (eqb j (length piece)) (Exactly integer piece)
   exactly-at {j} l =
       record {
         true-holds = λ e. ending (eqb-true j (length piece) e) (l .takes);
@@ -84,10 +85,10 @@ module _ (piece : List ℕ) where
     pub not-utf8 : {p : ℕ} → r ≡ Encoding.BadAt p → a ≡ refusal 3 p → Answered a
     not-utf8 e f = subst Answered (sym f) (notUtf8 h (subst (λ (x : Encoding). Encoded piece x) e u))
 
-    pub not-integer : r ≡ Encoding.WellFormed → (Exactly piece → ⊥) → a ≡ refusal 9 0 → Answered a
+    pub not-integer : r ≡ Encoding.WellFormed → (Exactly integer piece → ⊥) → a ≡ refusal 9 0 → Answered a
     not-integer e n f = subst Answered (sym f) (notInteger h (well-formed r u e) n)
 
-    pub of-literal : r ≡ Encoding.WellFormed → Exactly piece → Valued piece a → Answered a
+    pub of-literal : r ≡ Encoding.WellFormed → Exactly integer piece → Valued piece a → Answered a
     of-literal e x v = go (v .signed)
       where
         go : {c : IntegerAnswer} → SignedOf (length piece) (v .integer) c → Answered c

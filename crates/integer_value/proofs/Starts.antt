@@ -15,6 +15,7 @@ use Rattle.rules.proofs.Classes.{is-just, just-is}
 use Rattle.rules.proofs.Tests.{there, not-there}
 use Rattle.lexicon.specs.declared.Base.{Base}
 use Rattle.lexicon.specs.Bytes.{digits, radix}
+use Rattle.lexicon.specs.Literals.{integer}
 use Rattle.lexicon.specs.Space.{Skips}
 use Rattle.lexicon.specs.Values.{Digits, value, IntegerOf}
 use Rattle.lexicon.proofs.Spaces.{skips-same, landed}
@@ -23,7 +24,7 @@ use Rattle.lexicon.specs.Parts.{Numeral, marked, bare, letter}
 use Rattle.lexicon.proofs.Numbers.{clear, in-marks, bare-short, same-base, valued}
 use Rattle.lexicon.proofs.Integers.{start-sign, of-integer}
 use Rattle.number.proofs.Marks.{start-plus, start-minus, start-other}
-use Rattle.values.specs.Integer.{Exactly}
+use Rattle.values.specs.Exactly.{Exactly}
 use Rattle.integer_value.specs.Parts.{SignOf, MarkOf, hasMark, noMark, Ends}
 
 -- ---- the sign
@@ -72,7 +73,7 @@ module _ (piece : List ℕ) where
   digits-of e (noMark n) (bare d) = d
 
   -- the digits of a literal
-  pub literal-digits : {minus : Bool} {g s : ℕ} {b : Base} → Exactly piece → SignOf piece minus g → MarkOf piece g b s → Ends piece b s
+  pub literal-digits : {minus : Bool} {g s : ℕ} {b : Base} → Exactly integer piece → SignOf piece minus g → MarkOf piece g b s → Ends piece b s
   literal-digits t n m = let x = of-integer piece (n .start) t in record { bytes = x .bytes; digits-are = digits-of refl m (x .is) }
 
   -- and its integer

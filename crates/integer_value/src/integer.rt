@@ -16,7 +16,9 @@ ghost use lib.IntN.{pos, negℤ};
 ghost use lib.ListN.{length};
 ghost use Rattle.rules.specs.Test.{Says};
 ghost use Rattle.reading.specs.Sizes.{base as rules};
-ghost use Rattle.values.specs.Integer.{refusal, Exactly, IntegerAnswers};
+ghost use Rattle.lexicon.specs.Literals.{integer as integerOf};
+ghost use Rattle.values.specs.Exactly.{Exactly};
+ghost use Rattle.values.specs.Integer.{refusal, IntegerAnswers};
 ghost use Rattle.integer_value.specs.Parts.{SignedOf, Valued};
 
 const LONGEST: usize = TEXT;
@@ -36,7 +38,7 @@ fn refused(number: u32, place: usize) -> IntegerAnswer
 
 // Whether the piece is exactly one Integer literal.
 fn exactly(piece: &[u8]) -> bool
-    ensures { λ r. ⌜ Says r (Exactly (now (piece .entry))) ⌝ }
+    ensures { λ r. ⌜ Says r (Exactly integerOf (now (piece .entry))) ⌝ }
 {
     let Found::At(end) = number::integer::integer(piece, 0) else {
         return false;
@@ -84,7 +86,7 @@ fn signed(minus: bool, size: u64, place: usize) -> IntegerAnswer
 
 // The answer for a piece that is a literal.
 fn literal(piece: &[u8]) -> IntegerAnswer
-    requires { ⌜ Exactly (now piece) ⌝ }
+    requires { ⌜ Exactly integerOf (now piece) ⌝ }
     ensures { λ r. ⌜ Valued (now (piece .entry)) r ⌝ }
 {
     let signs = sign(piece);

@@ -24,7 +24,9 @@ use Rattle.reading.specs.Sizes.{base}
 use Rattle.text_value.specs.declared.value.Shape as Shape
 use Rattle.text_value.specs.declared.value.Shape.{Shape}
 use Rattle.text_value.specs.declared.value.Verdict.{Verdict}
-use Rattle.values.specs.Text.{Exactly, BadText, TextAnswers, noRoom, accepted}
+use Rattle.values.specs.Exactly.{Exactly}
+use Rattle.values.specs.Bytes.{noRoom, accepted}
+use Rattle.values.specs.Text.{textLiteral, BadText, TextBytes, TextAnswers}
 use Rattle.lexicon.specs.Encode.{encode, encoded}
 use Rattle.text_value.specs.Parts.{Puts, CodeIs, HasQuoted, WroteQuoted}
 use Rattle.text_value.specs.Shapes.{Shaped, Judged, WroteText}
@@ -47,17 +49,17 @@ module _ (piece : List ℕ) where
   shorter : {r : Rule} {e : ℕ} → Longest piece r 0 e → (e ≡ length piece → ⊥) → Takes piece r 0 (length piece) → ⊥
   shorter l n t = n (le-antisymm (inside (l .takes) (omega arith)) (l .most t))
 
-  pub quoted-other : {e : ℕ} → Longest piece quoted 0 e → (e ≡ length piece → ⊥) → Exactly piece → ⊥
+  pub quoted-other : {e : ℕ} → Longest piece quoted 0 e → (e ≡ length piece → ⊥) → Exactly textLiteral piece → ⊥
   quoted-other l n (left t) = shorter l n t
   quoted-other l n (right (left t)) = no-word piece (l .takes) t
   quoted-other l n (right (right t)) = no-code piece (l .takes) t
 
-  pub word-other : {e : ℕ} → Fails piece quoted 0 → Longest piece word 0 e → (e ≡ length piece → ⊥) → Exactly piece → ⊥
+  pub word-other : {e : ℕ} → Fails piece quoted 0 → Longest piece word 0 e → (e ≡ length piece → ⊥) → Exactly textLiteral piece → ⊥
   word-other f l n (left t) = f .none t
   word-other f l n (right (left t)) = shorter l n t
   word-other f l n (right (right t)) = word-code piece (l .takes) t
 
-  pub code-other : Fails piece quoted 0 → Fails piece word 0 → (Takes piece codePoint 0 (length piece) → ⊥) → Exactly piece → ⊥
+  pub code-other : Fails piece quoted 0 → Fails piece word 0 → (Takes piece codePoint 0 (length piece) → ⊥) → Exactly textLiteral piece → ⊥
   code-other f g n (left t) = f .none t
   code-other f g n (right (left t)) = g .none t
   code-other f g n (right (right t)) = n t
@@ -84,12 +86,12 @@ module _ (piece : List ℕ) where
   pub answered : {lent t : List ℕ} {a b : Answer} → a ≡ b → TextAnswers base piece lent b t → TextAnswers base piece lent a t
   answered {lent} {t} e x = subst (λ (y : Answer). TextAnswers base piece lent y t) (sym e) x
 
-  pub shaped-exact : (s : Shape) → Shaped piece s → Exactly piece
+  pub shaped-exact : (s : Shape) → Shaped piece s → Exactly textLiteral piece
   shaped-exact Shape.the-variants.Quoted x = left (x .0)
   shaped-exact Shape.the-variants.Word x = right (left x)
   shaped-exact Shape.the-variants.CodePoint x = right (right (x .0))
 
-  pub shaped-good : (s : Shape) → Shaped piece s → BadText piece → ⊥
+  pub shaped-good : (s : Shape) → Shaped piece s → BadText piece 0 (length piece) → ⊥
   shaped-good Shape.the-variants.Quoted x = quoted-good piece (x .0) (x .1)
   shaped-good Shape.the-variants.Word x = word-good piece x
   shaped-good Shape.the-variants.CodePoint x = code-good piece (x .0) (x .1)
@@ -130,8 +132,11 @@ module _ (piece : List ℕ) where
 
   -- ---- the answer
 
-  module _ (good : BadText piece → ⊥) where
-    module _ (rules : Rules) (h : length piece ≤ rules .text) (formed : WellFormed piece) (exact : Exactly piece) (lent : List ℕ) where
+  text-bytes : {t t' : List ℕ} {n : ℕ} (w : WroteText piece t t' n) → TextBytes piece 0 (length piece) (encoded (w .characters))
+  text-bytes w = record { characters = w .characters; are = w .is; bytes-are = refl }
+
+  module _ (good : BadText piece 0 (length piece) → ⊥) where
+    module _ (rules : Rules) (h : length piece ≤ rules .text) (formed : WellFormed piece) (exact : Exactly textLiteral piece) (lent : List ℕ) where
       -- what is measured over an empty part leaves the buffer as it is
       kept : {t t' bs : List ℕ} {k n : ℕ} → Puts t k bs t' n → length t ≡ 0 → t' ++ lent ≡ lent
       kept {t' = t'} p z = go t' (puts-length p ∙ z)
@@ -147,7 +152,7 @@ module _ (piece : List ℕ) where
             let e : length (encoded (v .characters)) ≡ m = omega (arith, v .puts .ends) in
             subst (λ (x : List ℕ). TextAnswers rules piece lent (answer 8 (length piece) m) x) (sym k)
             (subst (λ (n : ℕ). TextAnswers rules piece lent (answer 8 (length piece) n) lent) e
-            (noRoom h formed exact good (v .is) (omega (arith, e, l, ap length k))))
+            (noRoom h formed exact good (text-bytes v) (omega (arith, e, l, ap length k))))
 
         pub fits : {u : List ℕ} {n : ℕ} → m ≤ length (t' ++ lent) → WroteText piece (t' ++ lent) u n →
             TextAnswers rules piece lent (answer 0 (length piece) n) u
@@ -159,4 +164,4 @@ module _ (piece : List ℕ) where
             let p : Puts lent 0 b u n = subst (λ (x : List ℕ). Puts x 0 b u n) k (w .puts) in
             subst (λ (j : ℕ). TextAnswers rules piece lent (answer 0 (length piece) j) u) e
             (subst (λ (x : List ℕ). TextAnswers rules piece lent (answer 0 (length piece) (length b)) x) (sym (puts-start p g))
-            (accepted h formed exact good (w .is) g))
+            (accepted h formed exact good (text-bytes w) g))

@@ -10,7 +10,8 @@ use Rattle.text_value.specs.declared.value.Shape as Shape
 use Rattle.text_value.specs.declared.value.Shape.{Shape}
 use Rattle.text_value.specs.declared.value.Verdict as Verdict
 use Rattle.text_value.specs.declared.value.Verdict.{Verdict}
-use Rattle.values.specs.Text.{Exactly, BadText}
+use Rattle.values.specs.Exactly.{Exactly}
+use Rattle.values.specs.Text.{textLiteral, BadText}
 use Rattle.lexicon.specs.Encode.{encoded}
 use Rattle.text_value.specs.Parts.{Puts}
 
@@ -22,8 +23,8 @@ module _ (piece : List ℕ) where
   Shaped Shape.the-variants.CodePoint = Takes piece codePoint 0 (length piece) × (BadCode piece 0 (length piece) → ⊥)
 
   abbrev pub Judged : Verdict → Type 0
-  Judged Verdict.the-variants.Other = Exactly piece → ⊥
-  Judged Verdict.the-variants.Bad = Exactly piece × BadText piece
+  Judged Verdict.the-variants.Other = Exactly textLiteral piece → ⊥
+  Judged Verdict.the-variants.Bad = Exactly textLiteral piece × BadText piece 0 (length piece)
   Judged (Verdict.the-variants.Good shape) = Shaped shape
 
   -- its characters are written from the start of t

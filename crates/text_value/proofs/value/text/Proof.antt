@@ -1,6 +1,6 @@
 -- `text_value::value::text` meets its contract. Assumes nothing.
 use borrow.Author.Needs.{needs}
-use Rattle.values.specs.Text.{tooLong, notUtf8, notText, bad}
+use Rattle.values.specs.Bytes.{tooLong, notUtf8, notTheLiteral, bad}
 use Rattle.text_value.proofs.Texts.{encoded-as, judged-as, answered}
 use Rattle.text_value.proofs.value.text.Statement.{statement}
 use Rattle.text_value.proofs.value.text.Tie as tie
@@ -51,7 +51,7 @@ returns-2 c =
 
 returns-3 : tie.Need-returns-3
 returns-3 c =
-    answered _ (c .refused3 .ensures) (notText (c .before .before .before .before .before .before .before .if1 .left) (encoded-as _ (c .before .before .before .before .enum-told .given .1) (c .before .before .before .before .before .before .utf8 .ensures)) (judged-as _ (c .before .enum-told2 .given .1) (c .before .before .before .judge .ensures)))
+    answered _ (c .refused3 .ensures) (notTheLiteral (c .before .before .before .before .before .before .before .if1 .left) (encoded-as _ (c .before .before .before .before .enum-told .given .1) (c .before .before .before .before .before .before .utf8 .ensures)) (judged-as _ (c .before .enum-told2 .given .1) (c .before .before .before .judge .ensures)))
 
 returns-4 : tie.Need-returns-4
 returns-4 c =
