@@ -13,3 +13,4 @@ pub mod BytesDetermined
 pub mod BytesExists
 pub mod Fits
 pub mod Texts
+pub mod BitsAndBlobs
