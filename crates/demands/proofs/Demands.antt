@@ -12,7 +12,12 @@ use Rattle.reading.specs.Answers.{Reading, Answers, nodesOf, noLevel, tooLong, 
 use Rattle.reading.proofs.Unique.{one-answer}
 use Rattle.reading.proofs.Agree.{levels-agree}
 use Rattle.values.proofs.IntegerExists as IntegerExists
-use Rattle.values.proofs.TextExists as TextExists
+use Rattle.values.specs.Text.{textCall}
+use Rattle.values.specs.Bits.{bitsCall}
+use Rattle.values.specs.Blob.{blobCall}
+use Rattle.values.proofs.BytesExists as BytesExists
+use Rattle.values.proofs.Texts.{text-settled}
+use Rattle.values.proofs.BitsAndBlobs.{bits-settled, blob-settled}
 use Rattle.demands.specs.Demands.{ValueAnswers, Answered, Demand1, Demand2, Demand3, Demands}
 use Rattle.demands.proofs.Derived.{decides}
 use Rattle.demands.proofs.Exists.{some-reading}
@@ -40,7 +45,12 @@ pub every-answer : Demand1
 every-answer rules bytes lent number = let x = some-reading rules bytes lent number in (x .0, x .1, answered rules bytes lent (x .2))
 
 pub every-value : ValueAnswers
-every-value rules piece lent = (IntegerExists.exactly-one rules piece, TextExists.exactly-one rules piece lent)
+every-value rules piece lent = (
+  IntegerExists.exactly-one rules piece,
+  BytesExists.exactly-one textCall text-settled rules piece lent,
+  BytesExists.exactly-one bitsCall bits-settled rules piece lent,
+  BytesExists.exactly-one blobCall blob-settled rules piece lent,
+)
 
 pub every-decision : Demand2
 every-decision rules bytes lent number r left a =

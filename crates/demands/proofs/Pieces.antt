@@ -1,13 +1,13 @@
 -- The value calls on the nodes of an accepted text: a node's piece is its literal, and the answer is what the grammar gives there.
 -- Assumes nothing.
-use mathlib.Core.Path.{_≡_, refl, sym, ap, subst, _∙_}
+use mathlib.Core.Path.{_≡_, refl, sym, ap, subst}
 use mathlib.Core.Bool.{true}
 use mathlib.Core.List.{List, [], _++_}
 use Prim.Native.Nat.{ℕ, _-_, _≤_}
 use native.Mathlib.Omega.{arith}
 use lib.ListN.{length, drop}
 use Rattle.rules.specs.Every.{Every, none, also}
-use Rattle.rules.specs.Rule.{left, right}
+use Rattle.rules.specs.Rule.{Takes, left, right}
 use Rattle.rules.proofs.Every.{every-map}
 use Rattle.rules.proofs.Windows.{piece-length}
 use Rattle.lexicon.specs.declared.Sign.{Sign}
@@ -16,16 +16,18 @@ use Rattle.lexicon.specs.declared.Form.the-variants.{Quoted, Word, HeadWord, Co
 use Rattle.lexicon.specs.declared.Kind.{Kind}
 use Rattle.lexicon.specs.declared.Kind.the-variants as Kind
 use Rattle.lexicon.specs.Utf8.{WellFormed}
-use Rattle.lexicon.specs.Encode.{encoded}
-use Rattle.lexicon.specs.Token.{Is, Bad}
+use Rattle.lexicon.specs.Literals.{integer, bits, blob}
+use Rattle.lexicon.specs.Token.{Told, Is, Bad}
 use Rattle.lexicon.proofs.Determined.{formed-or-bad}
 use Rattle.lexicon.proofs.Unique.{token-forward}
-use Rattle.lexicon.proofs.Pieces.{token-within, token-formed, token-alone, bad-there, integer-there, text-there}
-use Rattle.grammar.specs.Tokens.{Tok, Class, atom, text, names, round, curly, square, mark, later, classSign, classKind}
+use Rattle.lexicon.proofs.Pieces.{token-within, token-formed, token-alone, bad-there, integer-there, text-there, bits-there, blob-there, no-bytes-there}
+use Rattle.grammar.specs.Tokens.{Tok, Class, atom, names, round, curly, square, mark, later, classSign, classKind}
+use Rattle.grammar.specs.Tokens as Tokens
 use Rattle.grammar.specs.Tree.{Value}
 use Rattle.grammar.specs.Yield.{yieldValue}
 use Rattle.grammar.specs.Level.{Level}
-use Rattle.grammar.specs.Nodes.{NodeKind, Node, anInteger, aText, kindNumber, atomKind}
+use Rattle.grammar.specs.Nodes.{NodeKind, Node, anIgnorance, aBoolean, anInteger, aFraction, aBits, aBlob, aText, aNesting, atomKind}
+use Rattle.grammar.specs.Nodes.{aPair, aTuple, aLot, anArray, aSet, aBag, anInterval}
 use Rattle.grammar.specs.Leaves.{Written, isLiteral}
 use Rattle.grammar.specs.Leaves as Leaves
 use Rattle.grammar.proofs.Leaves.{TokenOf, IfLiteral, table-leaves}
@@ -38,12 +40,16 @@ use Rattle.reading.proofs.Rows.{append}
 use Rattle.values.specs.declared.IntegerAnswer.{IntegerAnswer}
 use Rattle.values.specs.Integer.{IntegerAnswers}
 use Rattle.values.specs.Integer as Integer
-use Rattle.values.specs.Text.{TextAnswers}
-use Rattle.values.specs.Text as Text
+use Rattle.values.specs.Exactly.{Exactly}
+use Rattle.values.specs.Bytes.{Call, BadPiece, PieceBytes, BytesAnswers}
+use Rattle.values.specs.Bytes as Bytes
+use Rattle.values.specs.Text.{textLiteral, textCall, BadText}
+use Rattle.values.specs.Bits.{bitsCall}
+use Rattle.values.specs.Blob.{blobCall}
 use Rattle.values.proofs.Shapes.{quoted-good, word-good, code-good}
 use Rattle.demands.specs.Derived.{Derived, Shows}
 use Rattle.demands.proofs.Derived.{decides}
-use Rattle.demands.specs.Pieces.{piece, Lone, GivesInteger, GivesText, NodePiece, Pieces}
+use Rattle.demands.specs.Pieces.{piece, Lone, GivesInteger, GivesBytes, Gives, NodePiece, Pieces}
 
 module _ (bytes : List ℕ) where
   -- ---- every token of a derivation stands in the text, and its value is not bad
@@ -84,69 +90,72 @@ module _ (bytes : List ℕ) where
 
 -- ---- the tokens of a node's kind
 
--- the number of the kind of a node that is one token; 0 for other tokens
-abbrev tag : Class → ℕ
-tag (atom a) = kindNumber (atomKind a)
-tag (text w) = kindNumber aText
-tag names = 0
-tag round = 0
-tag curly = 0
-tag square = 0
-tag (mark m) = 0
-tag later = 0
-
-written-tag : {k : NodeKind} {c : Class} → Written k c → tag c ≡ kindNumber k
-written-tag (Leaves.literal a) = refl
-written-tag (Leaves.text w) = refl
-
-sign-tag : (s : Sign) → tag (classSign s) ≡ 0
-sign-tag RoundOpen = refl
-sign-tag RoundClose = refl
-sign-tag CurlyOpen = refl
-sign-tag CurlyClose = refl
-sign-tag SquareOpen = refl
-sign-tag SquareClose = refl
-sign-tag Comma = refl
-sign-tag ArrowRight = refl
-sign-tag ArrowLeft = refl
-sign-tag Dots = refl
-sign-tag (Star low high) = refl
-
-module _ (text : List ℕ) where
-  -- an Integer's token is an Integer literal
-  integer-exact : (k : Kind) → tag (classKind k) ≡ 3 → Is text k 0 (length text) → Integer.Exactly text
-  integer-exact Kind.Ignorance e t = absurd (omega (arith, e))
-  integer-exact (Kind.Boolean b) e t = absurd (omega (arith, e))
-  integer-exact (Kind.Integer signed) e t = t .told .0 .takes
-  integer-exact Kind.Fraction e t = absurd (omega (arith, e))
-  integer-exact Kind.Bits e t = absurd (omega (arith, e))
-  integer-exact Kind.Blob e t = absurd (omega (arith, e))
-  integer-exact (Kind.Text f) e t = absurd (omega (arith, e))
-  integer-exact Kind.Later e t = absurd (omega (arith, e))
-  integer-exact (Kind.Symbol s) e t = absurd (omega (arith, e, sign-tag s))
-  integer-exact Kind.Colon e t = absurd (omega (arith, e))
-  integer-exact Kind.TwoColons e t = absurd (omega (arith, e))
-
-  -- a Text's token is a Text literal, and not a bad one
+module _ (text : List ℕ) (i j : ℕ) where
   record GoodText : Type 0 where
-    exact : Text.Exactly text
-    good : Text.BadText text → ⊥
+    takes : Takes text textLiteral i j
+    good : BadText text i j → ⊥
 
-  text-exact : (k : Kind) → tag (classKind k) ≡ 7 → Is text k 0 (length text) → (Bad text k 0 (length text) → ⊥) → GoodText
-  text-exact Kind.Ignorance e t n = absurd (omega (arith, e))
-  text-exact (Kind.Boolean b) e t n = absurd (omega (arith, e))
-  text-exact (Kind.Integer signed) e t n = absurd (omega (arith, e))
-  text-exact Kind.Fraction e t n = absurd (omega (arith, e))
-  text-exact Kind.Bits e t n = absurd (omega (arith, e))
-  text-exact Kind.Blob e t n = absurd (omega (arith, e))
-  text-exact (Kind.Text Quoted) e t n = let x = t .told .takes in record { exact = left x; good = quoted-good text x n }
-  text-exact (Kind.Text Word) e t n = let x = t .told .0 .takes in record { exact = right (left x); good = word-good text x }
-  text-exact (Kind.Text (HeadWord h)) e t n = let x = t .told .0 .takes in record { exact = right (left x); good = word-good text x }
-  text-exact (Kind.Text CodePoint) e t n = let x = t .told .takes in record { exact = right (right x); good = code-good text x n }
-  text-exact Kind.Later e t n = absurd (omega (arith, e))
-  text-exact (Kind.Symbol s) e t n = absurd (omega (arith, e, sign-tag s))
-  text-exact Kind.Colon e t n = absurd (omega (arith, e))
-  text-exact Kind.TwoColons e t n = absurd (omega (arith, e))
+  -- what stands from i to j for a node of a kind that a value call takes
+  abbrev Exact : NodeKind → Type 0
+  Exact anInteger = Takes text integer i j
+  Exact aBits = Takes text bits i j
+  Exact aBlob = Takes text blob i j
+  Exact aText = GoodText
+  Exact anIgnorance = Unit {0}
+  Exact aBoolean = Unit {0}
+  Exact aFraction = Unit {0}
+  Exact aNesting = Unit {0}
+  Exact aPair = Unit {0}
+  Exact aTuple = Unit {0}
+  Exact aLot = Unit {0}
+  Exact anArray = Unit {0}
+  Exact aSet = Unit {0}
+  Exact aBag = Unit {0}
+  Exact anInterval = Unit {0}
+
+  -- the same of a token of a class
+  abbrev ExactClass : Class → Type 0
+  ExactClass (atom a) = Exact (atomKind a)
+  ExactClass (Tokens.text w) = GoodText
+  ExactClass names = Unit {0}
+  ExactClass round = Unit {0}
+  ExactClass curly = Unit {0}
+  ExactClass square = Unit {0}
+  ExactClass (mark m) = Unit {0}
+  ExactClass later = Unit {0}
+
+  of-written : {n : NodeKind} {c : Class} → Written n c → ExactClass c → Exact n
+  of-written (Leaves.literal a) x = x
+  of-written (Leaves.text w) x = x
+
+  of-sign : (s : Sign) → ExactClass (classSign s)
+  of-sign RoundOpen = tt
+  of-sign RoundClose = tt
+  of-sign CurlyOpen = tt
+  of-sign CurlyClose = tt
+  of-sign SquareOpen = tt
+  of-sign SquareClose = tt
+  of-sign Comma = tt
+  of-sign ArrowRight = tt
+  of-sign ArrowLeft = tt
+  of-sign Dots = tt
+  of-sign (Star low high) = tt
+
+  of-token : (k : Kind) → Told text k i j → (Bad text k i j → ⊥) → ExactClass (classKind k)
+  of-token Kind.Ignorance t n = tt
+  of-token (Kind.Boolean b) t n = tt
+  of-token (Kind.Integer signed) t n = t .0 .takes
+  of-token Kind.Fraction t n = tt
+  of-token Kind.Bits t n = t .takes
+  of-token Kind.Blob t n = t .takes
+  of-token (Kind.Text Quoted) t n = record { takes = left (t .takes); good = quoted-good text (t .takes) n }
+  of-token (Kind.Text Word) t n = let x = t .0 .takes in record { takes = right (left x); good = word-good text x }
+  of-token (Kind.Text (HeadWord h)) t n = let x = t .0 .takes in record { takes = right (left x); good = word-good text x }
+  of-token (Kind.Text CodePoint) t n = record { takes = right (right (t .takes)); good = code-good text (t .takes) n }
+  of-token Kind.Later t n = tt
+  of-token (Kind.Symbol s) t n = of-sign s
+  of-token Kind.Colon t n = tt
+  of-token Kind.TwoColons t n = tt
 
 -- ---- the calls
 
@@ -157,36 +166,57 @@ module _ (rules : Rules) (bytes : List ℕ) (n : Node) (l : Lone rules bytes n) 
   size : length own ≡ n .at .end - n .at .first
   size = piece-length bytes (omega (arith, token-forward bytes (l .there))) (token-within bytes (l .kind) (l .there))
 
+  -- the piece is exactly such a literal
+  exact : {k : NodeKind} → n .kind ≡ k → Exact own 0 (length own) k
+  exact e = subst (Exact own 0 (length own)) e (of-written own 0 (length own) (l .written) (of-token own 0 (length own) (l .kind) (l .alone .told) (l .alone-sound)))
+
+  -- and in the text a Text is not bad
+  text-good : n .kind ≡ aText → BadText bytes (n .at .first) (n .at .end) → ⊥
+  text-good e =
+      let i = n .at .first in let j = n .at .end in
+      let x : GoodText bytes i j = subst (Exact bytes i j) e (of-written bytes i j (l .written) (of-token bytes i j (l .kind) (l .there .told) (l .there-sound))) in
+      x .good
+
   integer-given : n .kind ≡ anInteger → (r : IntegerAnswer) → IntegerAnswers rules own r → GivesInteger bytes (n .at) r
   integer-given e r a = go a
     where
-      exact : Integer.Exactly own
-      exact = integer-exact own (l .kind) (written-tag (l .written) ∙ ap kindNumber e) (l .alone)
-
       go : {r : IntegerAnswer} → IntegerAnswers rules own r → GivesInteger bytes (n .at) r
       go (Integer.tooLong h) = absurd (omega (arith, h, l .short))
       go (Integer.notUtf8 h b) = absurd (formed-or-bad own (l .formed) b)
-      go (Integer.notInteger h w x) = absurd (x exact)
+      go (Integer.notInteger h w x) = absurd (x (exact e))
       go (Integer.outside h w x v o) = GivesInteger.outside (integer-there bytes _ (l .there) v) o
       go (Integer.accepted {z} h w x v o) =
           subst (λ (m : ℕ). GivesInteger bytes (n .at) (Integer.answer 0 m z)) (sym size) (GivesInteger.accepted (integer-there bytes _ (l .there) v) o)
 
-  text-given : n .kind ≡ aText → (lent : List ℕ) (r : Answer) (t : List ℕ) → TextAnswers rules own lent r t → GivesText bytes (n .at) lent r t
-  text-given e lent r t a = go a
-    where
-      exact : GoodText own
-      exact = text-exact own (l .kind) (written-tag (l .written) ∙ ap kindNumber e) (l .alone) (l .alone-sound)
+  -- one law for the calls that hand back bytes, by what of the piece is also of the text there
+  module _ (call : Call) (exact : Exactly (call .literal) own)
+      (bytes-there : (bs : List ℕ) → PieceBytes call own bs → call .Bytes bytes (n .at .first) (n .at .end) bs)
+      (bad-there : BadPiece call own → call .Bad bytes (n .at .first) (n .at .end)) where
+    bytes-given : Gives call rules bytes n
+    bytes-given lent r t a = go a
+      where
+        go : {r : Answer} {t : List ℕ} → BytesAnswers call rules own lent r t → GivesBytes bytes (n .at) call lent r t
+        go (Bytes.tooLong h) = absurd (omega (arith, h, l .short))
+        go (Bytes.notUtf8 h b) = absurd (formed-or-bad own (l .formed) b)
+        go (Bytes.notTheLiteral h w x) = absurd (x exact)
+        go (Bytes.bad h w x b) = GivesBytes.bad (bad-there b)
+        go (Bytes.noRoom {bs} h w x g v o) =
+            subst (λ (m : ℕ). GivesBytes bytes (n .at) call lent (answer 8 m (length bs)) lent) (sym size) (GivesBytes.noRoom (bytes-there bs v) o)
+        go (Bytes.accepted {bs} h w x g v o) =
+            subst (λ (m : ℕ). GivesBytes bytes (n .at) call lent (answer 0 m (length bs)) (bs ++ drop (length bs) lent)) (sym size)
+            (GivesBytes.accepted (bytes-there bs v) o)
 
-      go : {r : Answer} {t : List ℕ} → TextAnswers rules own lent r t → GivesText bytes (n .at) lent r t
-      go (Text.tooLong h) = absurd (omega (arith, h, l .short))
-      go (Text.notUtf8 h b) = absurd (formed-or-bad own (l .formed) b)
-      go (Text.notText h w x) = absurd (x (exact .exact))
-      go (Text.bad h w x b) = absurd (exact .good b)
-      go (Text.noRoom {cs} h w x g v o) =
-          subst (λ (m : ℕ). GivesText bytes (n .at) lent (answer 8 m (length (encoded cs))) lent) (sym size) (GivesText.noRoom (text-there bytes _ (l .there) v) o)
-      go (Text.accepted {cs} h w x g v o) =
-          subst (λ (m : ℕ). GivesText bytes (n .at) lent (answer 0 m (length (encoded cs))) (encoded cs ++ drop (length (encoded cs)) lent)) (sym size)
-          (GivesText.accepted (text-there bytes _ (l .there) v) o)
+  text-given : n .kind ≡ aText → Gives textCall rules bytes n
+  text-given e =
+      let x = exact e in
+      bytes-given textCall (x .takes)
+      (λ bs y. record { characters = y .characters; are = text-there bytes _ (l .there) (y .are); bytes-are = y .bytes-are }) (λ b. absurd (x .good b))
+
+  bits-given : n .kind ≡ aBits → Gives bitsCall rules bytes n
+  bits-given e = bytes-given bitsCall (exact e) (λ bs y. bits-there bytes _ (l .there) y) (λ b. b)
+
+  blob-given : n .kind ≡ aBlob → Gives blobCall rules bytes n
+  blob-given e = bytes-given blobCall (exact e) (λ bs y. blob-there bytes _ (l .there) y) (λ b. no-bytes-there bytes _ (l .there) b)
 
 -- ---- the nodes of an accepted text
 
@@ -196,8 +226,11 @@ module _ (rules : Rules) (bytes : List ℕ) where
       let own : isLiteral (n .kind) ≡ true → Lone rules bytes n = λ e. lone bytes rules h w n (f e) in
       record {
         literal = own;
-        integer = λ e r a. integer-given rules bytes n (own (ap isLiteral e)) e r a;
-        text = λ e lent r t a. text-given rules bytes n (own (ap isLiteral e)) e lent r t a;
+        integer = λ e. integer-given rules bytes n (own (ap isLiteral e)) e;
+        text = λ e. text-given rules bytes n (own (ap isLiteral e)) e;
+        text-good = λ e. text-good rules bytes n (own (ap isLiteral e)) e;
+        bits = λ e. bits-given rules bytes n (own (ap isLiteral e)) e;
+        blob = λ e. blob-given rules bytes n (own (ap isLiteral e)) e;
       }
 
   pub pieces : {l : Level} {v : Value} → length bytes ≤ rules .text → WellFormed bytes → Derived (rules .limits) l bytes v → Pieces rules bytes v

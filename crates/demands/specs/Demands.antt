@@ -12,7 +12,10 @@ use Rattle.reading.specs.Answers.{Answers}
 use Rattle.reading.specs.Agree.{Agree}
 use Rattle.values.specs.declared.IntegerAnswer.{IntegerAnswer}
 use Rattle.values.specs.Integer.{IntegerAnswers}
-use Rattle.values.specs.Text.{TextAnswers}
+use Rattle.values.specs.Bytes.{Call, BytesAnswers}
+use Rattle.values.specs.Text.{textCall}
+use Rattle.values.specs.Bits.{bitsCall}
+use Rattle.values.specs.Blob.{blobCall}
 use Rattle.demands.specs.Derived.{Acceptable, Decides}
 use Rattle.demands.specs.Pieces.{Pieces}
 
@@ -35,14 +38,23 @@ Demand1 =
     (rules : Rules) (bytes lent : List ℕ) (number : ℕ) →
     (r : Answer) × (left : List ℕ) × Answered rules bytes lent number r left
 
+-- the Integer call has an answer for a piece, and no other
+abbrev pub OneInteger : Rules → List ℕ → Type 0
+OneInteger rules piece =
+    (r : IntegerAnswer) × IntegerAnswers rules piece r × ((s : IntegerAnswer) → IntegerAnswers rules piece s → r ≡ s)
+
+-- a call that hands back bytes has an answer for a piece and a buffer, and no other
+abbrev pub OneOf : Call → Rules → (piece lent : List ℕ) → Type 0
+OneOf call rules piece lent =
+    (r : Answer) × (left : List ℕ) × BytesAnswers call rules piece lent r left ×
+    ((s : Answer) (u : List ℕ) → BytesAnswers call rules piece lent s u → (r ≡ s) × (left ≡ u))
+
 -- the value calls too have an answer for every piece and buffer, and no other: `every-value`
 abbrev pub ValueAnswers : Type 0
 ValueAnswers =
     (rules : Rules) (piece lent : List ℕ) →
-    ((z : IntegerAnswer) × IntegerAnswers rules piece z ×
-    ((y : IntegerAnswer) → IntegerAnswers rules piece y → z ≡ y)) ×
-    ((r : Answer) × (left : List ℕ) × TextAnswers rules piece lent r left ×
-    ((s : Answer) (u : List ℕ) → TextAnswers rules piece lent s u → (r ≡ s) × (left ≡ u)))
+    OneInteger rules piece × OneOf textCall rules piece lent × OneOf bitsCall rules piece lent ×
+    OneOf blobCall rules piece lent
 
 -- ---- 2. 'At levels 1 and 2, a text is accepted exactly when the MUON grammar, as condensed in document 01, derives
 -- it, no literal in it has a bad value and it keeps the size rules there. The node table is that derivation, node for
@@ -52,7 +64,7 @@ ValueAnswers =
 pub record Derives (rules : Rules) (bytes lent : List ℕ) (number : ℕ) (r : Answer) (left : List ℕ) : Type 0 where
   -- accepted exactly when derived, and the table then
   pub decides : Decides rules bytes lent number r left
-  -- what the value calls answer for the bytes of an Integer or Text node of an accepted text
+  -- what the value calls answer for the bytes of an Integer, Text, Bits or Blob node of an accepted text
   pub values : (v : Value) → Acceptable rules bytes lent number v → Pieces rules bytes v
 
 -- `every-decision`

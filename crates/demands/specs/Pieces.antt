@@ -1,6 +1,6 @@
--- 'The values of integers and texts are those the grammar gives them': what the value calls answer for a node of an
--- accepted text, given the text from the node's first byte to its end. Proved in proofs/Pieces.antt (`pieces`).
--- Assumes nothing.
+-- 'The values of integers and texts are those the grammar gives them', and so are those of Bits and Blobs: what the
+-- value calls answer for a node of an accepted text, given the text from the node's first byte to its end. Proved in
+-- proofs/Pieces.antt (`pieces`). Assumes nothing.
 use mathlib.Core.Path.{_≡_}
 use mathlib.Core.Bool.{true}
 use mathlib.Core.List.{List, _++_}
@@ -11,12 +11,11 @@ use Rattle.rules.specs.Every.{Every}
 use Rattle.rules.specs.Plain.{between}
 use Rattle.lexicon.specs.declared.Kind.{Kind}
 use Rattle.lexicon.specs.Utf8.{WellFormed}
-use Rattle.lexicon.specs.Encode.{encoded}
-use Rattle.lexicon.specs.Values.{IntegerOf, TextOf}
+use Rattle.lexicon.specs.Values.{IntegerOf}
 use Rattle.lexicon.specs.Token.{Is, Bad}
 use Rattle.grammar.specs.Tokens.{Span, classKind}
 use Rattle.grammar.specs.Tree.{Value}
-use Rattle.grammar.specs.Nodes.{Node, anInteger, aText, table}
+use Rattle.grammar.specs.Nodes.{Node, anInteger, aBits, aBlob, aText, table}
 use Rattle.grammar.specs.Leaves.{Written, isLiteral}
 use Rattle.reading.specs.declared.Answer.{Answer}
 use Rattle.reading.specs.declared.Rules.{Rules}
@@ -24,7 +23,10 @@ use Rattle.reading.specs.Answers.{answer}
 use Rattle.values.specs.declared.IntegerAnswer.{IntegerAnswer}
 use Rattle.values.specs.Integer.{Within, refusal, IntegerAnswers}
 use Rattle.values.specs.Integer as Integer
-use Rattle.values.specs.Text.{TextAnswers}
+use Rattle.values.specs.Bytes.{Call, BytesAnswers}
+use Rattle.values.specs.Text.{BadText, textCall}
+use Rattle.values.specs.Bits.{bitsCall}
+use Rattle.values.specs.Blob.{blobCall}
 
 -- the piece of a node
 abbrev pub piece : List ℕ → Span → List ℕ
@@ -51,14 +53,20 @@ module _ (bytes : List ℕ) (s : Span) where
     outside : {z : ℤ} → IntegerOf bytes (s .first) (s .end) z → (Within z → ⊥) →
         GivesInteger (refusal 10 0)
 
-  -- those of the Text call: 0 with the characters that the grammar gives at this place of the text, or 8 where the
-  -- buffer is too short for them
-  pub data GivesText (lent : List ℕ) : Answer → List ℕ → Type 0 where
-    accepted : {cs : List ℕ} → TextOf bytes (s .first) (s .end) cs → length (encoded cs) ≤ length lent →
-        GivesText lent (answer 0 (s .end - s .first) (length (encoded cs)))
-        (encoded cs ++ drop (length (encoded cs)) lent)
-    noRoom : {cs : List ℕ} → TextOf bytes (s .first) (s .end) cs → length lent < length (encoded cs) →
-        GivesText lent (answer 8 (s .end - s .first) (length (encoded cs))) lent
+  -- those of a call that hands back bytes: 0 with the bytes that the grammar gives at this place of the text, 8 where
+  -- the buffer is too short for them, or 5 where the value there is bad
+  pub data GivesBytes (call : Call) (lent : List ℕ) : Answer → List ℕ → Type 0 where
+    accepted : {bs : List ℕ} → call .Bytes bytes (s .first) (s .end) bs → length bs ≤ length lent →
+        GivesBytes call lent (answer 0 (s .end - s .first) (length bs)) (bs ++ drop (length bs) lent)
+    noRoom : {bs : List ℕ} → call .Bytes bytes (s .first) (s .end) bs → length lent < length bs →
+        GivesBytes call lent (answer 8 (s .end - s .first) (length bs)) lent
+    bad : call .Bad bytes (s .first) (s .end) → GivesBytes call lent (answer 5 0 0) lent
+
+-- such a call on the piece of a node, with any buffer
+abbrev pub Gives : Call → Rules → List ℕ → Node → Type 0
+Gives call rules bytes n =
+    (lent : List ℕ) (r : Answer) (left : List ℕ) →
+    BytesAnswers call rules (piece bytes (n .at)) lent r left → GivesBytes bytes (n .at) call lent r left
 
 -- one law for every kind of literal, and what follows for each call; brackets and Nestings are no literals, and the
 -- Texts inside a Nesting have no nodes
@@ -66,8 +74,13 @@ pub record NodePiece (rules : Rules) (bytes : List ℕ) (n : Node) : Type 0 wher
   pub literal : isLiteral (n .kind) ≡ true → Lone rules bytes n
   pub integer : n .kind ≡ anInteger → (r : IntegerAnswer) →
       IntegerAnswers rules (piece bytes (n .at)) r → GivesInteger bytes (n .at) r
-  pub text : n .kind ≡ aText → (lent : List ℕ) (r : Answer) (left : List ℕ) →
-      TextAnswers rules (piece bytes (n .at)) lent r left → GivesText bytes (n .at) lent r left
+  pub text : n .kind ≡ aText → Gives textCall rules bytes n
+  -- and never 5: the value of a Text in an accepted text is not bad
+  pub text-good : n .kind ≡ aText → BadText bytes (n .at .first) (n .at .end) → ⊥
+  -- never 5 either: no value of Bits is bad
+  pub bits : n .kind ≡ aBits → Gives bitsCall rules bytes n
+  -- 5 if no bytes have the bits that the Blob says
+  pub blob : n .kind ≡ aBlob → Gives blobCall rules bytes n
 
 -- of every node of the table
 abbrev pub Pieces : Rules → List ℕ → Value → Type 0
