@@ -28,7 +28,8 @@ module _ (rules : Rules) (piece : List ℕ) where
   pub data IntegerAnswers : IntegerAnswer → Type 0 where
     tooLong : rules .text < length piece → IntegerAnswers (refusal 2 0)
     notUtf8 : {p : ℕ} → length piece ≤ rules .text → BadAt piece p → IntegerAnswers (refusal 3 p)
-    notInteger : length piece ≤ rules .text → WellFormed piece → (Exactly integer piece → ⊥) → IntegerAnswers (refusal 9 0)
+    notInteger : length piece ≤ rules .text → WellFormed piece → (Exactly integer piece → ⊥) →
+        IntegerAnswers (refusal 9 0)
     outside : {z : ℤ} → length piece ≤ rules .text → WellFormed piece → Exactly integer piece →
         IntegerOf piece 0 (length piece) z → (Within z → ⊥) → IntegerAnswers (refusal 10 0)
     accepted : {z : ℤ} → length piece ≤ rules .text → WellFormed piece → Exactly integer piece →
