@@ -1,0 +1,2 @@
+-- The laws of bytes put into a buffer.
+pub mod Puts
