@@ -1,5 +1,5 @@
 -- Laws that the proofs of this crate share.
-pub mod Stores
+pub mod Copies
 pub mod Codes
 pub mod Walks
 pub mod Texts

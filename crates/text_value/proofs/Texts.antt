@@ -2,8 +2,8 @@
 use mathlib.Core.Path.{_≡_, refl, sym, ap, subst, _∙_}
 use mathlib.Core.Logic.{inl, inr}
 use mathlib.Core.Bool.{Bool, true, false}
-use mathlib.Core.List.{List, [], _∷_, _++_}
-use Prim.Native.Nat.{ℕ, _-_, _≤_, _<_, min}
+use mathlib.Core.List.{List, _++_}
+use Prim.Native.Nat.{ℕ, _≤_, _<_, min}
 use native.Mathlib.Nat.{le-antisymm}
 use native.Mathlib.Omega.{arith}
 use lib.ListN.{length}
@@ -15,7 +15,7 @@ use Rattle.lexicon.specs.declared.Encoding.{Encoding}
 use Rattle.lexicon.specs.Limited.{limit}
 use Rattle.lexicon.specs.Literals.{quoted, word, codePoint}
 use Rattle.lexicon.specs.Utf8.{WellFormed, Encoded}
-use Rattle.lexicon.specs.Values.{read, quotes, bare, coded}
+use Rattle.lexicon.specs.Values.{quotes, bare, coded}
 use Rattle.lexicon.specs.Bad.{Scalar}
 use Rattle.reading.specs.declared.Answer.{Answer}
 use Rattle.reading.specs.Answers.{answer}
@@ -28,14 +28,17 @@ use Rattle.values.specs.Exactly.{Exactly}
 use Rattle.values.specs.Bytes.{noRoom, accepted}
 use Rattle.values.specs.Text.{textLiteral, BadText, TextBytes, TextAnswers}
 use Rattle.lexicon.specs.Encode.{encode, encoded}
-use Rattle.text_value.specs.Parts.{Puts, CodeIs, HasQuoted, WroteQuoted}
+use Rattle.text_value.specs.Parts.{CodeIs, HasQuoted, WroteQuoted}
 use Rattle.text_value.specs.Shapes.{Shaped, Judged, WroteText}
 use Rattle.values.proofs.Shapes.{no-word, no-code, word-code, quoted-good, word-good, code-good}
 use Rattle.values.proofs.Spelled.{quoted-same}
 use Rattle.values.proofs.Characters.{quoted-bytes, word-same}
 use Rattle.values.proofs.Values.{code-of, quoted-of}
 use Rattle.values.proofs.Texts.{quoted-known, code-known, text-same}
-use Rattle.text_value.proofs.Stores.{puts-same, puts-length, puts-start}
+use Rattle.values.proofs.Fits.{text-short}
+use Rattle.buffer.specs.Puts.{largest, Puts}
+use Rattle.buffer.proofs.Puts.{puts-same, puts-ends, puts-start, puts-empty}
+use Rattle.text_value.proofs.Copies.{whole-read}
 use Rattle.text_value.proofs.Walks.{append-none}
 
 -- a number up to the limit, of a scalar value
@@ -110,9 +113,9 @@ module _ (piece : List ℕ) where
         let q = quoted-of piece (x .0) in
         record { characters = q .0; is = quotes (q .1); puts = puts-same (quoted-same piece (w .is) (has-quoted .is) refl) (w .puts) }
 
-  pub wrote-word : Shaped piece Shape.the-variants.Word → {t t' : List ℕ} {n : ℕ} → Puts t 0 (read piece 0 (length piece - 0)) t' n →
+  pub wrote-word : Shaped piece Shape.the-variants.Word → {t t' : List ℕ} {n : ℕ} → Puts t 0 piece t' n →
       WroteText piece t t' n
-  wrote-word x p = record { characters = _; is = bare x; puts = puts-same (sym (word-same piece x .0)) p }
+  wrote-word x p = record { characters = _; is = bare x; puts = puts-same (whole-read piece ∙ sym (word-same piece x .0)) p }
 
   module _ (x : Shaped piece Shape.the-variants.CodePoint) {r : ℕ} (c : CodeIs piece 0 (length piece) r) where
     code-value : (r ≡ code-of piece (x .0) .0) × (r < 0x110000)
@@ -136,20 +139,16 @@ module _ (piece : List ℕ) where
   text-bytes w = record { characters = w .characters; are = w .is; bytes-are = refl }
 
   module _ (good : BadText piece 0 (length piece) → ⊥) where
-    module _ (rules : Rules) (h : length piece ≤ rules .text) (formed : WellFormed piece) (exact : Exactly textLiteral piece) (lent : List ℕ) where
-      -- what is measured over an empty part leaves the buffer as it is
-      kept : {t t' bs : List ℕ} {k n : ℕ} → Puts t k bs t' n → length t ≡ 0 → t' ++ lent ≡ lent
-      kept {t' = t'} p z = go t' (puts-length p ∙ z)
-        where
-          go : (l : List ℕ) → length l ≡ 0 → l ++ lent ≡ lent
-          go [] e = refl
-          go (x ∷ l) e = absurd (omega (arith, e))
+    module _ (rules : Rules) (h : length piece ≤ rules .text) (fit : length piece ≤ largest) (formed : WellFormed piece) (exact : Exactly textLiteral piece) (lent : List ℕ) where
+      -- the bytes are counted exactly, for they are no more than the piece has
+      counted : {t t' : List ℕ} {n : ℕ} (w : WroteText piece t t' n) → n ≡ length (encoded (w .characters))
+      counted w = let s = text-short piece good (w .is) in omega (arith, puts-ends (w .puts) (omega (arith, s)))
 
       module _ {t t' : List ℕ} {m : ℕ} (v : WroteText piece t t' m) (z : length t ≡ 0) where
         pub too-small : length (t' ++ lent) < m → TextAnswers rules piece lent (answer 8 (length piece) m) (t' ++ lent)
         too-small l =
-            let k = kept (v .puts) z in
-            let e : length (encoded (v .characters)) ≡ m = omega (arith, v .puts .ends) in
+            let k = puts-empty (v .puts) z lent in
+            let e = sym (counted v) in
             subst (λ (x : List ℕ). TextAnswers rules piece lent (answer 8 (length piece) m) x) (sym k)
             (subst (λ (n : ℕ). TextAnswers rules piece lent (answer 8 (length piece) n) lent) e
             (noRoom h formed exact good (text-bytes v) (omega (arith, e, l, ap length k))))
@@ -157,10 +156,10 @@ module _ (piece : List ℕ) where
         pub fits : {u : List ℕ} {n : ℕ} → m ≤ length (t' ++ lent) → WroteText piece (t' ++ lent) u n →
             TextAnswers rules piece lent (answer 0 (length piece) n) u
         fits {u} {n} l w =
-            let k = kept (v .puts) z in
+            let k = puts-empty (v .puts) z lent in
             let b = encoded (w .characters) in
-            let e : length b ≡ n = omega (arith, w .puts .ends) in
-            let g : length b ≤ length lent = omega (arith, v .puts .ends, l, ap length (text-same piece good (v .is) (w .is)), ap length k) in
+            let e = sym (counted w) in
+            let g : length b ≤ length lent = omega (arith, counted v, l, ap length (text-same piece good (v .is) (w .is)), ap length k) in
             let p : Puts lent 0 b u n = subst (λ (x : List ℕ). Puts x 0 b u n) k (w .puts) in
             subst (λ (j : ℕ). TextAnswers rules piece lent (answer 0 (length piece) j) u) e
             (subst (λ (x : List ℕ). TextAnswers rules piece lent (answer 0 (length piece) (length b)) x) (sym (puts-start p g))

@@ -5,7 +5,7 @@ use mathlib.Core.List.{List, [], _∷_, _++_, append-assoc}
 use Prim.Native.Nat.{ℕ, _+_, _-_, _≤_, _<_, min}
 use native.Mathlib.Nat.{le-antisymm}
 use native.Mathlib.Omega.{arith}
-use lib.ListN.{length, getD}
+use lib.ListN.{length, getD, take, drop}
 use Rattle.rules.specs.Class.{just}
 use Rattle.rules.specs.Rule.{one, many, At, Takes, Longest, Fails}
 use Rattle.rules.proofs.Classes.{is-just, just-is}
@@ -19,18 +19,19 @@ use Rattle.lexicon.specs.Values.{read, Letter, CodeOf}
 use Rattle.lexicon.specs.Bad.{Scalar}
 use Rattle.lexicon.proofs.Spaces.{byte-single, skips-same}
 use Rattle.lexicon.proofs.Marks.{angle-most}
-use Rattle.reading.specs.Sizes.{widest}
 use Rattle.text_value.specs.declared.quoted.Meaning.{Meaning}
 use Rattle.lexicon.specs.Encode.{encode}
 use Rattle.text_value.specs.Letters.{NoMeaning, Means}
-use Rattle.text_value.specs.Parts.{Puts, CodeIs, Room, Stands, Wrote, HasQuoted, WroteQuoted}
+use Rattle.text_value.specs.Parts.{CodeIs, Stands, Wrote, HasQuoted, WroteQuoted}
 use Rattle.values.specs.QuotedBytes.{quote, backslash, notQuote, other, Angled, Item, itself, letter, number, Unescapes}
 use Rattle.values.specs.QuotedBytes.{closed, Copies, SegmentBytes, plain, escaped, QuotedBytes, last}
 use Rattle.values.specs.QuotedBytes as Bytes
 use Rattle.values.proofs.Shapes.{code-takes}
 use Rattle.values.proofs.Spelled.{quote-not, letter-angle, other-backslash, clash, item-same, item-quote, item-short}
 use Rattle.values.proofs.Spelled.{segment-begins, segment-same, segment-short, no-further}
-use Rattle.text_value.proofs.Stores.{puts-more, puts-none, puts-same}
+use Rattle.buffer.specs.Puts.{largest, Puts}
+use Rattle.buffer.proofs.Puts.{puts-then, puts-none, puts-same}
+use Rattle.text_value.proofs.Copies.{part-read}
 
 -- ---- letters
 
@@ -66,9 +67,6 @@ module _ (piece : List ℕ) where
 
     pub angled-within : e < length piece
     angled-within = omega (arith, angled-end, s .is .close .0)
-
-    pub angled-room : {n : ℕ} → Room piece i n → n ≤ widest
-    angled-room r = omega (arith, angled-within, forward (l .takes), r)
 
     module _ {r : ℕ} (c : CodeIs piece i e r) where
       angled-number : r ≡ s .is .number
@@ -168,10 +166,9 @@ module _ (piece : List ℕ) where
       pub done : List ℕ
       pub so-far : done ++ rest ≡ whole
       pub puts : Puts lent count done t n
-      pub behind : n ≤ i
 
-    pub walk-begins : Stands (Unescapes piece) at → count ≤ at → Walk lent at count
-    walk-begins s h =
+    pub walk-begins : Stands (Unescapes piece) at → length lent ≤ largest → count ≤ largest → Walk lent at count
+    walk-begins s l h =
         record {
           end = s .end;
           whole = s .bytes;
@@ -180,8 +177,7 @@ module _ (piece : List ℕ) where
           rest-is = s .is;
           done = [];
           so-far = refl;
-          puts = puts-none lent count;
-          behind = h;
+          puts = puts-none lent count l h;
         }
 
     module _ {t : List ℕ} {i n : ℕ} (w : Walk t i n) where
@@ -215,7 +211,6 @@ module _ (piece : List ℕ) where
           go (closed a e) s = absurd (q a)
           go (Bytes.next {bs = bs} {cs = cs} y u) s =
               let z = item-same piece (x .is) y in
-              let h = item-short piece (x .is) in
               record {
                 end = w .end;
                 whole = w .whole;
@@ -227,8 +222,7 @@ module _ (piece : List ℕ) where
                     append-assoc (w .done) (x .bytes) cs
                     ∙ ap (λ (l : List ℕ). w .done ++ (l ++ cs)) (z .1)
                     ∙ s;
-                puts = puts-more (w .puts) (x .puts);
-                behind = omega (arith, w .behind, x .puts .ends, h .0);
+                puts = puts-then (w .puts) (x .puts);
               }
 
       pub walk-ends : At piece quote i → Wrote (Unescapes piece) at (i + 1) lent count t n
@@ -252,7 +246,7 @@ module _ (piece : List ℕ) where
     pub copies-within : (i ≤ e) × (e < length piece)
     copies-within = (forward (l .takes), omega (arith, copies-end, s .is .close .0))
 
-    pub copies-wrote : {t t' : List ℕ} {k n : ℕ} → Puts t k (read piece i (e - i)) t' n → Wrote (Copies piece) i (e + 1) t k t' n
+    pub copies-wrote : {t t' : List ℕ} {k n : ℕ} → Puts t k (take (e - i) (drop i piece)) t' n → Wrote (Copies piece) i (e + 1) t k t' n
     copies-wrote p =
         record {
           bytes = read piece i (e - i);
@@ -264,7 +258,7 @@ module _ (piece : List ℕ) where
                 behind = ap (λ (x : ℕ). x + 1) copies-end;
                 bytes-are = ap (λ (x : ℕ). read piece i (x - i)) copies-end;
               };
-          puts = p;
+          puts = puts-same (part-read piece i (e - i) (omega (arith, copies-within))) p;
         }
 
   -- ---- a segment
@@ -306,10 +300,9 @@ module _ (piece : List ℕ) where
       pub done : List ℕ
       pub so-far : done ++ rest ≡ whole
       pub puts : Puts lent 0 done t n
-      pub behind : n ≤ i
 
-    pub walks-begin : HasQuoted piece → Walks lent 0 0
-    walks-begin h =
+    pub walks-begin : HasQuoted piece → length lent ≤ largest → Walks lent 0 0
+    walks-begin h l =
         record {
           whole = h .bytes;
           whole-is = h .is;
@@ -317,8 +310,7 @@ module _ (piece : List ℕ) where
           rest-is = h .is;
           done = [];
           so-far = refl;
-          puts = puts-none lent 0;
-          behind = omega arith;
+          puts = puts-none lent 0 l (omega arith);
         }
 
     module _ {t : List ℕ} {i n : ℕ} (w : Walks t i n) where
@@ -341,7 +333,7 @@ module _ (piece : List ℕ) where
                 record {
                   bytes = w .whole;
                   is = w .whole-is;
-                  puts = puts-same (ap (λ (l : List ℕ). w .done ++ l) (segment-same piece (x .is) s .1) ∙ p) (puts-more (w .puts) (x .puts));
+                  puts = puts-same (ap (λ (l : List ℕ). w .done ++ l) (segment-same piece (x .is) s .1) ∙ p) (puts-then (w .puts) (x .puts));
                 }
             go (Bytes.next s u q) p = absurd (no-further piece (sym (segment-same piece (x .is) s .0) ∙ e) u q)
 
@@ -360,6 +352,5 @@ module _ (piece : List ℕ) where
                   rest-is = subst (λ (y : ℕ). QuotedBytes piece y cs) h q;
                   done = w .done ++ x .bytes;
                   so-far = append-assoc (w .done) (x .bytes) cs ∙ ap (λ (y : List ℕ). w .done ++ (y ++ cs)) (z .1) ∙ p;
-                  puts = puts-more (w .puts) (x .puts);
-                  behind = omega (arith, w .behind, x .puts .ends, segment-short piece (x .is) .0, forward (u .takes));
+                  puts = puts-then (w .puts) (x .puts);
                 }

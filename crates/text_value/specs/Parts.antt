@@ -1,20 +1,11 @@
 -- What the private functions answer. Assumes nothing.
 use mathlib.Core.Path.{_≡_}
 use mathlib.Core.List.{List}
-use Prim.Native.Nat.{ℕ, _+_, _≤_, min}
-use lib.ListN.{length}
-use Rattle.rules.specs.Over.{over}
+use Prim.Native.Nat.{ℕ, min}
 use Rattle.lexicon.specs.Values.{CodeOf}
 use Rattle.lexicon.specs.Limited.{limit}
-use Rattle.reading.specs.Sizes.{widest}
+use Rattle.buffer.specs.Puts.{Puts}
 use Rattle.values.specs.QuotedBytes.{QuotedBytes}
-
--- ---- bytes into a buffer
-
--- t' is t with the bytes from place k on, as far as they fit, and n is the place behind them all
-pub record Puts (t : List ℕ) (k : ℕ) (bs t' : List ℕ) (n : ℕ) : Type 0 where
-  pub bytes-are : t' ≡ over t k bs
-  pub ends : n ≡ k + length bs
 
 module _ (piece : List ℕ) where
   -- ---- code points
@@ -24,10 +15,6 @@ module _ (piece : List ℕ) where
     pub is : (v : ℕ) → CodeOf piece i j v → r ≡ min limit v
 
   -- ---- what stands at a place, and what is written of it
-
-  -- a literal of a size that sums can hold, and no more bytes written than read
-  abbrev pub Room : ℕ → ℕ → Type 0
-  Room i n = (length piece ≤ widest) × (n ≤ i)
 
   pub record HasQuoted : Type 0 where
     pub bytes : List ℕ

@@ -13,7 +13,7 @@ use Rattle.text_value.specs.declared.value.Verdict.{Verdict}
 use Rattle.values.specs.Exactly.{Exactly}
 use Rattle.values.specs.Text.{textLiteral, BadText}
 use Rattle.lexicon.specs.Encode.{encoded}
-use Rattle.text_value.specs.Parts.{Puts}
+use Rattle.buffer.specs.Puts.{Puts}
 
 module _ (piece : List ℕ) where
   -- the piece is a Text of the shape, and its value is not bad

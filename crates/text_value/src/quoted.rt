@@ -1,17 +1,14 @@
 // The characters of a quoted text, segment by segment. The functions have a `requires` each: their caller has found the literal.
-use crate::bytes::copy;
 use crate::bytes::encode;
-use crate::bytes::put;
 use crate::code::code;
+use buffer::copy;
+use buffer::put;
 use lexicon::Literal;
 use space::space;
 use text::byte::stands;
-ghost use Prim.Native.Nat.{_≤_};
-ghost use lib.ListN.{length};
 ghost use Rattle.rules.specs.Rule.{one, many, At, Longest};
-ghost use Rattle.reading.specs.Sizes.{widest};
 ghost use Rattle.values.specs.QuotedBytes.{backslash, notQuote, Angled, Item, Unescapes, Copies, SegmentBytes};
-ghost use Rattle.text_value.specs.Parts.{Stands, Wrote, Room, HasQuoted, WroteQuoted};
+ghost use Rattle.text_value.specs.Parts.{Stands, Wrote, HasQuoted, WroteQuoted};
 ghost use Rattle.text_value.specs.Letters.{Means};
 
 // What a byte behind a backslash stands for: a character, the opening of a code point, or nothing.
@@ -44,7 +41,7 @@ fn behind_backslash(b: u8) -> Meaning
 
 // A code point by its number, and the closing angle.
 fn angled(piece: &[u8], at: usize, buffer: &mut [u8], count: usize) -> Step
-    requires { ⌜ Stands (Angled (now piece)) at × Room (now piece) at count ⌝ }
+    requires { ⌜ Stands (Angled (now piece)) at ⌝ }
     ensures { λ r. ⌜ Wrote (Angled (now (piece .entry))) at (r .end) (now (buffer .entry)) count (now (buffer .exit)) (r .count) ⌝ }
 {
     let Literal::At { end, bad } = string::code_point::code_point(piece, at) else {
@@ -59,7 +56,7 @@ fn angled(piece: &[u8], at: usize, buffer: &mut [u8], count: usize) -> Step
 
 // A backslash, and a letter or a code point by its number.
 fn escape(piece: &[u8], at: usize, buffer: &mut [u8], count: usize) -> Step
-    requires { ⌜ Stands (Item (now piece)) at × At (now piece) backslash at × Room (now piece) at count ⌝ }
+    requires { ⌜ Stands (Item (now piece)) at × At (now piece) backslash at ⌝ }
     ensures { λ r. ⌜ Wrote (Item (now (piece .entry))) at (r .end) (now (buffer .entry)) count (now (buffer .exit)) (r .count) ⌝ }
 {
     let meaning = behind_backslash(piece[at + 1]);
@@ -78,7 +75,7 @@ fn escape(piece: &[u8], at: usize, buffer: &mut [u8], count: usize) -> Step
 
 // Characters and escapes, through the closing quote.
 fn escaped(piece: &[u8], at: usize, buffer: &mut [u8], count: usize) -> Step
-    requires { ⌜ Stands (Unescapes (now piece)) at × Room (now piece) at count ⌝ }
+    requires { ⌜ Stands (Unescapes (now piece)) at ⌝ }
     ensures { λ r. ⌜ Wrote (Unescapes (now (piece .entry))) at (r .end) (now (buffer .entry)) count (now (buffer .exit)) (r .count) ⌝ }
 {
     let mut i = at;
@@ -115,11 +112,11 @@ fn closing(piece: &[u8], at: usize) -> usize
 
 // Characters, each of them itself, through the closing quote.
 fn plain(piece: &[u8], at: usize, buffer: &mut [u8], count: usize) -> Step
-    requires { ⌜ Stands (Copies (now piece)) at × Room (now piece) at count ⌝ }
+    requires { ⌜ Stands (Copies (now piece)) at ⌝ }
     ensures { λ r. ⌜ Wrote (Copies (now (piece .entry))) at (r .end) (now (buffer .entry)) count (now (buffer .exit)) (r .count) ⌝ }
 {
     let end = closing(piece, at);
-    let next = copy(piece, at, end, buffer, count);
+    let next = copy(&piece[at..end], buffer, count);
     Step {
         end: end + 1,
         count: next,
@@ -128,7 +125,7 @@ fn plain(piece: &[u8], at: usize, buffer: &mut [u8], count: usize) -> Step
 
 // A segment. It is an escaped one only if a backslash stands first in it.
 fn segment(piece: &[u8], at: usize, buffer: &mut [u8], count: usize) -> Step
-    requires { ⌜ Stands (SegmentBytes (now piece)) at × Room (now piece) at count ⌝ }
+    requires { ⌜ Stands (SegmentBytes (now piece)) at ⌝ }
     ensures { λ r. ⌜ Wrote (SegmentBytes (now (piece .entry))) at (r .end) (now (buffer .entry)) count (now (buffer .exit)) (r .count) ⌝ }
 {
     if stands(piece, at + 1, b'\\') {
@@ -139,7 +136,7 @@ fn segment(piece: &[u8], at: usize, buffer: &mut [u8], count: usize) -> Step
 
 // All the segments.
 pub(crate) fn quoted(piece: &[u8], buffer: &mut [u8]) -> usize
-    requires { ⌜ HasQuoted (now piece) × (length (now piece) ≤ widest) ⌝ }
+    requires { ⌜ HasQuoted (now piece) ⌝ }
     ensures { λ r. ⌜ WroteQuoted (now (piece .entry)) (now (buffer .entry)) (now (buffer .exit)) r ⌝ }
 {
     let mut i = 0;

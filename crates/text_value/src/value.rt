@@ -1,9 +1,9 @@
 // The call itself: the refusals in their order, then the value.
 // A function with a `requires` is this crate's own: its caller has tested the piece. `text`, the public one, has none.
-use crate::bytes::copy;
 use crate::bytes::encode;
 use crate::code::code;
 use crate::quoted::quoted;
+use buffer::copy;
 use lexicon::Encoding;
 use lexicon::Found;
 use lexicon::Literal;
@@ -17,7 +17,7 @@ ghost use Rattle.rules.specs.Rule.{Fails};
 ghost use Rattle.lexicon.specs.Literals as Literals;
 ghost use Rattle.lexicon.specs.Utf8.{WellFormed};
 ghost use Rattle.reading.specs.Answers.{answer};
-ghost use Rattle.reading.specs.Sizes.{base as rules, widest};
+ghost use Rattle.reading.specs.Sizes.{base as rules};
 ghost use Rattle.values.specs.Text.{TextAnswers};
 ghost use Rattle.text_value.specs.Shapes.{Shaped, Judged, WroteText};
 
@@ -96,12 +96,12 @@ fn judge(piece: &[u8]) -> Verdict
 
 // The characters of the piece from the start of the buffer, and how many bytes they are.
 fn write(piece: &[u8], shape: Shape, buffer: &mut [u8]) -> usize
-    requires { ⌜ Shaped (now piece) shape × (length (now piece) ≤ widest) ⌝ }
+    requires { ⌜ Shaped (now piece) shape ⌝ }
     ensures { λ r. ⌜ WroteText (now (piece .entry)) (now (buffer .entry)) (now (buffer .exit)) r ⌝ }
 {
     match shape {
         Shape::Quoted => quoted(piece, buffer),
-        Shape::Word => copy(piece, 0, piece.len(), buffer, 0),
+        Shape::Word => copy(piece, buffer, 0),
         Shape::CodePoint => encode(code(piece, 0, piece.len()), buffer, 0),
     }
 }

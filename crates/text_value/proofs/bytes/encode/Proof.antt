@@ -1,7 +1,7 @@
 -- `text_value::bytes::encode` meets its contract. Assumes nothing.
 use borrow.Author.Needs.{needs}
 use Rattle.values.proofs.Encodes.{encode-one, encode-two, encode-three, encode-four}
-use Rattle.text_value.proofs.Stores.{puts-more, puts-same}
+use Rattle.buffer.proofs.Puts.{puts-then, puts-same}
 use Rattle.text_value.proofs.bytes.encode.Statement.{statement}
 use Rattle.text_value.proofs.bytes.encode.Tie as tie
 
@@ -34,7 +34,7 @@ same-length-2 c = search needs
 
 returns-2 : tie.Need-returns-2
 returns-2 c =
-    puts-same (encode-two _ (c .before .before .before .before .before .before .before .before .before .if1 .left) (c .before .before .before .before .before .before .before .before .if2 .taken)) (puts-more (c .before .before .before .before .before .before .put2 .ensures) (c .before .before .tail .ensures))
+    puts-same (encode-two _ (c .before .before .before .before .before .before .before .before .before .if1 .left) (c .before .before .before .before .before .before .before .before .if2 .taken)) (puts-then (c .before .before .before .before .before .before .put2 .ensures) (c .before .before .tail .ensures))
 
 add-put-2 : tie.Need-add-put-2
 add-put-2 c = search needs
@@ -56,7 +56,7 @@ same-length-3 c = search needs
 
 returns-3 : tie.Need-returns-3
 returns-3 c =
-    puts-same (encode-three _ (c .before .before .before .before .before .before .before .before .before .before .before .before .before .if2 .left) (c .before .before .before .before .before .before .before .before .before .before .before .before .if3 .taken)) (puts-more (c .before .before .before .before .before .before .before .before .before .before .put3 .ensures) (puts-more (c .before .before .before .before .before .before .tail2 .ensures) (c .before .before .tail3 .ensures)))
+    puts-same (encode-three _ (c .before .before .before .before .before .before .before .before .before .before .before .before .before .if2 .left) (c .before .before .before .before .before .before .before .before .before .before .before .before .if3 .taken)) (puts-then (c .before .before .before .before .before .before .before .before .before .before .put3 .ensures) (puts-then (c .before .before .before .before .before .before .tail2 .ensures) (c .before .before .tail3 .ensures)))
 
 add-put-3 : tie.Need-add-put-3
 add-put-3 c = search needs
@@ -81,7 +81,7 @@ same-length-4 c = search needs
 
 returns-4 : tie.Need-returns-4
 returns-4 c =
-    puts-same (encode-four _ (c .before .before .before .before .before .before .before .before .before .before .before .before .before .before .before .before .if3 .left)) (puts-more (c .before .before .before .before .before .before .before .before .before .before .before .before .before .before .put4 .ensures) (puts-more (c .before .before .before .before .before .before .before .before .before .before .tail4 .ensures) (puts-more (c .before .before .before .before .before .before .tail5 .ensures) (c .before .before .tail6 .ensures))))
+    puts-same (encode-four _ (c .before .before .before .before .before .before .before .before .before .before .before .before .before .before .before .before .if3 .left)) (puts-then (c .before .before .before .before .before .before .before .before .before .before .before .before .before .before .put4 .ensures) (puts-then (c .before .before .before .before .before .before .before .before .before .before .tail4 .ensures) (puts-then (c .before .before .before .before .before .before .tail5 .ensures) (c .before .before .tail6 .ensures))))
 
 pub encode-spec : {M : Type 1} → statement M
 encode-spec =

@@ -18,8 +18,7 @@ enum-known-meaning : tie.Need-enum-known-meaning
 enum-known-meaning c = search needs
 
 put-requires : tie.Need-put-requires
-put-requires c κs =
-    omega (arith, c .before .before .before .before .before .before .before .before .pre, c .before .before .before .before .before .before .before .before .pre .1 .0)
+put-requires c κs = search needs
 
 add-t14 : tie.Need-add-t14
 add-t14 c =
@@ -34,7 +33,7 @@ add-angled c =
 
 angled-requires : tie.Need-angled-requires
 angled-requires c κs =
-    (escape-angled _ (c .before .before .before .before .before .before .before .pre .0) (c .before .before .before .before .before .before .before .pre .1) (means _ (c .before .enum-told .given .1) (c .before .before .before .behind-backslash .ensures)), (c .before .before .before .before .before .before .before .pre .2 .0, omega (arith, c .before .before .before .before .before .before .before .pre .2 .1)))
+    escape-angled _ (c .before .before .before .before .before .before .before .pre .0) (c .before .before .before .before .before .before .before .pre .1) (means _ (c .before .enum-told .given .1) (c .before .before .before .behind-backslash .ensures))
 
 enum-told-2 : tie.Need-enum-told-2
 enum-told-2 c = search needs

@@ -6,7 +6,7 @@ use Prim.Native.Nat.{_-_}
 use lib.ListN.{length}
 use Rattle.rules.proofs.Tests.{there, not-there}
 use Rattle.values.proofs.Spelled.{item-short}
-use Rattle.text_value.proofs.Stores.{puts-length}
+use Rattle.buffer.proofs.Puts.{puts-length}
 use Rattle.text_value.proofs.Walks.{Walk, walk-begins, walk-within, walk-item, walk-byte, walk-next, walk-ends}
 use Rattle.text_value.proofs.quoted.escaped.Statement.{statement}
 use Rattle.text_value.proofs.quoted.escaped.Tie as tie
@@ -18,7 +18,7 @@ abbrev μ-loop : tie.MeasureT-loop
 μ-loop piece at buffer₀ count i₀ n₀ buffer i n = length piece - i
 
 loop-holds : tie.Need-loop-holds Inv-loop μ-loop
-loop-holds c = walk-begins _ _ _ _ (c .before .before .pre .0) (c .before .before .pre .1 .1)
+loop-holds c = walk-begins _ _ _ _ (c .before .before .pre) (omega arith) (omega arith)
 
 stands-requires : tie.Need-stands-requires Inv-loop μ-loop
 stands-requires c κs = search needs
@@ -29,7 +29,7 @@ stands-requires-2 c κs = search needs
 escape-requires : tie.Need-escape-requires Inv-loop μ-loop
 escape-requires c κs =
     let q = not-there (c .before .before .before .before .stands .ensures) (not-true _ (c .before .before .before .if1 .taken)) in
-    (walk-item _ _ _ _ (c .before .before .before .before .before .loop .inv) q, there (c .before .before .stands2 .ensures) (c .before .if2 .taken), (c .before .before .before .before .before .before .before .before .pre .1 .0, c .before .before .before .before .before .loop .inv .behind))
+    (walk-item _ _ _ _ (c .before .before .before .before .before .loop .inv) q, there (c .before .before .stands2 .ensures) (c .before .if2 .taken))
 
 loop-less : tie.Need-loop-less Inv-loop μ-loop
 loop-less c =
@@ -43,8 +43,7 @@ shared-slice-read-put : tie.Need-shared-slice-read-put Inv-loop μ-loop
 shared-slice-read-put c = walk-within _ _ _ _ (c .before .before .before .before .before .before .loop .inv)
 
 put-requires : tie.Need-put-requires Inv-loop μ-loop
-put-requires c κs =
-    omega (arith, c .before .before .before .before .before .before .before .before .before .pre .1, c .before .before .before .before .before .before .loop .inv .behind, walk-within _ _ _ _ (c .before .before .before .before .before .before .loop .inv))
+put-requires c κs = search needs
 
 add-i : tie.Need-add-i Inv-loop μ-loop
 add-i c =

@@ -3,7 +3,7 @@ use native.Mathlib.Omega.{arith}
 use borrow.Author.Needs.{needs}
 use Prim.Native.Nat.{_-_}
 use lib.ListN.{length}
-use Rattle.text_value.proofs.Stores.{puts-length}
+use Rattle.buffer.proofs.Puts.{puts-length}
 use Rattle.text_value.proofs.Walks.{Walks, walks-begin, walks-segment, walks-less, walks-end, walks-next}
 use Rattle.text_value.proofs.quoted.quoted.Statement.{statement}
 use Rattle.text_value.proofs.quoted.quoted.Tie as tie
@@ -15,11 +15,10 @@ abbrev μ-loop : tie.MeasureT-loop
 μ-loop piece buffer₀ i₀ n₀ buffer i n = length piece - i
 
 loop-holds : tie.Need-loop-holds Inv-loop μ-loop
-loop-holds c = walks-begin _ _ (c .before .before .pre .0)
+loop-holds c = walks-begin _ _ (c .before .before .pre) (omega arith)
 
 segment-requires : tie.Need-segment-requires Inv-loop μ-loop
-segment-requires c κs =
-    (walks-segment _ _ (c .before .loop .inv), (c .before .before .before .before .pre .1, c .before .loop .inv .behind))
+segment-requires c κs = walks-segment _ _ (c .before .loop .inv)
 
 same-length : tie.Need-same-length Inv-loop μ-loop
 same-length c =

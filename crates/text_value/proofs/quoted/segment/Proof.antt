@@ -2,13 +2,13 @@
 use native.Mathlib.Omega.{arith}
 use borrow.Author.Needs.{needs}
 use Rattle.rules.proofs.Tests.{there, not-there}
-use Rattle.text_value.proofs.Stores.{puts-length}
+use Rattle.buffer.proofs.Puts.{puts-length}
 use Rattle.text_value.proofs.Walks.{opening, escaped-stands, plain-stands, escaped-wrote, plain-wrote}
 use Rattle.text_value.proofs.quoted.segment.Statement.{statement}
 use Rattle.text_value.proofs.quoted.segment.Tie as tie
 
 add-stands : tie.Need-add-stands
-add-stands c = omega (arith, opening _ (c .before .before .pre .0) .0)
+add-stands c = omega (arith, opening _ (c .before .before .pre) .0)
 
 stands-requires : tie.Need-stands-requires
 stands-requires c κs = search needs
@@ -18,28 +18,28 @@ add-escaped c = omega (arith, there (c .before .stands .ensures) (c .if1 .taken)
 
 escaped-requires : tie.Need-escaped-requires
 escaped-requires c κs =
-    (escaped-stands _ (c .before .before .before .before .before .pre .0) (there (c .before .before .stands .ensures) (c .before .if1 .taken)), (c .before .before .before .before .before .pre .1 .0, omega (arith, c .before .before .before .before .before .pre .1 .1)))
+    escaped-stands _ (c .before .before .before .before .before .pre) (there (c .before .before .stands .ensures) (c .before .if1 .taken))
 
 same-length : tie.Need-same-length
 same-length c = puts-length (c .before .before .escaped .ensures .puts)
 
 returns : tie.Need-returns
 returns c =
-    escaped-wrote _ (c .before .before .before .before .before .before .before .before .pre .0) (there (c .before .before .before .before .before .stands .ensures) (c .before .before .before .before .if1 .taken)) (c .before .before .escaped .ensures)
+    escaped-wrote _ (c .before .before .before .before .before .before .before .before .pre) (there (c .before .before .before .before .before .stands .ensures) (c .before .before .before .before .if1 .taken)) (c .before .before .escaped .ensures)
 
 add-plain : tie.Need-add-plain
-add-plain c = omega (arith, opening _ (c .before .before .before .before .pre .0) .0)
+add-plain c = omega (arith, opening _ (c .before .before .before .before .pre) .0)
 
 plain-requires : tie.Need-plain-requires
 plain-requires c κs =
-    (plain-stands _ (c .before .before .before .before .before .pre .0) (not-there (c .before .before .stands .ensures) (c .before .if1 .left)), (c .before .before .before .before .before .pre .1 .0, omega (arith, c .before .before .before .before .before .pre .1 .1)))
+    plain-stands _ (c .before .before .before .before .before .pre) (not-there (c .before .before .stands .ensures) (c .before .if1 .left))
 
 same-length-2 : tie.Need-same-length-2
 same-length-2 c = puts-length (c .before .before .plain .ensures .puts)
 
 returns-2 : tie.Need-returns-2
 returns-2 c =
-    plain-wrote _ (c .before .before .before .before .before .before .before .before .pre .0) (not-there (c .before .before .before .before .before .stands .ensures) (c .before .before .before .before .if1 .left)) (c .before .before .plain .ensures)
+    plain-wrote _ (c .before .before .before .before .before .before .before .before .pre) (not-there (c .before .before .before .before .before .stands .ensures) (c .before .before .before .before .if1 .left)) (c .before .before .plain .ensures)
 
 pub segment-spec : {M : Type 1} → statement M
 segment-spec =

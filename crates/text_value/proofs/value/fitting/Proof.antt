@@ -1,4 +1,5 @@
 -- `text_value::value::fitting` meets its contract. Assumes nothing.
+use native.Mathlib.Omega.{arith}
 use borrow.Author.Needs.{needs}
 use mathlib.Core.Path.{refl}
 use Rattle.reading.specs.Sizes.{base}
@@ -22,7 +23,7 @@ returns : tie.Need-returns
 returns c =
     let s = c .before .before .before .before .before .before .before .args .shape in
     let p = c .before .before .before .before .before .before .before .pre in
-    too-small _ (shaped-good _ s (p .0)) base (p .1) (p .2) (shaped-exact _ s (p .0)) _ (c .before .before .before .write .ensures) refl (c .if1 .taken)
+    too-small _ (shaped-good _ s (p .0)) base (p .1) (omega (arith, p .1)) (p .2) (shaped-exact _ s (p .0)) _ (c .before .before .before .write .ensures) refl (c .if1 .taken)
 
 write-requires-2 : tie.Need-write-requires-2
 write-requires-2 c κs = search needs
@@ -34,7 +35,7 @@ returns-2 : tie.Need-returns-2
 returns-2 c =
     let s = c .before .before .before .before .before .before .before .before .before .before .before .args .shape in
     let p = c .before .before .before .before .before .before .before .before .before .before .before .pre in
-    fits _ (shaped-good _ s (p .0)) base (p .1) (p .2) (shaped-exact _ s (p .0)) _ (c .before .before .before .before .before .before .before .write .ensures) refl (c .before .before .before .before .if1 .left) (c .before .before .write2 .ensures)
+    fits _ (shaped-good _ s (p .0)) base (p .1) (omega (arith, p .1)) (p .2) (shaped-exact _ s (p .0)) _ (c .before .before .before .before .before .before .before .write .ensures) refl (c .before .before .before .before .if1 .left) (c .before .before .write2 .ensures)
 
 pub fitting-spec : {M : Type 1} → statement M
 fitting-spec =
