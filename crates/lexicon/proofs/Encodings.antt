@@ -40,7 +40,7 @@ no-pads (also h e) = also (character-no-pad h) (no-pads e)
 
 -- ---- the last character
 
-power : (k : ℕ) → k ≤ 2 → 4 ^ k ≡ 2 ^ (2 * k)
+pub power : (k : ℕ) → k ≤ 2 → 4 ^ k ≡ 2 ^ (2 * k)
 power zero h = refl
 power (suc zero) h = refl
 power (suc (suc zero)) h = refl
@@ -132,7 +132,7 @@ module _ {ds : List ℕ} where
       )
 
 -- the characters before the `=`, and the number of `=`
-cut-same : (us vs : List ℕ) (k l : ℕ) → Every NoPad us → Every NoPad vs → us ++ replicate k (byteOf "=") ≡ vs ++ replicate l (byteOf "=") → (us ≡ vs) × (k ≡ l)
+pub cut-same : (us vs : List ℕ) (k l : ℕ) → Every NoPad us → Every NoPad vs → us ++ replicate k (byteOf "=") ≡ vs ++ replicate l (byteOf "=") → (us ≡ vs) × (k ≡ l)
 cut-same [] [] k l a b e = (refl, sym (length-replicate k (byteOf "=")) ∙ ap length e ∙ length-replicate l (byteOf "="))
 cut-same [] (v ∷ vs) zero l a b e = absurd (omega (arith, ap length e))
 cut-same [] (v ∷ vs) (suc k) l a (also p b) e = absurd (p (sym (ap (λ (x : List ℕ). getD x 0 0) e)))

@@ -18,6 +18,7 @@ pub mod Sextets
 pub mod Encodings
 pub mod Contents
 pub mod Paddings
+pub mod Unfit
 pub mod Formed
 pub mod Moved
 pub mod Pieces

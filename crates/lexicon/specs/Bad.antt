@@ -3,12 +3,17 @@
 -- literal's bytes, from place i to place j. Assumes nothing.
 use mathlib.Core.Path.{_≡_}
 use mathlib.Core.Logic.{_⊎_}
-use mathlib.Core.List.{List, _∷_}
-use Prim.Native.Nat.{ℕ, _≤_, _<_}
+use mathlib.Core.Bool.{cond}
+use mathlib.Core.List.{List, [], _∷_, _++_}
+use Prim.Native.Nat.{ℕ, _+_, _*_, _≤_, _<_}
+use lib.Dec.{eqb}
+use lib.ListN.{replicate}
 use Rattle.rules.specs.Class.{byteOf}
 use Rattle.rules.specs.Rule.{_then_, _or_, many, opt, lit, Takes, Among}
 use Rattle.lexicon.specs.Bytes.{base64}
 use Rattle.lexicon.specs.Space.{sp}
+use Rattle.lexicon.specs.Expansion.{bitsOf}
+use Rattle.lexicon.specs.Base64.{character}
 use Rattle.lexicon.specs.Literals.{integer, significand, spaced, power, unescaped, escape, segment}
 use Rattle.lexicon.specs.Values.{Digits, Number, BlobOf, CodeOf, Quoted}
 
@@ -30,6 +35,27 @@ pub data Other : List ℕ → Type 0 where
 pub data Misplaced : List ℕ → Type 0 where
   now : {ds : List ℕ} → Other ds → Misplaced (byteOf "=" ∷ ds)
   later : {d : ℕ} {ds : List ℕ} → Misplaced ds → Misplaced (d ∷ ds)
+
+-- how many bytes are `=`
+abbrev pub pads : List ℕ → ℕ
+pads [] = 0
+pads (d ∷ ds) = cond (eqb d (byteOf "=")) 1 0 + pads ds
+
+-- bits left over that are not zero: the lowest of the last character before the `=`, two for each `=`
+pub record LeftOver (ds : List ℕ) : Type 0 where
+  pub before : List ℕ
+  pub last : ℕ
+  pub six-bits : last < 64
+  pub padding : ℕ
+  pub characters-are : ds ≡ before ++ (character last ∷ replicate padding (byteOf "="))
+  pub not-zero : bitsOf (2 * padding) last ≡ replicate (2 * padding) 0 → ⊥
+
+-- bad base-64 characters in the Blob call: 01's `=` with another later; 02, request 1, 'more than two `=`', 'bits left
+-- over that aren't zero'. Exactly then there are no bytes (lexicon/proofs/Unfit.antt: `bad-no-bytes`, `no-bytes-bad`)
+pub data BadBase64 (ds : List ℕ) : Type 0 where
+  notAtEnd : Misplaced ds → BadBase64 ds
+  moreThanTwo : 2 < pads ds → BadBase64 ds
+  bitsLeft : LeftOver ds → BadBase64 ds
 
 module _ (text : List ℕ) where
   -- ---- Text
