@@ -26,14 +26,13 @@ use Rattle.lexicon.specs.Bad.{Other, Misplaced, BadPadding}
 use Rattle.lexicon.specs.Bad as Bad
 use Rattle.lexicon.proofs.Spaces.{skips-same, landed}
 use Rattle.lexicon.proofs.Groups.{Clear, digits-most, digits-same, digits-at, digits-unit, digits-forward, to-row, of-row}
-use Rattle.lexicon.proofs.Numbers.{clear}
+use Rattle.lexicon.proofs.Numbers.{clear, clear-base64}
 use Rattle.number.specs.Tally.{paddedOf, tallyOf, tallies}
 use Rattle.number.specs.declared.groups.Groups.{Groups}
 use Rattle.number.specs.declared.groups.Groups.the-variants as Groups
 use Rattle.number.specs.Groups.{Grouped}
 use Rattle.number.specs.Blob.{TailOf, digits-stand, none-stand}
 use Rattle.number.proofs.Sums.{first-pad, later-pad, no-pad, misplaced}
-use Rattle.number.proofs.Joints.{clear-base64}
 
 -- ---- the digits behind a mark
 

@@ -1,5 +1,5 @@
 -- No digit begins what joins two units, and that ends in one place only. Assumes nothing.
-use mathlib.Core.Path.{_≡_, refl, sym, subst, _∙_}
+use mathlib.Core.Path.{_≡_, sym, subst, _∙_}
 use mathlib.Core.Bool.{Bool, true, false}
 use mathlib.Core.List.{List}
 use Prim.Native.Nat.{ℕ, _+_, _≤_}
@@ -10,22 +10,17 @@ use Rattle.rules.specs.Class.{Class, just, anyOf}
 use Rattle.rules.specs.Rule.{one, opt, At, Takes, nothing, byte, left, right, Longest}
 use Rattle.rules.proofs.Matches.{forward, starting}
 use Rattle.rules.proofs.Tests.{there, not-there}
-use Rattle.rules.proofs.Classes.{apart, apartSpan}
-use Rattle.rules.proofs.Ways.{never, never-takes}
+use Rattle.rules.proofs.Ways.{never-takes}
 use Rattle.lexicon.specs.declared.Base.{Base}
 use Rattle.lexicon.specs.declared.Base.the-variants.{Two, Eight, Ten, Sixteen}
 use Rattle.lexicon.specs.declared.Set.{Set}
-use Rattle.lexicon.specs.Bytes.{members, base64, digitSet}
+use Rattle.lexicon.specs.Bytes.{members, digitSet}
 use Rattle.lexicon.specs.Space.{sp, Skips}
 use Rattle.lexicon.specs.Literals.{joint}
 use Rattle.lexicon.proofs.Spaces.{landed}
 use Rattle.lexicon.proofs.Groups.{Clear, underscore-space}
-use Rattle.lexicon.proofs.Numbers.{clear}
+use Rattle.lexicon.proofs.Numbers.{clear, clear-base64}
 use Rattle.number.specs.Groups.{OfDigits}
-
-pub clear-base64 : Clear base64
-unfolding never apart apartSpan
-clear-base64 = record { no-joint = refl; no-blank = refl }
 
 pub clear-digits : {s : Set} → OfDigits s → Clear (members s)
 clear-digits OfDigits.binary = clear Two
