@@ -34,8 +34,7 @@ use Rattle.values.proofs.Shapes.{no-word, no-code, word-code, quoted-good, word
 use Rattle.values.proofs.Spelled.{quoted-same}
 use Rattle.values.proofs.Characters.{quoted-bytes, word-same}
 use Rattle.values.proofs.Values.{code-of, quoted-of}
-use Rattle.values.proofs.Texts.{quoted-known, code-known, text-same}
-use Rattle.values.proofs.Fits.{text-short}
+use Rattle.values.proofs.Texts.{quoted-known, code-known, text-same, text-short}
 use Rattle.buffer.specs.Puts.{largest, Puts}
 use Rattle.buffer.proofs.Puts.{puts-same, puts-ends, puts-start, puts-empty}
 use Rattle.text_value.proofs.Copies.{whole-read}
