@@ -4,7 +4,7 @@ use lexicon::Base;
 use lexicon::Set;
 ghost use mathlib.Core.Path.{_≡_};
 ghost use Rattle.lexicon.specs.Bytes.{digitSet};
-ghost use Rattle.lexicon.specs.Parts.{size};
+ghost use Rattle.lexicon.specs.Parts.{size, sextet as sextetOf};
 ghost use Rattle.lexicon.specs.Values.{digit as digitOf};
 ghost use Rattle.lexicon.specs.Limited.{limited as limitedOf};
 ghost use Rattle.text.specs.Letters.{Letters};
@@ -70,6 +70,25 @@ pub fn digit(b: u8) -> u64
         return (b - 0x30) as u64;
     }
     (b - 0x37) as u64
+}
+
+// The number that a base-64 character stands for. Its byte comes as a wider number, as the padding's state keeps it.
+pub fn sextet(b: u32) -> u32
+    ensures { λ r. ⌜ r ≡ sextetOf b ⌝ }
+{
+    if b >= 0x61 {
+        return b - 0x61 + 26;
+    }
+    if b >= 0x41 {
+        return b - 0x41;
+    }
+    if b >= 0x30 {
+        return b - 0x30 + 52;
+    }
+    if b == 0x2B {
+        return 62;
+    }
+    63
 }
 
 // A number with one digit more, up to the limit.
