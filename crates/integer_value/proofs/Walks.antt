@@ -4,21 +4,17 @@ use mathlib.Core.List.{List}
 use Prim.Native.Nat.{ℕ, _+_, _*_, _≤_, _<_, _^_}
 use native.Mathlib.Omega.{arith}
 use lib.ListN.{length, getD}
-use Rattle.rules.specs.Class.{Class, anyOf}
-use Rattle.rules.specs.Rule.{opt, At, Takes, nothing, byte, left, right}
-use Rattle.rules.proofs.Matches.{forward, starting, move-at}
-use Rattle.rules.proofs.Ways.{never-takes}
+use Rattle.rules.specs.Rule.{opt, Longest}
+use Rattle.rules.proofs.Matches.{forward, starting}
 use Rattle.lexicon.specs.declared.Base.{Base}
 use Rattle.lexicon.specs.Bytes.{digits, radix}
-use Rattle.lexicon.specs.Space.{sp}
 use Rattle.lexicon.specs.Literals.{joint}
 use Rattle.lexicon.specs.Values.{Digits, lastUnit, nextUnit, digit, value, valueFrom}
-use Rattle.lexicon.proofs.Spaces.{skips-same, landed}
-use Rattle.lexicon.proofs.Groups.{Clear, digits-at, digits-forward, unit-end, underscore-space}
+use Rattle.lexicon.proofs.Groups.{digits-at, digits-forward, unit-end, joint-end}
 use Rattle.lexicon.proofs.Numbers.{clear}
 use Rattle.integer_value.specs.declared.digits.Size.{Size}
 use Rattle.integer_value.specs.declared.digits.Size.the-variants as Size
-use Rattle.integer_value.specs.Parts.{JointOf, line, space, Counted, Ends, Total}
+use Rattle.integer_value.specs.Parts.{Counted, Ends, Total}
 use Rattle.integer_value.proofs.Numbers.{radix-some, grows}
 
 -- at i, with the number sum of the digits before: what is left comes to the whole number
@@ -28,20 +24,6 @@ pub record Walk (piece : List ℕ) (b : Base) (at i sum : ℕ) : Type 0 where
   pub rest : List ℕ
   pub rest-are : Digits piece 1 (digits b) i (length piece) rest
   pub so-far : valueFrom (radix b) sum rest ≡ value (radix b) whole
-
--- a digit that stands behind a joint stands where the joint is left
-lands : {piece : List ℕ} {c : Class} → Clear c → {m k r : ℕ} → JointOf piece m r → Takes piece (opt joint) m k → At piece c k → k ≡ r
-lands {piece} {c} cl (line a) (right (nothing e)) x =
-    absurd (never-takes piece c joint (cl .no-joint) (move-at piece c (sym e) x) (left (byte a refl)))
-lands cl (line a) (left (left (byte y e))) x = e
-lands {piece} cl (line a) (left (right t)) x = absurd (never-takes piece (anyOf "_") sp underscore-space a t)
-lands {piece} {c} cl (space f s) (right (nothing e)) x = skips-same (landed c (cl .no-blank) (right (nothing e)) x) s
-lands cl (space f s) (left (left (byte y e))) x = absurd (f y)
-lands {piece} {c} cl (space f s) (left (right t)) x = skips-same (landed c (cl .no-blank) (left t) x) s
-
-pub joint-forward : (piece : List ℕ) {m k : ℕ} → JointOf piece m k → m ≤ k
-joint-forward piece (line a) = omega arith
-joint-forward piece (space f s) = forward (s .takes)
 
 module _ (piece : List ℕ) (b : Base) (at : ℕ) where
   pub walk-begins : Ends piece b at → Walk piece b at at 0
@@ -79,10 +61,10 @@ module _ (piece : List ℕ) (b : Base) (at : ℕ) where
         let y = w .so-far in
         record { bytes = w .whole; digits-are = w .whole-are; counted = (omega arith, omega arith) }
 
-    step : {ds : List ℕ} (v k : ℕ) → Digits piece 1 (digits b) i (length piece) ds → valueFrom (radix b) sum ds ≡ value (radix b) (w .whole) → v ≡ longer → (i + 1 ≡ length piece → ⊥) → JointOf piece (i + 1) k → Walk piece b at k v
+    step : {ds : List ℕ} (v k : ℕ) → Digits piece 1 (digits b) i (length piece) ds → valueFrom (radix b) sum ds ≡ value (radix b) (w .whole) → v ≡ longer → (i + 1 ≡ length piece → ⊥) → Longest piece (opt joint) (i + 1) k → Walk piece b at k v
     step v k (lastUnit u) q e h j = absurd (h (sym (unit-end 1 (digits b) u)))
     step v k (nextUnit {ds = ds} u s d) q e h j =
-        let p = lands (clear b) j (starting (unit-end 1 (digits b) u) s) (digits-at piece 0 (digits b) (clear b) d) in
+        let p = joint-end (digits b) (clear b) (starting (unit-end 1 (digits b) u) s) (digits-at piece 0 (digits b) (clear b) d) j in
         record {
           whole = w .whole;
           whole-are = w .whole-are;
@@ -91,5 +73,5 @@ module _ (piece : List ℕ) (b : Base) (at : ℕ) where
           so-far = ap (λ (x : ℕ). valueFrom (radix b) x ds) e ∙ q;
         }
 
-    pub walk-next : (r : Size) (v k : ℕ) → Counted longer r → r ≡ Size.Of v → (i + 1 ≡ length piece → ⊥) → JointOf piece (i + 1) k → Walk piece b at k v
+    pub walk-next : (r : Size) (v k : ℕ) → Counted longer r → r ≡ Size.Of v → (i + 1 ≡ length piece → ⊥) → Longest piece (opt joint) (i + 1) k → Walk piece b at k v
     walk-next r v k c e h j = step v k (w .rest-are) (w .so-far) (counted-of r v c e .0) h j

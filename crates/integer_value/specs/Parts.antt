@@ -6,8 +6,7 @@ use Prim.Native.Nat.{ℕ, _+_, _≤_, _<_, _^_}
 use lib.Dec.{eqb}
 use lib.IntN.{ℤ}
 use lib.ListN.{length, getD}
-use Rattle.rules.specs.Class.{just, byteOf}
-use Rattle.rules.specs.Rule.{At}
+use Rattle.rules.specs.Class.{byteOf}
 use Rattle.lexicon.specs.declared.Base.{Base}
 use Rattle.lexicon.specs.declared.Base.the-variants.{Ten}
 use Rattle.lexicon.specs.Bytes.{digits, radix}
@@ -30,11 +29,6 @@ module _ (piece : List ℕ) where
   pub data MarkOf (i : ℕ) : Base → ℕ → Type 0 where
     hasMark : {b : Base} {g : ℕ} → HasMark piece b i → Skips piece (i + 2) g → MarkOf i b g
     noMark : NoMark piece i → MarkOf i Ten i
-
-  -- where the next digit may stand
-  pub data JointOf (i : ℕ) : ℕ → Type 0 where
-    line : At piece (just (byteOf "_")) i → JointOf i (i + 1)
-    space : {g : ℕ} → (At piece (just (byteOf "_")) i → ⊥) → Skips piece i g → JointOf i g
 
 -- the number n, up to 2^63
 abbrev pub Counted : ℕ → Size → Type 0

@@ -1,15 +1,14 @@
 // The number of a literal's digits, as far as a signed 64-bit integer needs it. The functions with a `requires` are this crate's
 // own: their caller has found the literal.
 use lexicon::Base;
-use space::space;
+use space::joint::joint;
 use text::digit::digit;
 use text::digit::digit_set;
 use text::digit::radix;
-ghost use Prim.Native.Nat.{_+_, _*_, _<_};
-ghost use lib.ListN.{length};
+ghost use Prim.Native.Nat.{_+_, _*_};
 ghost use Rattle.lexicon.specs.Bytes.{radix as radixOf};
 ghost use Rattle.lexicon.specs.Values.{digit as digitOf};
-ghost use Rattle.integer_value.specs.Parts.{JointOf, Counted, Ends, Total};
+ghost use Rattle.integer_value.specs.Parts.{Counted, Ends, Total};
 
 // A number up to 2^63, or that it is greater.
 pub enum Size {
@@ -32,17 +31,6 @@ fn longer(size: u64, base: Base, b: u8) -> Size
     Size::Of(size * n + d)
 }
 
-// Where the next digit stands: behind one `_`, or behind the dividing space, if there is any.
-fn joined(piece: &[u8], at: usize) -> usize
-    requires { ⌜ at < length (now piece) ⌝ }
-    ensures { λ r. ⌜ JointOf (now (piece .entry)) at r ⌝ }
-{
-    if piece[at] == b'_' {
-        return at + 1;
-    }
-    space(piece, at)
-}
-
 // The number of the digits from the place to the end of the piece.
 pub(crate) fn total(piece: &[u8], at: usize, base: Base) -> Size
     requires { ⌜ Ends (now piece) base at ⌝ }
@@ -59,6 +47,6 @@ pub(crate) fn total(piece: &[u8], at: usize, base: Base) -> Size
         if i == piece.len() {
             return Size::Of(sum);
         }
-        i = joined(piece, i);
+        i = joint(piece, i);
     }
 }

@@ -6,11 +6,11 @@ use mathlib.Core.Bool.{true}
 use mathlib.Core.List.{List, _++_, append-assoc}
 use Prim.Native.Nat.{ℕ, zero, suc, _+_, _*_, _≤_, _<_}
 use native.Mathlib.Decide.{decLe}
-use native.Mathlib.Nat.{not-suc-le-zero, le-of-suc-le-suc, add-zero, mul-one, mul-suc}
+use native.Mathlib.Nat.{not-suc-le-zero, le-of-suc-le-suc, le-antisymm, add-zero, mul-one, mul-suc}
 use native.Mathlib.Omega.{arith}
 use lib.ListN.{length, length-append}
 use Rattle.rules.specs.Class.{Class, In, anyOf}
-use Rattle.rules.specs.Rule.{_then_, many, plus, opt, At, Takes, nothing, byte, both, left, right, stop, more}
+use Rattle.rules.specs.Rule.{_then_, many, plus, opt, At, Takes, nothing, byte, both, left, right, stop, more, Longest}
 use Rattle.rules.specs.Every.{Every, none, also}
 use Rattle.rules.proofs.Every.{every-append}
 use Rattle.rules.proofs.Classes.{apart, apartSpan}
@@ -60,6 +60,20 @@ module _ {text : List ℕ} where
   joint-same cl (left (right t)) a (left (left (byte x e))) b = absurd (never-takes text (anyOf "_") sp underscore-space x t)
   joint-same {c} cl (left (right t)) a (left (right u)) b =
       skips-same (landed c (cl .no-blank) (left t) a) (landed c (cl .no-blank) (left u) b)
+
+  -- and the longest one there
+  pub joint-end : (c : Class) {i k m : ℕ} → Clear c → Takes text (opt joint) i k → At text c k → Longest text (opt joint) i m → k ≡ m
+  joint-end c {i} {k} {m} cl t a l = go t (l .takes) (l .most t)
+    where
+      go : Takes text (opt joint) i k → Takes text (opt joint) i m → k ≤ m → k ≡ m
+      go (right (nothing e)) (right (nothing f)) h = sym e ∙ f
+      go (right (nothing e)) (left u) h = absurd (never-takes text c joint (cl .no-joint) a (starting e u))
+      go (left (left (byte x e))) (right (nothing f)) h = absurd (omega arith)
+      go (left (left (byte x e))) (left (left (byte y f))) h = e ∙ sym f
+      go (left (left (byte x e))) (left (right u)) h = absurd (never-takes text (anyOf "_") sp underscore-space x u)
+      go (left (right u)) (right (nothing f)) h = le-antisymm h (omega (arith, forward u))
+      go (left (right u)) (left (left (byte x e))) h = absurd (never-takes text (anyOf "_") sp underscore-space x u)
+      go (left (right u)) (left (right v)) h = le-antisymm h (landed c (cl .no-blank) (left u) a .most (left v))
 
 -- ---- rows of units
 

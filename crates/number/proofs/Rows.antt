@@ -11,11 +11,11 @@ use Rattle.lexicon.specs.declared.Set.{Set}
 use Rattle.lexicon.specs.Bytes.{members}
 use Rattle.lexicon.specs.Literals.{unit, joint}
 use Rattle.lexicon.specs.Values.{Digits, read, lastUnit}
-use Rattle.lexicon.proofs.Groups.{unit-end, unit-byte, snoc-digits}
+use Rattle.lexicon.proofs.Groups.{unit-end, unit-byte, joint-end, snoc-digits}
 use Rattle.number.specs.Groups.{OfDigits, Summed, Row}
 use Rattle.number.specs.Tally.{tallies}
 use Rattle.number.proofs.Sums.{tallies-append, tallies-split}
-use Rattle.number.proofs.Joints.{clear-digits, joint-end}
+use Rattle.number.proofs.Joints.{clear-digits}
 
 module _ (text : List ℕ) (set : Set) (n : ℕ) where
   abbrev Unit : ℕ → ℕ → Type 0

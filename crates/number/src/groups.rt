@@ -3,15 +3,14 @@
 // the table that it is lent is the classes', made by its caller.
 use crate::tally::tally_run;
 use lexicon::Set;
-use space::space;
-use text::byte::stands;
+use space::joint::joint;
 use text::class::classes;
 use text::class::holds;
 ghost use Prim.Native.Nat.{_≤_};
 ghost use lib.ListN.{length};
-ghost use Rattle.rules.specs.Rule.{one, many, opt, Longest};
+ghost use Rattle.rules.specs.Rule.{one, many, Longest};
 ghost use Rattle.lexicon.specs.Bytes.{members};
-ghost use Rattle.lexicon.specs.Literals.{unit, joint as jointOf};
+ghost use Rattle.lexicon.specs.Literals.{unit};
 ghost use Rattle.text.specs.Classes.{IsTable};
 ghost use Rattle.number.specs.Groups.{OfDigits, Grouped};
 
@@ -48,17 +47,6 @@ fn units(text: &[u8], at: usize, set: Set, width: usize, classes: &[u8; 256]) ->
         return end;
     }
     at + (end - at) / width * width
-}
-
-// Behind one `_`, or behind the dividing space.
-fn joint(text: &[u8], at: usize) -> usize
-    requires { ⌜ at ≤ length (now text) ⌝ }
-    ensures { λ r. ⌜ Longest (now (text .entry)) (opt jointOf) at r ⌝ }
-{
-    if stands(text, at, b'_') {
-        return at + 1;
-    }
-    space(text, at)
 }
 
 // The longest row of units from a place. The table of classes is made once, for all of them.

@@ -1,5 +1,6 @@
 // Dividing space: any run of the four dividing bytes and whole comments.
 pub mod front;
+pub mod joint;
 
 ghost use Rattle.lexicon.specs.Space.{Skips};
 

@@ -3,7 +3,8 @@ use Prim.Native.Nat.{_-_}
 use native.Mathlib.Omega.{arith}
 use lib.ListN.{length}
 use borrow.Author.Needs.{needs}
-use Rattle.integer_value.proofs.Walks.{Walk, walk-begins, walk-within, walk-beyond, walk-ends, walk-next, joint-forward}
+use Rattle.rules.proofs.Matches.{forward}
+use Rattle.integer_value.proofs.Walks.{Walk, walk-begins, walk-within, walk-beyond, walk-ends, walk-next}
 use Rattle.integer_value.proofs.digits.total.Statement.{statement}
 use Rattle.integer_value.proofs.digits.total.Tie as tie
 
@@ -51,17 +52,14 @@ returns-2 c =
     walk-ends (a .piece .now) (a .base) (a .at) (l .loop .i) (l .loop .sum) (l .loop .inv)
     (c .before .before .before .before .longer .result) _ (c .before .before .before .before .longer .ensures) (c .before .before .next .given .1) (c .if1 .taken)
 
-joined-requires : tie.Need-joined-requires Inv-loop μ-loop
-joined-requires c κs =
-    let l = c .before .before .before .before .before .before in
-    let a = l .before .before .args in
-    omega (arith, walk-within (a .piece .now) (a .base) (a .at) (l .loop .i) (l .loop .sum) (l .loop .inv))
+joint-requires : tie.Need-joint-requires Inv-loop μ-loop
+joint-requires c κs = search needs
 
 loop-less : tie.Need-loop-less Inv-loop μ-loop
 loop-less c =
     let l = c .before .before .before .before .before .before .before in
     let a = l .before .before .args in
-    omega (arith, walk-within (a .piece .now) (a .base) (a .at) (l .loop .i) (l .loop .sum) (l .loop .inv), joint-forward _ (c .joined .ensures))
+    omega (arith, walk-within (a .piece .now) (a .base) (a .at) (l .loop .i) (l .loop .sum) (l .loop .inv), forward (c .joint .ensures .takes))
 
 loop-again : tie.Need-loop-again Inv-loop μ-loop
 loop-again c =
@@ -69,7 +67,7 @@ loop-again c =
     let a = l .before .before .args in
     walk-next (a .piece .now) (a .base) (a .at) (l .loop .i) (l .loop .sum) (l .loop .inv)
     (c .before .before .before .before .before .longer .result) _ _ (c .before .before .before .before .before .longer .ensures)
-    (c .before .before .before .next .given .1) (c .before .if1 .left) (c .joined .ensures)
+    (c .before .before .before .next .given .1) (c .before .if1 .left) (c .joint .ensures)
 
 pub total-spec : {M : Type 1} → statement M
 total-spec =
@@ -85,6 +83,6 @@ total-spec =
     returns
     add-i
     returns-2
-    joined-requires
+    joint-requires
     loop-less
     loop-again)

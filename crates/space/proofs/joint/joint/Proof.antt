@@ -1,14 +1,16 @@
--- `number::groups::joint` meets its contract. Assumes nothing.
-use Rattle.number.proofs.Joints.{joint-line, joint-space}
+-- `space::joint::joint` meets its contract. Assumes nothing.
+use native.Mathlib.Omega.{arith}
+use Rattle.rules.proofs.Tests.{there}
+use Rattle.space.proofs.Joints.{joint-line, joint-space}
 use borrow.Author.Needs.{needs}
-use Rattle.number.proofs.groups.joint.Statement.{statement}
-use Rattle.number.proofs.groups.joint.Tie as tie
+use Rattle.space.proofs.joint.joint.Statement.{statement}
+use Rattle.space.proofs.joint.joint.Tie as tie
 
 stands-requires : tie.Need-stands-requires
 stands-requires c κs = search needs
 
 add-result : tie.Need-add-result
-add-result c = search needs
+add-result c = omega (arith, there (c .before .stands .ensures) (c .if1 .taken) .0, c .before .before .before .good .0 .0)
 
 returns : tie.Need-returns
 returns c = search (joint-line, needs)
