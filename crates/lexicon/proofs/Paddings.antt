@@ -3,9 +3,9 @@
 -- were too many for the bits before them, 4 once another character stands behind a `=`. Assumes nothing.
 use mathlib.Core.Path.{_≡_, refl, sym, ap, subst, subst⁻¹, _∙_}
 use mathlib.Core.Logic.{_⊎_, inl, inr}
-use mathlib.Core.Bool.{Bool, true, false, cond, not, _||_, false≢true}
+use mathlib.Core.Bool.{Bool, true, false, cond, not, _||_}
 use mathlib.Core.List.{List, [], _∷_, _++_, foldl}
-use Prim.Native.Nat.{ℕ, zero, suc, _+_, _-_, _%_, _^_, _≤_}
+use Prim.Native.Nat.{ℕ, zero, suc, _+_, _-_, _%_, _^_, _≤_, _<_}
 use native.Mathlib.Decide.{ℕ-discrete, decLe}
 use native.Mathlib.Omega.{arith}
 use lib.Dec.{leb, eqb}
@@ -35,9 +35,76 @@ padded s b = cond (eqb b (byteOf "=")) (pad s) (cond (leb 5 s) (b + 5) (cond (eq
 abbrev pub run : ℕ → List ℕ → ℕ
 run s ds = foldl padded s ds
 
+-- what a state tells: another character stands behind a `=`; the characters so far encode no bytes
+abbrev pub misplaced : ℕ → Bool
+misplaced s = eqb s 4
+
+abbrev pub unfit : ℕ → Bool
+unfit s = eqb s 3 || eqb s 4
+
 -- ---- one character
 
--- no `=` has come
+module _ (v : ℕ) where
+  pub opened-one : v % 16 ≡ 0 → 1 ≡ opened v
+  unfolding opened
+  opened-one e = rw (eq-eqb (v % 16) 0 e) refl
+
+  pub opened-two : (v % 16 ≡ 0 → ⊥) → v % 4 ≡ 0 → 2 ≡ opened v
+  unfolding opened
+  opened-two n e = rw (ne-eqb (v % 16) 0 n, eq-eqb (v % 4) 0 e) refl
+
+  pub opened-three : (v % 4 ≡ 0 → ⊥) → 3 ≡ opened v
+  unfolding opened
+  opened-three n = rw (ne-eqb (v % 16) 0 (λ e. n (omega (arith, e))), ne-eqb (v % 4) 0 n) refl
+
+  opened-range : (1 ≤ opened v) × (opened v ≤ 3)
+  unfolding opened
+  opened-range = by (eqb (v % 16) 0) (eqb (v % 4) 0)
+    where
+      by : (a b : Bool) → (1 ≤ cond a 1 (cond b 2 3)) × (cond a 1 (cond b 2 3) ≤ 3)
+      by true b = omega arith
+      by false true = omega arith
+      by false false = omega arith
+
+module _ (s : ℕ) where
+  pub pad-first : (v r : ℕ) → 5 ≤ s → v ≡ sextet (s - 5) → r ≡ opened v → r ≡ pad s
+  unfolding pad
+  pad-first v r h e f = rw (le-leb 5 s h) (f ∙ ap opened e)
+
+  pub pad-next : s < 3 → s + 1 ≡ pad s
+  unfolding pad
+  pad-next h = rw (lt-leb 5 s (omega (arith, h)), le-leb s 2 (omega (arith, h))) refl
+
+  pub pad-stays : s < 5 → 3 ≤ s → s ≡ pad s
+  unfolding pad
+  pad-stays h l = rw (lt-leb 5 s h, lt-leb s 2 l) refl
+
+  module _ (b : ℕ) where
+    pub padded-pad : (r : ℕ) → b ≡ 0x3D → r ≡ pad s → r ≡ padded s b
+    unfolding padded
+    padded-pad r e f = rw (eq-eqb b 0x3D e) f
+
+    pub padded-character : (b ≡ 0x3D → ⊥) → 5 ≤ s → b + 5 ≡ padded s b
+    unfolding padded
+    padded-character n h = rw (ne-eqb b 0x3D n, le-leb 5 s h) refl
+
+    pub padded-first : (b ≡ 0x3D → ⊥) → s ≡ 0 → b + 5 ≡ padded s b
+    unfolding padded
+    padded-first n e = rw (ne-eqb b 0x3D n, e) refl
+
+    pub padded-other : (b ≡ 0x3D → ⊥) → s < 5 → (s ≡ 0 → ⊥) → 4 ≡ padded s b
+    unfolding padded
+    padded-other n h m = rw (ne-eqb b 0x3D n, lt-leb 5 s h, ne-eqb s 0 m) refl
+
+  pub unfit-three : s ≡ 3 → eqb s 3 ≡ unfit s
+  unfit-three e = rw (eq-eqb s 3 e) refl
+
+  pub unfit-four : (s ≡ 3 → ⊥) → eqb s 4 ≡ unfit s
+  unfit-four n = rw (ne-eqb s 3 n) refl
+
+-- ---- before and behind the first `=`
+
+-- none has come
 abbrev Before : ℕ → Type 0
 Before s = (s ≡ 0) ⊎ (5 ≤ s)
 
@@ -45,46 +112,26 @@ Before s = (s ≡ 0) ⊎ (5 ≤ s)
 abbrev last : ℕ → ℕ
 last s = cond (leb 5 s) (sextet (s - 5)) 0
 
+last-is : (d : ℕ) → last (d + 5) ≡ sextet d
+last-is d = rw (le-leb 5 (d + 5) (omega arith)) (ap sextet (omega arith))
+
 first-pad : (s : ℕ) → Before s → padded s 0x3D ≡ opened (last s)
 unfolding padded pad opened
 first-pad s (inl e) = rw e refl
 first-pad s (inr h) = rw (le-leb 5 s h) refl
 
 next-pad : (s : ℕ) → s ≤ 2 → padded s 0x3D ≡ s + 1
-unfolding padded pad
-next-pad s h = rw (lt-leb 5 s (omega (arith, h)), le-leb s 2 h) refl
+next-pad s h = sym (padded-pad s 0x3D (s + 1) refl (pad-next s (omega arith)))
 
 last-pad : (s : ℕ) → 3 ≤ s → s ≤ 4 → padded s 0x3D ≡ s
-unfolding padded pad
-last-pad s l h = rw (lt-leb 5 s (omega (arith, h)), lt-leb s 2 l) refl
+last-pad s l h = sym (padded-pad s 0x3D s refl (pad-stays s (omega arith) l))
 
 character : (s b : ℕ) → (b ≡ 0x3D → ⊥) → Before s → padded s b ≡ b + 5
-unfolding padded
-character s b n (inl e) = rw (ne-eqb b 0x3D n, e) refl
-character s b n (inr h) = rw (ne-eqb b 0x3D n, le-leb 5 s h) refl
+character s b n (inl e) = sym (padded-first s b n e)
+character s b n (inr h) = sym (padded-character s b n h)
 
-misplaced : (s b : ℕ) → (b ≡ 0x3D → ⊥) → 1 ≤ s → s ≤ 4 → padded s b ≡ 4
-unfolding padded
-misplaced s b n l h = rw (ne-eqb b 0x3D n, lt-leb 5 s (omega (arith, h)), ne-eqb s 0 (λ e. omega (arith, e, l))) refl
-
--- the first `=` is as good as one, as two or as three
-first-from : (v : ℕ) → 1 ≤ opened v
-unfolding opened
-first-from v = by (eqb (v % 16) 0) (eqb (v % 4) 0)
-  where
-    by : (a b : Bool) → 1 ≤ cond a 1 (cond b 2 3)
-    by true b = omega arith
-    by false true = omega arith
-    by false false = omega arith
-
-first-upto : (v : ℕ) → opened v ≤ 3
-unfolding opened
-first-upto v = by (eqb (v % 16) 0) (eqb (v % 4) 0)
-  where
-    by : (a b : Bool) → cond a 1 (cond b 2 3) ≤ 3
-    by true b = omega arith
-    by false true = omega arith
-    by false false = omega arith
+other-behind : (s b : ℕ) → (b ≡ 0x3D → ⊥) → 1 ≤ s → s ≤ 4 → padded s b ≡ 4
+other-behind s b n l h = sym (padded-other s b n (omega arith) (λ e. omega (arith, e)))
 
 -- ---- another character behind a `=`
 
@@ -100,10 +147,10 @@ stays (d ∷ ds) = by (ℕ-discrete d 0x3D) (stays ds)
   where
     by : Dec (d ≡ 0x3D) → run 4 ds ≡ 4 → run 4 (d ∷ ds) ≡ 4
     by (yes e) h = step 4 d ds (padded-by 4 e (last-pad 4 (omega arith) (omega arith))) ∙ h
-    by (no n) h = step 4 d ds (misplaced 4 d n (omega arith) (omega arith)) ∙ h
+    by (no n) h = step 4 d ds (other-behind 4 d n (omega arith) (omega arith)) ∙ h
 
-same-test : {a b : ℕ} (P : Type 0) → a ≡ b → Says (eqb b 4) P → Says (eqb a 4) P
-same-test P e s = subst⁻¹ (λ (x : ℕ). Says (eqb x 4) P) e s
+same-test : {a b : ℕ} (P : Type 0) → a ≡ b → Says (misplaced b) P → Says (misplaced a) P
+same-test P e s = subst⁻¹ (λ (x : ℕ). Says (misplaced x) P) e s
 
 skipped : {d : ℕ} {ds : List ℕ} → d ≡ 0x3D → Other (d ∷ ds) → Other ds
 skipped e (Bad.Other.now f) = absurd (f e)
@@ -117,17 +164,17 @@ behind-pad t l h = by (decLe t 2)
     by (yes m) = (t + 1, omega arith, omega (arith, m), next-pad t m)
     by (no m) = (t, l, h, last-pad t (omega (arith, m)) (omega (arith, h)))
 
-other-says : (t : ℕ) (ds : List ℕ) → 1 ≤ t → t ≤ 3 → Says (eqb (run t ds) 4) (Other ds)
+other-says : (t : ℕ) (ds : List ℕ) → 1 ≤ t → t ≤ 3 → Says (misplaced (run t ds)) (Other ds)
 other-says t [] l h = record { true-holds = λ e. absurd (omega (arith, eqb-true t 4 e, h)); holds-true = λ o. elim o [ ] }
 other-says t (d ∷ ds) l h = by (ℕ-discrete d 0x3D) (behind-pad t l h) (λ u x y. other-says u ds x y)
   where
-    by : Dec (d ≡ 0x3D) → (u : ℕ) × (1 ≤ u) × (u ≤ 3) × (padded t 0x3D ≡ u) → ((u : ℕ) → 1 ≤ u → u ≤ 3 → Says (eqb (run u ds) 4) (Other ds)) → Says (eqb (run t (d ∷ ds)) 4) (Other (d ∷ ds))
+    by : Dec (d ≡ 0x3D) → (u : ℕ) × (1 ≤ u) × (u ≤ 3) × (padded t 0x3D ≡ u) → ((u : ℕ) → 1 ≤ u → u ≤ 3 → Says (misplaced (run u ds)) (Other ds)) → Says (misplaced (run t (d ∷ ds))) (Other (d ∷ ds))
     by (yes e) p r =
         let s = r (p .0) (p .1) (p .2) in
         same-test (Other (d ∷ ds)) (step t d ds (padded-by t e (p .3)))
         (record { true-holds = λ x. Bad.Other.later (s .true-holds x); holds-true = λ o. s .holds-true (skipped e o) })
     by (no n) p r =
-        same-test (Other (d ∷ ds)) (step t d ds (misplaced t d n l (omega (arith, h))) ∙ stays ds) (record { true-holds = λ x. Bad.Other.now n; holds-true = λ o. refl })
+        same-test (Other (d ∷ ds)) (step t d ds (other-behind t d n l (omega (arith, h))) ∙ stays ds) (record { true-holds = λ x. Bad.Other.now n; holds-true = λ o. refl })
 
 other : {ds : List ℕ} → Misplaced ds → Other ds
 other (Bad.Misplaced.now o) = Bad.Other.later o
@@ -144,7 +191,7 @@ further : {d : ℕ} {ds : List ℕ} → (d ≡ 0x3D → ⊥) → Misplaced (d �
 further f (Bad.Misplaced.now o) = absurd (f refl)
 further f (Bad.Misplaced.later m) = m
 
-misplaced-from : (s : ℕ) (ds : List ℕ) → Before s → Says (eqb (run s ds) 4) (Misplaced ds)
+misplaced-from : (s : ℕ) (ds : List ℕ) → Before s → Says (misplaced (run s ds)) (Misplaced ds)
 misplaced-from s [] b = record { true-holds = λ e. absurd (never b (eqb-true s 4 e)); holds-true = λ o. elim o [ ] }
   where
     never : Before s → s ≡ 4 → ⊥
@@ -152,16 +199,16 @@ misplaced-from s [] b = record { true-holds = λ e. absurd (never b (eqb-true s 
     never (inr h) f = omega (arith, h, f)
 misplaced-from s (d ∷ ds) b = by (ℕ-discrete d 0x3D) (misplaced-from (d + 5) ds (inr (omega arith)))
   where
-    by : Dec (d ≡ 0x3D) → Says (eqb (run (d + 5) ds) 4) (Misplaced ds) → Says (eqb (run s (d ∷ ds)) 4) (Misplaced (d ∷ ds))
+    by : Dec (d ≡ 0x3D) → Says (misplaced (run (d + 5) ds)) (Misplaced ds) → Says (misplaced (run s (d ∷ ds))) (Misplaced (d ∷ ds))
     by (yes e) h =
-        let o = other-says (opened (last s)) ds (first-from (last s)) (first-upto (last s)) in
+        let o = other-says (opened (last s)) ds (opened-range (last s) .0) (opened-range (last s) .1) in
         same-test (Misplaced (d ∷ ds)) (step s d ds (padded-by s e (first-pad s b)))
         (record { true-holds = λ x. at-first e (o .true-holds x); holds-true = λ m. o .holds-true (rest m) })
     by (no n) h =
         same-test (Misplaced (d ∷ ds)) (step s d ds (character s d n b))
         (record { true-holds = λ x. Bad.Misplaced.later (h .true-holds x); holds-true = λ m. h .holds-true (further n m) })
 
-pub misplaced-says : (ds : List ℕ) → Says (eqb (run 0 ds) 4) (Misplaced ds)
+pub misplaced-says : (ds : List ℕ) → Says (misplaced (run 0 ds)) (Misplaced ds)
 misplaced-says ds = misplaced-from 0 ds (inl refl)
 
 -- ---- how many `=`, and the bits before them
@@ -176,7 +223,7 @@ unfit-stays s (d ∷ ds) u = by (ℕ-discrete d 0x3D) (λ t v. unfit-stays t ds 
   where
     by : Dec (d ≡ 0x3D) → ((t : ℕ) → Unfit t → Unfit (run t ds)) → Unfit (run s (d ∷ ds))
     by (yes e) r = subst⁻¹ Unfit (step s d ds (padded-by s e (last-pad s (u .0) (u .1)))) (r s u)
-    by (no n) r = subst⁻¹ Unfit (step s d ds (misplaced s d n (omega (arith, u .0)) (u .1))) (r 4 (omega arith, omega arith))
+    by (no n) r = subst⁻¹ Unfit (step s d ds (other-behind s d n (omega (arith, u .0)) (u .1))) (r 4 (omega arith, omega arith))
 
 -- behind the first: nothing but `=`, and few
 record Pads (t : ℕ) (ds : List ℕ) : Type 0 where
@@ -194,7 +241,7 @@ good-pads t (d ∷ ds) l h g = by (ℕ-discrete d 0x3D) (decLe t 2) (λ x y. goo
   where
     by : Dec (d ≡ 0x3D) → Dec (t ≤ 2) → (1 ≤ t + 1 → t + 1 ≤ 3 → (Unfit (run (t + 1) ds) → ⊥) → Pads (t + 1) ds) → Pads t (d ∷ ds)
     by (no n) m r =
-        absurd (g (subst⁻¹ Unfit (step t d ds (misplaced t d n l (omega (arith, h)))) (unfit-stays 4 ds (omega arith, omega arith))))
+        absurd (g (subst⁻¹ Unfit (step t d ds (other-behind t d n l (omega (arith, h)))) (unfit-stays 4 ds (omega arith, omega arith))))
     by (yes e) (yes m) r =
         let p = r (omega arith) (omega (arith, m)) (λ x. g (subst⁻¹ Unfit (step t d ds (padded-by t e (next-pad t m))) x)) in
         record { count = suc (p .count); are = ap (λ (x : ℕ). x ∷ ds) e ∙ ap (λ (l : List ℕ). 0x3D ∷ l) (p .are); few = omega (arith, p .few) }
@@ -209,18 +256,6 @@ pads-good t (suc n) h = step t 0x3D (replicate n 0x3D) (next-pad t (omega arith)
 
 -- ---- the bits of the last character
 
-one-more : (v : ℕ) → v % 16 ≡ 0 → opened v ≡ 1
-unfolding opened
-one-more v e = rw (eq-eqb (v % 16) 0 e) refl
-
-no-more : (v : ℕ) → (v % 16 ≡ 0 → ⊥) → v % 4 ≡ 0 → opened v ≡ 2
-unfolding opened
-no-more v n e = rw (ne-eqb (v % 16) 0 n, eq-eqb (v % 4) 0 e) refl
-
-too-many : (v : ℕ) → (v % 4 ≡ 0 → ⊥) → opened v ≡ 3
-unfolding opened
-too-many v n = rw (ne-eqb (v % 16) 0 (λ e. n (omega (arith, e))), ne-eqb (v % 4) 0 n) refl
-
 -- those of each `=` are zero
 zeros : (v n : ℕ) → opened v + n ≤ 2 → v % 4 ^ suc n ≡ 0
 zeros v n h = by (ℕ-discrete (v % 16) 0) (ℕ-discrete (v % 4) 0) n h
@@ -228,18 +263,18 @@ zeros v n h = by (ℕ-discrete (v % 16) 0) (ℕ-discrete (v % 4) 0) n h
     by : Dec (v % 16 ≡ 0) → Dec (v % 4 ≡ 0) → (n : ℕ) → opened v + n ≤ 2 → v % 4 ^ suc n ≡ 0
     by (yes e) x zero h = omega (arith, e)
     by (yes e) x (suc zero) h = e
-    by (yes e) x (suc (suc n)) h = absurd (omega (arith, one-more v e, h))
+    by (yes e) x (suc (suc n)) h = absurd (omega (arith, opened-one v e, h))
     by (no m) (yes e) zero h = e
-    by (no m) (yes e) (suc n) h = absurd (omega (arith, no-more v m e, h))
-    by (no m) (no o) n h = absurd (omega (arith, too-many v o, h))
+    by (no m) (yes e) (suc n) h = absurd (omega (arith, opened-two v m e, h))
+    by (no m) (no o) n h = absurd (omega (arith, opened-three v o, h))
 
 few : (v n : ℕ) → n ≤ 1 → v % 4 ^ suc n ≡ 0 → opened v + n ≤ 2
 few v zero h e = by (ℕ-discrete (v % 16) 0)
   where
     by : Dec (v % 16 ≡ 0) → opened v + 0 ≤ 2
-    by (yes f) = omega (arith, one-more v f)
-    by (no m) = omega (arith, no-more v m e)
-few v (suc zero) h e = omega (arith, one-more v e)
+    by (yes f) = omega (arith, opened-one v f)
+    by (no m) = omega (arith, opened-two v m e)
+few v (suc zero) h e = omega (arith, opened-one v e)
 few v (suc (suc n)) h e = absurd (omega arith)
 
 -- ---- from the front, behind a character of value v
@@ -252,22 +287,19 @@ record FitFrom (v : ℕ) (ds : List ℕ) : Type 0 where
   at-most-two : padding ≤ 2
   left-over : lastFrom v characters % 4 ^ padding ≡ 0
 
-last-is : (d : ℕ) → last (d + 5) ≡ sextet d
-last-is d = rw (le-leb 5 (d + 5) (omega arith)) (ap sextet (omega arith))
-
 good-fit : (s : ℕ) (ds : List ℕ) → Before s → (Unfit (run s ds) → ⊥) → FitFrom (last s) ds
 good-fit s [] b g = record { characters = []; padding = 0; are = refl; no-pad = none; at-most-two = omega arith; left-over = omega arith }
 good-fit s (d ∷ ds) b g = by (ℕ-discrete d 0x3D) (good-fit (d + 5) ds (inr (omega arith)))
   where
     by : Dec (d ≡ 0x3D) → ((Unfit (run (d + 5) ds) → ⊥) → FitFrom (last (d + 5)) ds) → FitFrom (last s) (d ∷ ds)
     by (yes e) r =
-        let p = good-pads (opened (last s)) ds (first-from (last s)) (first-upto (last s)) (λ x. g (subst⁻¹ Unfit (step s d ds (padded-by s e (first-pad s b))) x)) in
+        let p = good-pads (opened (last s)) ds (opened-range (last s) .0) (opened-range (last s) .1) (λ x. g (subst⁻¹ Unfit (step s d ds (padded-by s e (first-pad s b))) x)) in
         record {
           characters = [];
           padding = suc (p .count);
           are = ap (λ (x : ℕ). x ∷ ds) e ∙ ap (λ (l : List ℕ). 0x3D ∷ l) (p .are);
           no-pad = none;
-          at-most-two = omega (arith, p .few, first-from (last s));
+          at-most-two = omega (arith, p .few, opened-range (last s));
           left-over = zeros (last s) (p .count) (p .few);
         }
     by (no n) r =
@@ -291,11 +323,7 @@ fit-good s [] (suc n) b a h l u =
 fit-good s (c ∷ cs) n b (also m a) h l u =
     fit-good (c + 5) cs n (inr (omega arith)) a h (subst⁻¹ (λ (v : ℕ). lastFrom v cs % 4 ^ n ≡ 0) (last-is c) l) (subst Unfit (step s c (cs ++ replicate n 0x3D) (character s c m b)) u)
 
--- ---- the two tests
-
--- the characters so far have no bytes
-abbrev pub unfit : ℕ → Bool
-unfit s = eqb s 3 || eqb s 4
+-- ---- the test
 
 abbrev pub fits : List ℕ → Bool
 fits ds = not (unfit (run 0 ds))

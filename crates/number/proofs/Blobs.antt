@@ -1,17 +1,16 @@
--- Bits and Blobs: the digits behind a mark, the choice between the marks, and misplaced `=`. Assumes nothing.
-use mathlib.Core.Path.{_≡_, refl, sym, ap, subst, subst⁻¹, _∙_}
-use mathlib.Core.Bool.{Bool, true, false, not, false≢true}
+-- Bits and Blobs: the digits behind a mark, the choice between the marks, and what the padding tells. Assumes nothing.
+use mathlib.Core.Path.{_≡_, refl, subst, subst⁻¹}
+use mathlib.Core.Bool.{Bool, true, false, not}
 use mathlib.Core.List.{List, [], _∷_}
 use Prim.Native.Nat.{ℕ, suc, _+_, _≤_}
-use native.Mathlib.Decide.{ℕ-discrete}
+use Prim.Native.String.{String}
 use native.Mathlib.Omega.{arith}
-use lib.Dec.{eqb}
-use lib.ListN.{length, getD}
+use lib.ListN.{length}
 use borrow.Author.Tests.{not-true, not-false}
 use Rattle.rules.specs.Test.{Says}
-use Rattle.rules.specs.Class.{In, just}
+use Rattle.rules.specs.Class.{just}
 use Rattle.rules.specs.Rule.{Rule, one, _then_, _or_, opt, row, lit, Takes, nothing, byte, both, left, right, Longest, Fails}
-use Rattle.rules.proofs.Classes.{apart, apartSpan, just-is}
+use Rattle.rules.proofs.Classes.{apart, apartSpan}
 use Rattle.rules.proofs.Matches.{starting, ending, forward, row-end, move-at}
 use Rattle.rules.proofs.Tests.{says-no, refuted, not-there}
 use Rattle.rules.proofs.Ways.{covers, covers-all}
@@ -21,18 +20,20 @@ use Rattle.lexicon.specs.declared.Set.the-variants.{Binary, Octal, Hexadecimal,
 use Rattle.lexicon.specs.Bytes.{members, base64}
 use Rattle.lexicon.specs.Space.{sp, Skips}
 use Rattle.lexicon.specs.Literals.{maybe, bits, blob}
-use Rattle.lexicon.specs.Values.{Digits}
-use Rattle.lexicon.specs.Bad.{Other, Misplaced, BadPadding}
-use Rattle.lexicon.specs.Bad as Bad
+use Rattle.lexicon.specs.Values.{Digits, Behind, markAlone, markDigits}
+use Rattle.lexicon.specs.Bad.{Misplaced, BadPadding, NoBytes}
 use Rattle.lexicon.proofs.Spaces.{skips-same, landed}
-use Rattle.lexicon.proofs.Groups.{Clear, digits-most, digits-same, digits-at, digits-unit, digits-forward, to-row, of-row}
+use Rattle.lexicon.proofs.Groups.{Clear, digits-most, digits-at, digits-unit, digits-forward, to-row, of-row}
 use Rattle.lexicon.proofs.Numbers.{clear, clear-base64}
-use Rattle.number.specs.Tally.{paddedOf, tallyOf, tallies}
+use Rattle.lexicon.proofs.Fit.{Fit}
+use Rattle.lexicon.proofs.Contents.{behind-same, has-base64, blob-fit}
+use Rattle.lexicon.proofs.Unfit.{binary-bytes, hexadecimal-bytes, padding-no-bytes}
+use Rattle.lexicon.proofs.Paddings.{misplaced, unfit, misplaced-says, unfit-says}
+use Rattle.number.specs.Tally.{tallyOf, tallies}
 use Rattle.number.specs.declared.groups.Groups.{Groups}
 use Rattle.number.specs.declared.groups.Groups.the-variants as Groups
 use Rattle.number.specs.Groups.{Grouped}
-use Rattle.number.specs.Blob.{TailOf, digits-stand, none-stand}
-use Rattle.number.proofs.Sums.{first-pad, later-pad, no-pad, misplaced}
+use Rattle.number.specs.Blob.{TailOf, digits-stand, none-stand, BlobAt}
 
 -- ---- the digits behind a mark
 
@@ -108,111 +109,44 @@ module _ (text : List ℕ) (a b c : Rule) where
       go {k} (right (left t)) = g k t
       go {k} (right (right t)) = h k t
 
--- ---- `=` among base-64 characters
-
-module _ where
-  step : (s d : ℕ) → tallyOf Base64 s d ≡ paddedOf s d
-  unfolding tallyOf
-  step s d = refl
-
-  pad : (s d : ℕ) (ds : List ℕ) {t : ℕ} → paddedOf s d ≡ t → tallies Base64 s (d ∷ ds) ≡ tallies Base64 t ds
-  unfolding tallies
-  pad s d ds e = ap (λ (x : ℕ). tallies Base64 x ds) (step s d ∙ e)
-
-  one-not : _≡_ {A = ℕ} 1 0 → ⊥
-  one-not e = omega (arith, e)
-
-  two-not : _≡_ {A = ℕ} 2 0 → ⊥
-  two-not e = omega (arith, e)
-
-  stays : (ds : List ℕ) → tallies Base64 2 ds ≡ 2
-  unfolding tallies
-  stays [] = refl
-  stays (d ∷ ds) = go (ℕ-discrete d 0x3D) (stays ds)
-    where
-      go : Dec (d ≡ 0x3D) → tallies Base64 2 ds ≡ 2 → tallies Base64 2 (d ∷ ds) ≡ 2
-      go (yes e) h = pad 2 d ds (sym (later-pad 2 d e two-not)) ∙ h
-      go (no e) h = pad 2 d ds (sym (misplaced 2 d e two-not)) ∙ h
-
-  same-test : {a b : ℕ} (P : Type 0) → a ≡ b → Says (eqb b 2) P → Says (eqb a 2) P
-  same-test P e s = subst⁻¹ (λ (x : ℕ). Says (eqb x 2) P) e s
-
-  skipped : {d : ℕ} {ds : List ℕ} → d ≡ 0x3D → Other (d ∷ ds) → Other ds
-  skipped e (Bad.Other.now f) = absurd (f e)
-  skipped e (Bad.Other.later o) = o
-
-  -- behind a `=`
-  pub other-says : (ds : List ℕ) → Says (eqb (tallies Base64 1 ds) 2) (Other ds)
-  unfolding tallies
-  other-says [] = record { true-holds = λ e. absurd (false≢true e); holds-true = λ o. elim o [ ] }
-  other-says (d ∷ ds) = go (ℕ-discrete d 0x3D) (other-says ds)
-    where
-      go : Dec (d ≡ 0x3D) → Says (eqb (tallies Base64 1 ds) 2) (Other ds) → Says (eqb (tallies Base64 1 (d ∷ ds)) 2) (Other (d ∷ ds))
-      go (yes e) h =
-          same-test (Other (d ∷ ds)) (pad 1 d ds (sym (later-pad 1 d e one-not)))
-          (record { true-holds = λ x. Bad.Other.later (h .true-holds x); holds-true = λ o. h .holds-true (skipped e o) })
-      go (no e) h =
-          same-test (Other (d ∷ ds)) (pad 1 d ds (sym (misplaced 1 d e one-not)) ∙ stays ds) (record { true-holds = λ x. Bad.Other.now e; holds-true = λ o. refl })
-
-  other : {ds : List ℕ} → Misplaced ds → Other ds
-  other (Bad.Misplaced.now o) = Bad.Other.later o
-  other (Bad.Misplaced.later m) = Bad.Other.later (other m)
-
-  at-first : {d : ℕ} {ds : List ℕ} → d ≡ 0x3D → Other ds → Misplaced (d ∷ ds)
-  at-first {ds = ds} e o = subst⁻¹ (λ (x : ℕ). Misplaced (x ∷ ds)) e (Bad.Misplaced.now o)
-
-  rest : {d : ℕ} {ds : List ℕ} → Misplaced (d ∷ ds) → Other ds
-  rest (Bad.Misplaced.now o) = o
-  rest (Bad.Misplaced.later m) = other m
-
-  further : {d : ℕ} {ds : List ℕ} → (d ≡ 0x3D → ⊥) → Misplaced (d ∷ ds) → Misplaced ds
-  further f (Bad.Misplaced.now o) = absurd (f refl)
-  further f (Bad.Misplaced.later m) = m
-
-  -- from the front
-  pub misplaced-says : (ds : List ℕ) → Says (eqb (tallies Base64 0 ds) 2) (Misplaced ds)
-  unfolding tallies
-  misplaced-says [] = record { true-holds = λ e. absurd (false≢true e); holds-true = λ o. elim o [ ] }
-  misplaced-says (d ∷ ds) = go (ℕ-discrete d 0x3D) (misplaced-says ds)
-    where
-      go : Dec (d ≡ 0x3D) → Says (eqb (tallies Base64 0 ds) 2) (Misplaced ds) → Says (eqb (tallies Base64 0 (d ∷ ds)) 2) (Misplaced (d ∷ ds))
-      go (yes e) h =
-          let o = other-says ds in
-          same-test (Misplaced (d ∷ ds)) (pad 0 d ds (sym (first-pad 0 d e refl)))
-          (record { true-holds = λ x. at-first e (o .true-holds x); holds-true = λ m. o .holds-true (rest m) })
-      go (no e) h =
-          same-test (Misplaced (d ∷ ds)) (pad 0 d ds (sym (no-pad 0 d e refl)))
-          (record { true-holds = λ x. Bad.Misplaced.later (h .true-holds x); holds-true = λ m. h .holds-true (further e m) })
-
--- ---- bad padding
+-- ---- a Blob's digits, and how they are judged
 
 module _ (text : List ℕ) where
-  -- the digits of a padded Blob stand behind its mark
-  padded-from : {i g j : ℕ} → Skips text (i + 3) g → BadPadding text i j → (ds : List ℕ) × Digits text 4 base64 g j ds × Misplaced ds
-  padded-from {i} {g} {j} s b = go (b .before)
-    where
-      go : Takes text (lit "0xy" then opt sp) i (b .start) → (ds : List ℕ) × Digits text 4 base64 g j ds × Misplaced ds
-      go (both t u) = (b .bytes, row-behind text Base64 3 clear-base64 s (starting (row-end (0x30 ∷ 0x78 ∷ 0x79 ∷ []) t) u) (b .digits-are), b .misplaced)
+  -- the digits behind a mark, with the sum over them
+  tail-behind : (mark : String) (n : ℕ) (set : Set) {i j s : ℕ} → Takes text (lit mark) i (i + 3) → TailOf text set n (i + 3) j s → (ds : List ℕ) × Behind text mark n (members set) i j ds × (s ≡ tallies set 0 ds)
+  unfolding tallies
+  tail-behind mark n set t (digits-stand k r) = (r .row .bytes, markDigits (both t (k .takes)) (r .row .digits-are), r .row .sum-is)
+  tail-behind mark n set t (none-stand k f) = ([], markAlone t, refl)
 
-  pub padding-says : {i j s : ℕ} → Takes text (lit "0xy") i (i + 3) → TailOf text Base64 4 (i + 3) j s → Says (eqb s 2) (BadPadding text i j)
-  padding-says {i} t (digits-stand {g} {j} {s} k r) =
-      let m = misplaced-says (r .row .bytes) in
-      subst⁻¹ (λ (x : ℕ). Says (eqb x 2) (BadPadding text i j)) (r .row .sum-is)
-      (record {
-        true-holds = λ x. record { start = g; before = both t (k .takes); bytes = r .row .bytes; digits-are = r .row .digits-are; misplaced = m .true-holds x };
-        holds-true = λ b. let w = padded-from k b in m .holds-true (subst Misplaced (digits-same text 3 base64 clear-base64 (w .1) (r .row .digits-are)) (w .2));
-      })
-  padding-says {i} t (none-stand k f) =
-      says-no (λ b. let w = padded-from k b in f .none (digits-unit (w .1) .1))
-
-  -- the other marks are none of base 64
-  pub no-padding : (b : ℕ) {i j : ℕ} → (b ≡ 0x79 → ⊥) → Takes text (row (0x30 ∷ 0x78 ∷ b ∷ [])) i (i + 3) → Says false (BadPadding text i j)
-  no-padding b {i} f (both (byte x e) (both (byte y g) (byte {i = m} z h))) = says-no (λ p. go (p .before))
+  padding-says : {i j : ℕ} {ds : List ℕ} {o : Bool} → Behind text "0xy" 4 base64 i j ds → Says o (Misplaced ds) → Says o (BadPadding text i j)
+  padding-says x s =
+      record {
+        true-holds = λ e. to x (s .true-holds e);
+        holds-true = λ b. s .holds-true (subst Misplaced (behind-same "0xy" 3 base64 clear-base64 (markDigits (b .before) (b .digits-are)) x) (b .misplaced));
+      }
     where
-      go : {k : ℕ} → Takes text (lit "0xy" then opt sp) i k → ⊥
-      go (both (both (byte x′ e′) (both (byte y′ g′) (byte {i = n} z′ h′))) u) =
-          let q : n ≡ m = omega arith in
-          f (sym (just-is b (getD text m 0) (z .1)) ∙ just-is 0x79 (getD text m 0) (subst (λ (p : ℕ). In (just 0x79) (getD text p 0)) q (z′ .1)))
+      to : {i j : ℕ} {ds : List ℕ} → Behind text "0xy" 4 base64 i j ds → Misplaced ds → BadPadding text i j
+      to (markAlone t) m = elim m [ ]
+      to (markDigits t d) m = record { start = _; before = t; bytes = _; digits-are = d; misplaced = m }
+
+  bytes-says : {i j : ℕ} {ds : List ℕ} {o : Bool} → Behind text "0xy" 4 base64 i j ds → Says o (Fit ds → ⊥) → Says o (NoBytes text i j)
+  bytes-says x s =
+      record {
+        true-holds = λ e bs y. s .true-holds e (blob-fit text x y);
+        holds-true = λ n. s .holds-true (λ f. let r = has-base64 text x f in n (r .0) (r .1));
+      }
+
+  abbrev Judged : ℕ → ℕ → ℕ → Type 0
+  Judged i j s = Says (misplaced s) (BadPadding text i j) × Says (unfit s) (NoBytes text i j)
+
+  -- there are bytes
+  good : {i j : ℕ} → (NoBytes text i j → ⊥) → Judged i j 0
+  good n = (says-no (λ b. n (padding-no-bytes text b)), says-no n)
+
+  padded : {i j s : ℕ} {ds : List ℕ} → Behind text "0xy" 4 base64 i j ds → s ≡ tallies Base64 0 ds → Judged i j s
+  unfolding tallies tallyOf
+  padded {i} {j} {ds = ds} x e =
+      subst⁻¹ (λ (k : ℕ). Judged i j k) e (padding-says x (misplaced-says ds), bytes-says x (unfit-says ds))
 
 -- ---- the marks
 
@@ -275,17 +209,24 @@ module _ (text : List ℕ) where
   unfolding covers apart apartSpan
   bits-hexadecimal t d = third-of text (part 0x62 0x62 1 Binary) (part 0x62 0x6F 1 Octal) (part 0x62 0x78 1 Hexadecimal) refl refl (whole 0x62 0x78 0 Hexadecimal (clear Sixteen) t d)
 
-  pub blob-binary : {i j s : ℕ} → Mark 0x78 0x62 i → TailOf text Binary 8 (i + 3) j s → Longest text blob i j × Says false (BadPadding text i j)
+  pub blob-binary : {i j s : ℕ} → Mark 0x78 0x62 i → TailOf text Binary 8 (i + 3) j s → BlobAt text i (Groups.At j 0)
   unfolding covers apart apartSpan
-  blob-binary t d = (first-of text (part 0x78 0x62 8 Binary) (part 0x78 0x78 2 Hexadecimal) (part 0x78 0x79 4 Base64) refl refl (whole 0x78 0x62 7 Binary (clear Two) t d), no-padding text 0x62 (λ e. omega (arith, e)) t)
+  blob-binary t d =
+      let g = good text (λ n. binary-bytes (tail-behind text "0xb" 8 Binary t d .1) n) in
+      (first-of text (part 0x78 0x62 8 Binary) (part 0x78 0x78 2 Hexadecimal) (part 0x78 0x79 4 Base64) refl refl (whole 0x78 0x62 7 Binary (clear Two) t d), g .0, g .1)
 
-  pub blob-hexadecimal : {i j s : ℕ} → Mark 0x78 0x78 i → TailOf text Hexadecimal 2 (i + 3) j s → Longest text blob i j × Says false (BadPadding text i j)
+  pub blob-hexadecimal : {i j s : ℕ} → Mark 0x78 0x78 i → TailOf text Hexadecimal 2 (i + 3) j s → BlobAt text i (Groups.At j 0)
   unfolding covers apart apartSpan
-  blob-hexadecimal t d = (second-of text (part 0x78 0x62 8 Binary) (part 0x78 0x78 2 Hexadecimal) (part 0x78 0x79 4 Base64) refl refl (whole 0x78 0x78 1 Hexadecimal (clear Sixteen) t d), no-padding text 0x78 (λ e. omega (arith, e)) t)
+  blob-hexadecimal t d =
+      let g = good text (λ n. hexadecimal-bytes (tail-behind text "0xx" 2 Hexadecimal t d .1) n) in
+      (second-of text (part 0x78 0x62 8 Binary) (part 0x78 0x78 2 Hexadecimal) (part 0x78 0x79 4 Base64) refl refl (whole 0x78 0x78 1 Hexadecimal (clear Sixteen) t d), g .0, g .1)
 
-  pub blob-base64 : {i j s : ℕ} → Mark 0x78 0x79 i → TailOf text Base64 4 (i + 3) j s → Longest text blob i j × Says (eqb s 2) (BadPadding text i j)
+  pub blob-base64 : {i j s : ℕ} → Mark 0x78 0x79 i → TailOf text Base64 4 (i + 3) j s → BlobAt text i (Groups.At j s)
   unfolding covers apart apartSpan
-  blob-base64 t d = (third-of text (part 0x78 0x62 8 Binary) (part 0x78 0x78 2 Hexadecimal) (part 0x78 0x79 4 Base64) refl refl (whole 0x78 0x79 3 Base64 clear-base64 t d), padding-says text t d)
+  blob-base64 t d =
+      let x = tail-behind text "0xy" 4 Base64 t d in
+      let g = padded text (x .1) (x .2) in
+      (third-of text (part 0x78 0x62 8 Binary) (part 0x78 0x78 2 Hexadecimal) (part 0x78 0x79 4 Base64) refl refl (whole 0x78 0x79 3 Base64 clear-base64 t d), g .0, g .1)
 
   pub bits-none : {i : ℕ} (o p q : Bool) → Says o (Mark 0x62 0x62 i) → o ≡ false → Says p (Mark 0x62 0x6F i) → p ≡ false → Says q (Mark 0x62 0x78 i) → q ≡ false → Fails text bits i
   bits-none o p q s d t e u f = none-of text (part 0x62 0x62 1 Binary) (part 0x62 0x6F 1 Octal) (part 0x62 0x78 1 Hexadecimal) (lacks 0x62 0x62 1 Binary o s d) (lacks 0x62 0x6F 1 Octal p t e) (lacks 0x62 0x78 1 Hexadecimal q u f)
@@ -300,3 +241,17 @@ module _ (text : List ℕ) where
 
   pub tail-none : {n i g : ℕ} (set : Set) (r : Groups) → Skips text i g → Grouped text set n g r → r ≡ Groups.Nothing → TailOf text set n i i 0
   tail-none {n} {g = g} set r k d e = none-stand k (subst (λ (x : Groups). Grouped text set n g x) e d)
+
+  -- what the search for a Blob answered
+
+  pub no-blob : {i : ℕ} (r : Groups) → BlobAt text i r → r ≡ Groups.Nothing → Fails text blob i
+  no-blob {i} r b e = subst (λ (x : Groups). BlobAt text i x) e b
+
+  found : {i j s : ℕ} (r : Groups) → BlobAt text i r → r ≡ Groups.At j s → BlobAt text i (Groups.At j s)
+  found {i} r b e = subst (λ (x : Groups). BlobAt text i x) e b
+
+  pub loose : {i j s : ℕ} (r : Groups) → BlobAt text i r → r ≡ Groups.At j s → Longest text blob i j × Says (misplaced s) (BadPadding text i j)
+  loose r b e = let f = found r b e in (f .0, f .1)
+
+  pub strict : {i j s : ℕ} (r : Groups) (o : Bool) → BlobAt text i r → r ≡ Groups.At j s → o ≡ unfit s → Longest text blob i j × Says o (NoBytes text i j)
+  strict {i} {j} r o b e f = let g = found r b e in (g .0, subst⁻¹ (λ (x : Bool). Says x (NoBytes text i j)) f (g .2))

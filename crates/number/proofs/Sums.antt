@@ -15,29 +15,12 @@ use Rattle.lexicon.specs.Parts.{size}
 use Rattle.lexicon.specs.Values.{read}
 use Rattle.lexicon.specs.Limited.{limit, limited}
 use Rattle.lexicon.proofs.Limits.{read-more}
-use Rattle.number.specs.Tally.{paddedOf, tallyOf, tallies}
-
--- ---- `=`
-
-pub first-pad : (sum b : ℕ) → b ≡ 0x3D → sum ≡ 0 → 1 ≡ paddedOf sum b
-unfolding paddedOf
-first-pad sum b p q = rw (eq-eqb b 0x3D p, eq-eqb sum 0 q)
-
-pub later-pad : (sum b : ℕ) → b ≡ 0x3D → (sum ≡ 0 → ⊥) → sum ≡ paddedOf sum b
-unfolding paddedOf
-later-pad sum b p q = rw (eq-eqb b 0x3D p, ne-eqb sum 0 q)
-
-pub no-pad : (sum b : ℕ) → (b ≡ 0x3D → ⊥) → sum ≡ 0 → 0 ≡ paddedOf sum b
-unfolding paddedOf
-no-pad sum b p q = rw (ne-eqb b 0x3D p, eq-eqb sum 0 q)
-
-pub misplaced : (sum b : ℕ) → (b ≡ 0x3D → ⊥) → (sum ≡ 0 → ⊥) → 2 ≡ paddedOf sum b
-unfolding paddedOf
-misplaced sum b p q = rw (ne-eqb b 0x3D p, ne-eqb sum 0 q)
+use Rattle.lexicon.proofs.Paddings.{padded}
+use Rattle.number.specs.Tally.{tallyOf, tallies}
 
 -- ---- one byte, of digits or of base-64 characters
 
-pub tally-pad : (set : Set) (n sum b r : ℕ) → n ≡ size set → n ≡ 0 → r ≡ paddedOf sum b → r ≡ tallyOf set sum b
+pub tally-pad : (set : Set) (n sum b r : ℕ) → n ≡ size set → n ≡ 0 → r ≡ padded sum b → r ≡ tallyOf set sum b
 unfolding tallyOf
 tally-pad set n sum b r e z f = f ∙ sym (rw (eq-eqb (size set) 0 (sym e ∙ z)) refl)
 

@@ -2,6 +2,8 @@
 // A function with a `requires` is this crate's own: its place is within the text by its caller's search, so that sums of places fit.
 use crate::groups::Groups;
 use crate::groups::longest_row;
+use crate::padding::MISPLACED;
+use crate::padding::unfit;
 use lexicon::Found;
 use lexicon::Literal;
 use lexicon::Set;
@@ -14,9 +16,9 @@ ghost use Rattle.rules.specs.Test.{Says};
 ghost use Rattle.rules.specs.Rule.{Takes, row};
 ghost use Rattle.lexicon.specs.Found.{Finds, Judges};
 ghost use Rattle.lexicon.specs.Literals.{bits as bitsOf, blob as blobOf};
-ghost use Rattle.lexicon.specs.Bad.{BadPadding};
+ghost use Rattle.lexicon.specs.Bad.{BadPadding, NoBytes};
 ghost use Rattle.number.specs.Groups.{OfDigits};
-ghost use Rattle.number.specs.Blob.{TailOf};
+ghost use Rattle.number.specs.Blob.{TailOf, BlobAt};
 
 // The end of the digits behind a mark, and the sum over them.
 pub struct Tail {
@@ -68,30 +70,56 @@ pub fn bits(text: &[u8], at: usize) -> Found
     Found::Nothing
 }
 
-// The Blob literal at a place; one in base 64 with a character behind a `=` is bad.
-pub fn blob(text: &[u8], at: usize) -> Literal
-    ensures { λ r. ⌜ Judges (now (text .entry)) blobOf (BadPadding (now (text .entry))) at r ⌝ }
+// The Blob literal at a place: its end, and the state of the padding among its base-64 characters.
+fn blob_at(text: &[u8], at: usize) -> Groups
+    ensures { λ r. ⌜ BlobAt (now (text .entry)) at r ⌝ }
 {
     if marked(text, at, b'x', b'b') {
         let found = tail_at(text, at + 3, Set::Binary, 8);
-        return Literal::At {
+        return Groups::At {
             end: found.end,
-            bad: false,
+            sum: 0,
         };
     }
     if marked(text, at, b'x', b'x') {
         let found = tail_at(text, at + 3, Set::Hexadecimal, 2);
-        return Literal::At {
+        return Groups::At {
             end: found.end,
-            bad: false,
+            sum: 0,
         };
     }
     if marked(text, at, b'x', b'y') {
         let found = tail_at(text, at + 3, Set::Base64, 4);
-        return Literal::At {
+        return Groups::At {
             end: found.end,
-            bad: found.sum == 2,
+            sum: found.sum,
         };
     }
-    Literal::Nothing
+    Groups::Nothing
+}
+
+// The Blob literal at a place; one in base 64 with a character behind a `=` is bad.
+pub fn blob(text: &[u8], at: usize) -> Literal
+    ensures { λ r. ⌜ Judges (now (text .entry)) blobOf (BadPadding (now (text .entry))) at r ⌝ }
+{
+    let Groups::At { end, sum } = blob_at(text, at) else {
+        return Literal::Nothing;
+    };
+    Literal::At {
+        end,
+        bad: sum == MISPLACED,
+    }
+}
+
+// The Blob literal at a place; one that has no bytes is bad.
+pub fn strict_blob(text: &[u8], at: usize) -> Literal
+    ensures { λ r. ⌜ Judges (now (text .entry)) blobOf (NoBytes (now (text .entry))) at r ⌝ }
+{
+    let Groups::At { end, sum } = blob_at(text, at) else {
+        return Literal::Nothing;
+    };
+    Literal::At {
+        end,
+        bad: unfit(sum),
+    }
 }

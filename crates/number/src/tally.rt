@@ -1,5 +1,6 @@
 // What a literal's digits add up to, as far as the tokens need it: of a number its value, up to the limit; of base-64 characters,
-// how `=` stands among them. `tally_run` is this crate's own, and its caller has found the run.
+// the state of their padding. `tally_run` is this crate's own, and its caller has found the run.
+use crate::padding::padded;
 use lexicon::Set;
 use text::digit::LIMIT;
 use text::digit::limited;
@@ -11,20 +12,7 @@ ghost use Rattle.rules.specs.Test.{Says};
 ghost use Rattle.lexicon.specs.Parts.{size};
 ghost use Rattle.lexicon.specs.Values.{read};
 ghost use Rattle.lexicon.specs.Limited.{limit};
-ghost use Rattle.number.specs.Tally.{paddedOf, tallyOf, tallies};
-
-// 0 before the first `=`, 1 behind it, 2 once another character stands behind one.
-fn padded(sum: u32, b: u8) -> u32
-    ensures { λ r. ⌜ r ≡ paddedOf sum b ⌝ }
-{
-    if b == b'=' {
-        if sum == 0 {
-            return 1;
-        }
-        return sum;
-    }
-    if sum == 0 { 0 } else { 2 }
-}
+ghost use Rattle.number.specs.Tally.{tallyOf, tallies};
 
 // The sum with one byte more.
 fn tally(set: Set, sum: u32, b: u8) -> u32

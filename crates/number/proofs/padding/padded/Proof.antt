@@ -1,0 +1,29 @@
+-- `number::padding::padded` meets its contract. Assumes nothing.
+use Rattle.lexicon.proofs.Paddings.{padded-pad, padded-character, padded-first, padded-other}
+use borrow.Author.Needs.{needs}
+use Rattle.number.proofs.padding.padded.Statement.{statement}
+use Rattle.number.proofs.padding.padded.Tie as tie
+
+pad-requires : tie.Need-pad-requires
+pad-requires c κs = search needs
+
+returns : tie.Need-returns
+returns c = search (padded-pad, needs)
+
+add-result : tie.Need-add-result
+add-result c = search needs
+
+returns-2 : tie.Need-returns-2
+returns-2 c = search (padded-character, needs)
+
+add-result-2 : tie.Need-add-result-2
+add-result-2 c = search needs
+
+returns-3 : tie.Need-returns-3
+returns-3 c = search (padded-first, needs)
+
+returns-4 : tie.Need-returns-4
+returns-4 c = search (padded-other, needs)
+
+pub padded-spec : {M : Type 1} → statement M
+padded-spec = tie.close (tie.spec pad-requires returns add-result returns-2 add-result-2 returns-3 returns-4)
