@@ -32,7 +32,8 @@ size Set.Dividing = 0
 unfoldable pub sextet : ℕ → ℕ
 sextet b =
     cond (leb (byteOf "a") b) (b - byteOf "a" + 26)
-    (cond (leb (byteOf "A") b) (b - byteOf "A") (cond (leb (byteOf "0") b) (b - byteOf "0" + 52) (cond (eqb b (byteOf "+")) 62 63)))
+    (cond (leb (byteOf "A") b) (b - byteOf "A")
+    (cond (leb (byteOf "0") b) (b - byteOf "0" + 52) (cond (eqb b (byteOf "+")) 62 63)))
 
 module _ (text : List ℕ) where
   -- a joint, if any, and a unit stand at j

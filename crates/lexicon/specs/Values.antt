@@ -1,5 +1,5 @@
--- The values that the grammar gives: the integer of an Integer, the bits of Bits, the bytes of a Blob, the characters of
--- a Text. Assumes nothing.
+-- The values that the grammar gives: the integer of an Integer, the bits of Bits, the bytes of a Blob, the characters
+-- of a Text. Assumes nothing.
 use mathlib.Core.Path.{_≡_}
 use mathlib.Core.Bool.{cond}
 use mathlib.Core.List.{List, [], _∷_, _++_, map}
