@@ -3,8 +3,12 @@ use mathlib.Core.Path.{_≡_, subst}
 use mathlib.Core.Bool.{Bool}
 use mathlib.Core.List.{List}
 use Prim.Native.Nat.{ℕ}
+use native.Mathlib.Nat.{le-antisymm}
+use native.Mathlib.Omega.{arith}
+use lib.ListN.{length}
 use Rattle.rules.specs.Test.{Says}
-use Rattle.rules.specs.Rule.{Rule, Longest, Fails}
+use Rattle.rules.specs.Rule.{Rule, Takes, Longest, Fails}
+use Rattle.rules.proofs.Matches.{inside}
 use Rattle.lexicon.specs.declared.Found as Found
 use Rattle.lexicon.specs.declared.Found.{Found}
 use Rattle.lexicon.specs.declared.Literal as Literal
@@ -24,3 +28,7 @@ module _ {text : List ℕ} {r : Rule} {i : ℕ} (P : ℕ → ℕ → Type 0) whe
 
   pub judged-none : {l : Literal} → l ≡ Literal.the-variants.Nothing → Judges text r P i l → Fails text r i
   judged-none e y = subst (λ (x : Literal). Judges text r P i x) e y
+
+-- a longest match that ends before the text does is no match of all of it
+pub shorter : {text : List ℕ} {r : Rule} {e : ℕ} → Longest text r 0 e → (e ≡ length text → ⊥) → Takes text r 0 (length text) → ⊥
+shorter l n t = n (le-antisymm (inside (l .takes) (omega arith)) (l .most t))

@@ -169,10 +169,13 @@ module _ (text : List ℕ) where
   unfolding differ apart apartSpan
   hexadecimal-base64 = marks-apart "0xx" "0xy" refl refl
 
+  pub blob-encodes : {i j : ℕ} {ds bs : List ℕ} → Behind text "0xy" 4 base64 i j ds → BlobOf text i j bs → Encodes ds bs
+  blob-encodes y (BlobOf.inBinary x o e) = absurd (binary-base64 x y)
+  blob-encodes y (BlobOf.inHexadecimal x o e) = absurd (hexadecimal-base64 x y)
+  blob-encodes {bs = bs} y (BlobOf.inBase64 x o n) = subst (λ (l : List ℕ). Encodes l bs) (behind-same "0xy" 3 base64 clear-base64 x y) n
+
   pub blob-fit : {i j : ℕ} {ds bs : List ℕ} → Behind text "0xy" 4 base64 i j ds → BlobOf text i j bs → Fit ds
-  blob-fit y (BlobOf.inBinary x o e) = absurd (binary-base64 x y)
-  blob-fit y (BlobOf.inHexadecimal x o e) = absurd (hexadecimal-base64 x y)
-  blob-fit y (BlobOf.inBase64 x o n) = subst Fit (behind-same "0xy" 3 base64 clear-base64 x y) (encodes-fit n)
+  blob-fit y b = encodes-fit (blob-encodes y b)
 
   pub blob-taken : {i j : ℕ} {bs : List ℕ} → BlobOf text i j bs → Takes text blob i j
   blob-taken (BlobOf.inBinary x o e) = left (behind-taken "0xb" 8 binary x)

@@ -9,10 +9,10 @@ use native.Mathlib.Omega.{arith}
 use lib.ListN.{length}
 use Rattle.rules.specs.Test.{Says}
 use Rattle.rules.specs.Rule.{Rule, Takes, left, right, Longest, Fails}
-use Rattle.rules.proofs.Matches.{inside}
 use Rattle.rules.proofs.Tests.{refuted}
 use Rattle.lexicon.specs.declared.Encoding.{Encoding}
 use Rattle.lexicon.specs.Limited.{limit}
+use Rattle.lexicon.proofs.Answers.{shorter}
 use Rattle.lexicon.specs.Literals.{quoted, word, codePoint}
 use Rattle.lexicon.specs.Utf8.{WellFormed, Encoded}
 use Rattle.lexicon.specs.Values.{quotes, bare, coded}
@@ -47,9 +47,6 @@ scalar-limit (inr h) = (omega arith, omega arith)
 
 module _ (piece : List ℕ) where
   -- ---- which Text the piece is exactly
-
-  shorter : {r : Rule} {e : ℕ} → Longest piece r 0 e → (e ≡ length piece → ⊥) → Takes piece r 0 (length piece) → ⊥
-  shorter l n t = n (le-antisymm (inside (l .takes) (omega arith)) (l .most t))
 
   pub quoted-other : {e : ℕ} → Longest piece quoted 0 e → (e ≡ length piece → ⊥) → Exactly textLiteral piece → ⊥
   quoted-other l n (left t) = shorter l n t

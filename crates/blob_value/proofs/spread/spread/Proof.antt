@@ -1,0 +1,55 @@
+-- `blob_value::spread::spread` meets its contract: the parts before the last `k` are put. Assumes nothing.
+use borrow.Author.Needs.{needs}
+use native.Mathlib.Omega.{arith}
+use Rattle.buffer.proofs.Puts.{puts-length}
+use Rattle.blob_value.specs.Marks.{bitsIn}
+use Rattle.blob_value.proofs.Spreads.{Spreading, spread-begins, spread-more, spread-ends}
+use Rattle.blob_value.proofs.spread.spread.Statement.{statement}
+use Rattle.blob_value.proofs.spread.spread.Tie as tie
+
+abbrev Inv-loop : tie.InvT-loop
+Inv-loop number count size buffer₀ at k₀ n₀ buffer k n = Spreading (bitsIn size) count number buffer₀ at k buffer n
+
+abbrev μ-loop : tie.MeasureT-loop
+μ-loop number count size buffer₀ at k₀ n₀ buffer k n = k
+
+loop-holds : tie.Need-loop-holds Inv-loop μ-loop
+loop-holds c = spread-begins _ _ _ _ _ (omega arith) (omega arith)
+
+sub-k : tie.Need-sub-k Inv-loop μ-loop
+sub-k c = omega (arith, c .loop-test .taken)
+
+part-requires : tie.Need-part-requires Inv-loop μ-loop
+part-requires c κs = omega (arith, c .before .before .loop .inv .within, c .before .before .before .before .pre)
+
+put-requires : tie.Need-put-requires Inv-loop μ-loop
+put-requires c κs = search needs
+
+loop-less : tie.Need-loop-less Inv-loop μ-loop
+loop-less c = omega (arith, c .before .before .before .before .before .loop-test .taken)
+
+loop-again : tie.Need-loop-again Inv-loop μ-loop
+loop-again c =
+    let l = c .before .before .before .before .before .before in
+    spread-more _ _ _ _ _ (l .loop .inv) (c .before .before .before .before .before .loop-test .taken) (c .before .before .before .part .ensures) (c .before .before .put .ensures)
+
+same-length : tie.Need-same-length Inv-loop μ-loop
+same-length c = puts-length (c .before .loop .inv .puts)
+
+returns : tie.Need-returns Inv-loop μ-loop
+returns c = spread-ends _ _ _ _ _ (c .before .loop .inv) (c .loop-test .left)
+
+pub spread-spec : {M : Type 1} → statement M
+spread-spec =
+    tie.close
+    (tie.spec
+    Inv-loop
+    μ-loop
+    loop-holds
+    sub-k
+    part-requires
+    put-requires
+    loop-less
+    loop-again
+    same-length
+    returns)
