@@ -21,6 +21,7 @@ use Rattle.lexicon.specs.Bytes.{members, base64}
 use Rattle.lexicon.specs.Space.{sp, Skips}
 use Rattle.lexicon.specs.Literals.{maybe, bits, blob}
 use Rattle.lexicon.specs.Values.{Digits, Behind, markAlone, markDigits}
+use Rattle.lexicon.specs.Parts.{size}
 use Rattle.lexicon.specs.Bad.{Misplaced, BadPadding, NoBytes}
 use Rattle.lexicon.proofs.Spaces.{skips-same, landed}
 use Rattle.lexicon.proofs.Groups.{Clear, digits-most, digits-at, digits-unit, digits-forward, to-row, of-row}
@@ -113,7 +114,7 @@ module _ (text : List ℕ) (a b c : Rule) where
 
 module _ (text : List ℕ) where
   -- the digits behind a mark, with the sum over them
-  tail-behind : (mark : String) (n : ℕ) (set : Set) {i j s : ℕ} → Takes text (lit mark) i (i + 3) → TailOf text set n (i + 3) j s → (ds : List ℕ) × Behind text mark n (members set) i j ds × (s ≡ tallies set 0 ds)
+  tail-behind : (mark : String) (n : ℕ) (set : Set) {i j s : ℕ} → Takes text (lit mark) i (i + 3) → TailOf text set n (i + 3) j s → (ds : List ℕ) × Behind text mark n (members set) i j ds × (s ≡ tallies (size set) 0 ds)
   unfolding tallies
   tail-behind mark n set t (digits-stand k r) = (r .row .bytes, markDigits (both t (k .takes)) (r .row .digits-are), r .row .sum-is)
   tail-behind mark n set t (none-stand k f) = ([], markAlone t, refl)
@@ -143,7 +144,7 @@ module _ (text : List ℕ) where
   good : {i j : ℕ} → (NoBytes text i j → ⊥) → Judged i j 0
   good n = (says-no (λ b. n (padding-no-bytes text b)), says-no n)
 
-  padded : {i j s : ℕ} {ds : List ℕ} → Behind text "0xy" 4 base64 i j ds → s ≡ tallies Base64 0 ds → Judged i j s
+  padded : {i j s : ℕ} {ds : List ℕ} → Behind text "0xy" 4 base64 i j ds → s ≡ tallies 0 0 ds → Judged i j s
   unfolding tallies tallyOf
   padded {i} {j} {ds = ds} x e =
       subst⁻¹ (λ (k : ℕ). Judged i j k) e (padding-says x (misplaced-says ds), bytes-says x (unfit-says ds))

@@ -15,7 +15,7 @@ use Rattle.lexicon.specs.declared.Set.{Set}
 use Rattle.lexicon.specs.Bytes.{members, digits, digitSet, radix, decimal}
 use Rattle.lexicon.specs.Space.{sp, Skips}
 use Rattle.lexicon.specs.Literals.{unit, plusMinus}
-use Rattle.lexicon.specs.Parts.{Start, behind, unsigned, letter, Numeral, marked, bare}
+use Rattle.lexicon.specs.Parts.{size, Start, behind, unsigned, letter, Numeral, marked, bare}
 use Rattle.lexicon.specs.Values.{Digits, value}
 use Rattle.lexicon.specs.Limited.{limit}
 use Rattle.lexicon.proofs.Limits.{limited-value}
@@ -53,7 +53,7 @@ module _ (text : List ℕ) (i : ℕ) where
 
 -- ---- the sum of a base's digits is its value, up to the limit
 
-pub tallies-value : (b : Base) (ds : List ℕ) → tallies (digitSet b) 0 ds ≡ min limit (value (radix b) ds)
+pub tallies-value : (b : Base) (ds : List ℕ) → tallies (size (digitSet b)) 0 ds ≡ min limit (value (radix b) ds)
 unfolding tallies tallyOf
 tallies-value Two ds = limited-value 2 0 ds
 tallies-value Eight ds = limited-value 8 0 ds

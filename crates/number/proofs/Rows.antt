@@ -11,6 +11,7 @@ use Rattle.lexicon.specs.declared.Set.{Set}
 use Rattle.lexicon.specs.Bytes.{members}
 use Rattle.lexicon.specs.Literals.{unit, joint}
 use Rattle.lexicon.specs.Values.{Digits, read, lastUnit}
+use Rattle.lexicon.specs.Parts.{size}
 use Rattle.lexicon.proofs.Groups.{unit-end, unit-byte, joint-end, snoc-digits}
 use Rattle.number.specs.Groups.{OfDigits, Summed, Row}
 use Rattle.number.specs.Tally.{tallies}
@@ -30,52 +31,52 @@ module _ (text : List ℕ) (set : Set) (n : ℕ) where
   -- ---- the sum
 
   -- one unit more
-  next-unit : {i j m e s : ℕ} → Summed text set n i j s → Takes text (opt joint) j m → Unit m e → Summed text set n i e (tallies set s (read text m n))
+  next-unit : {i j m e s : ℕ} → Summed text set n i j s → Takes text (opt joint) j m → Unit m e → Summed text set n i e (tallies (size set) s (read text m n))
   next-unit {m = m} r t u =
       record {
         bytes = _;
         digits-are = snoc-digits (r .digits-are) t u;
-        sum-is = ap (λ (x : ℕ). tallies set x (read text m n)) (r .sum-is) ∙ sym (tallies-append set 0 (r .bytes) (read text m n));
+        sum-is = ap (λ (x : ℕ). tallies (size set) x (read text m n)) (r .sum-is) ∙ sym (tallies-append (size set) 0 (r .bytes) (read text m n));
       }
 
   -- the sum over units is that over the first and over the others
-  unit-first : {m l e : ℕ} (s : ℕ) {t : ℕ} → Unit m l → Chain l e → t ≡ tallies set s (read text m (e - m)) → t ≡ tallies set (tallies set s (read text m n)) (read text l (e - l))
+  unit-first : {m l e : ℕ} (s : ℕ) {t : ℕ} → Unit m l → Chain l e → t ≡ tallies (size set) s (read text m (e - m)) → t ≡ tallies (size set) (tallies (size set) s (read text m n)) (read text l (e - l))
   unit-first {m} {l} {e} s u us f =
       let x = unit-end n (members set) u in
       let y : e - m ≡ n + (e - l) = omega (arith, forward us) in
       f
-      ∙ ap (λ (k : ℕ). tallies set s (read text m k)) y
-      ∙ tallies-split set text s m n (e - l)
-      ∙ ap (λ (k : ℕ). tallies set (tallies set s (read text m n)) (read text k (e - l))) (sym x)
+      ∙ ap (λ (k : ℕ). tallies (size set) s (read text m k)) y
+      ∙ tallies-split (size set) text s m n (e - l)
+      ∙ ap (λ (k : ℕ). tallies (size set) (tallies (size set) s (read text m n)) (read text k (e - l))) (sym x)
 
   -- units side by side more
-  next-units : {i m e s t : ℕ} → Summed text set n i m s → Chain m e → t ≡ tallies set s (read text m (e - m)) → Summed text set n i e t
+  next-units : {i m e s t : ℕ} → Summed text set n i m s → Chain m e → t ≡ tallies (size set) s (read text m (e - m)) → Summed text set n i e t
   unfolding tallies
   next-units {i} {m} {e = j} {s = s} r (stop e) f =
       let z : j - m ≡ 0 = omega arith in
       record {
         bytes = r .bytes;
         digits-are = subst (λ (k : ℕ). Digits text n (members set) i k (r .bytes)) e (r .digits-are);
-        sum-is = f ∙ ap (λ (k : ℕ). tallies set s (read text m k)) z ∙ r .sum-is;
+        sum-is = f ∙ ap (λ (k : ℕ). tallies (size set) s (read text m k)) z ∙ r .sum-is;
       }
   next-units {s = s} r (more u us) f = next-units (next-unit r (right (nothing refl)) u) us (unit-first s u us f)
 
   -- ---- the row's parts
 
   module _ (i j s : ℕ) where
-    pub first-units : Units i j → (j ≡ i → ⊥) → s ≡ tallies set 0 (read text i (j - i)) → Summed text set n i j s
-    first-units l d f = go (l .takes)
+    pub first-units : (k : ℕ) → k ≡ size set → Units i j → (j ≡ i → ⊥) → s ≡ tallies k 0 (read text i (j - i)) → Summed text set n i j s
+    first-units k q l d f = go (l .takes)
       where
         go : Chain i j → Summed text set n i j s
         go (stop e) = absurd (d (sym e))
-        go (more u us) = next-units (record { bytes = read text i n; digits-are = lastUnit u; sum-is = refl }) us (unit-first 0 u us f)
+        go (more u us) = next-units (record { bytes = read text i n; digits-are = lastUnit u; sum-is = refl }) us (unit-first 0 u us (f ∙ ap (λ (r : ℕ). tallies r 0 (read text i (j - i))) q))
 
-    pub later-units : (m e t : ℕ) → Summed text set n i j s → Longest text (opt joint) j m → Units m e → (e ≡ m → ⊥) → t ≡ tallies set s (read text m (e - m)) → Summed text set n i e t
-    later-units m e t r p l d f = go (l .takes)
+    pub later-units : (k m e t : ℕ) → k ≡ size set → Summed text set n i j s → Longest text (opt joint) j m → Units m e → (e ≡ m → ⊥) → t ≡ tallies k s (read text m (e - m)) → Summed text set n i e t
+    later-units k m e t q r p l d f = go (l .takes)
       where
         go : Chain m e → Summed text set n i e t
         go (stop x) = absurd (d (sym x))
-        go (more u us) = next-units (next-unit r (p .takes) u) us (unit-first s u us f)
+        go (more u us) = next-units (next-unit r (p .takes) u) us (unit-first s u us (f ∙ ap (λ (r : ℕ). tallies r s (read text m (e - m))) q))
 
   -- ---- its end
 

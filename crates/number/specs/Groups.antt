@@ -8,7 +8,7 @@ use Rattle.lexicon.specs.declared.Set.the-variants as Set
 use Rattle.lexicon.specs.Bytes.{members}
 use Rattle.lexicon.specs.Literals.{unit}
 use Rattle.lexicon.specs.Values.{Digits}
-use Rattle.lexicon.specs.Parts.{Ended}
+use Rattle.lexicon.specs.Parts.{size, Ended}
 use Rattle.number.specs.declared.groups.Groups as Groups
 use Rattle.number.specs.declared.groups.Groups.{Groups}
 use Rattle.number.specs.Tally.{tallies}
@@ -25,7 +25,7 @@ pub data OfDigits : Set → Type 0 where
 pub record Summed (text : List ℕ) (set : Set) (n i j s : ℕ) : Type 0 where
   pub bytes : List ℕ
   pub digits-are : Digits text n (members set) i j bytes
-  pub sum-is : s ≡ tallies set 0 bytes
+  pub sum-is : s ≡ tallies (size set) 0 bytes
 
 -- the longest row of units from i
 pub record Row (text : List ℕ) (set : Set) (n i j s : ℕ) : Type 0 where

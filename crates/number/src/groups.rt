@@ -6,6 +6,7 @@ use lexicon::Set;
 use space::joint::joint;
 use text::class::classes;
 use text::class::holds;
+use text::digit::radix;
 ghost use Prim.Native.Nat.{_≤_};
 ghost use lib.ListN.{length};
 ghost use Rattle.rules.specs.Rule.{one, many, Longest};
@@ -54,12 +55,13 @@ pub(crate) fn longest_row(text: &[u8], at: usize, set: Set, width: usize) -> Gro
     requires { ⌜ (at ≤ length (now text)) × (1 ≤ width) × OfDigits set ⌝ }
     ensures { λ r. ⌜ Grouped (now (text .entry)) set width at r ⌝ }
 {
+    let radix = radix(set);
     let classes = classes();
     let mut end = units(text, at, set, width, &classes);
     if end == at {
         return Groups::Nothing;
     }
-    let mut sum = tally_run(text, at, end - at, set, 0);
+    let mut sum = tally_run(text, at, end - at, radix, 0);
     loop {
         let next = joint(text, end);
         // Without a joint the row ends here: no unit stands behind the last.
@@ -70,7 +72,7 @@ pub(crate) fn longest_row(text: &[u8], at: usize, set: Set, width: usize) -> Gro
         if stop == next {
             return Groups::At { end, sum };
         }
-        sum = tally_run(text, next, stop - next, set, sum);
+        sum = tally_run(text, next, stop - next, radix, sum);
         end = stop;
     }
 }

@@ -1,9 +1,12 @@
 // Padding: how `=` stands among base-64 characters, as a state that each of them moves. 0 at the start; a character's byte and 5
 // while no `=` has come; behind the first `=` 1 if one more may come, 2 if none may; 3 once there were too many for the bits
-// before them; 4 once another character stands behind a `=`.
+// before them; 4 once another character stands behind a `=`. `padded_run` is this crate's own, and its caller has found the run.
 use text::digit::sextet;
 ghost use mathlib.Core.Path.{_≡_};
-ghost use Rattle.lexicon.proofs.Paddings.{opened as openedOf, pad as padOf, padded as paddedOf, unfit as unfitOf};
+ghost use Prim.Native.Nat.{_+_, _≤_};
+ghost use lib.ListN.{length};
+ghost use Rattle.lexicon.specs.Values.{read};
+ghost use Rattle.lexicon.proofs.Paddings.{opened as openedOf, pad as padOf, padded as paddedOf, run, unfit as unfitOf};
 
 const TOO_MANY: u32 = 3;
 
@@ -38,7 +41,7 @@ fn pad(state: u32) -> u32
 }
 
 // A character more.
-pub(crate) fn padded(state: u32, b: u8) -> u32
+fn padded(state: u32, b: u8) -> u32
     ensures { λ r. ⌜ r ≡ paddedOf state b ⌝ }
 {
     if b == b'=' {
@@ -51,6 +54,20 @@ pub(crate) fn padded(state: u32, b: u8) -> u32
         return b as u32 + CHARACTER;
     }
     MISPLACED
+}
+
+// The characters of a run more.
+pub(crate) fn padded_run(text: &[u8], from: usize, count: usize, state: u32) -> u32
+    requires { ⌜ from + count ≤ length (now text) ⌝ }
+    ensures { λ r. ⌜ r ≡ run state (read (now (text .entry)) from count) ⌝ }
+{
+    let mut last = state;
+    let mut k = 0;
+    while k < count {
+        last = padded(last, text[from + k]);
+        k += 1;
+    }
+    last
 }
 
 // Whether the characters so far encode no bytes.

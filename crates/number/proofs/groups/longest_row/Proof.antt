@@ -13,19 +13,22 @@ use Rattle.number.proofs.groups.longest_row.Statement.{statement}
 use Rattle.number.proofs.groups.longest_row.Tie as tie
 
 abbrev Inv-loop : tie.InvT-loop
-Inv-loop text at set width classes end₀ sum₀ end sum = (end ≤ length text) × Summed text set width at end sum × Fails text (unit width (members set)) end
+Inv-loop text at set width radix classes end₀ sum₀ end sum = (end ≤ length text) × Summed text set width at end sum × Fails text (unit width (members set)) end
 
 abbrev μ-loop : tie.MeasureT-loop
-μ-loop text at set width classes end₀ sum₀ end sum = length text - end
+μ-loop text at set width radix classes end₀ sum₀ end sum = length text - end
 
 -- the joint and the units behind it
 places :
     (c : tie.After-units2 Inv-loop μ-loop) →
-    (c .before .before .before .before .loop .end ≤ c .before .before .before .joint .result) × (c .before .before .before .joint .result ≤ c .units2 .result) × (c .units2 .result ≤ length (c .before .before .before .before .before .before .before .before .before .before .before .args .text .now))
+    (c .before .before .before .before .loop .end ≤ c .before .before .before .joint .result) × (c .before .before .before .joint .result ≤ c .units2 .result) × (c .units2 .result ≤ length (c .before .before .before .before .before .before .before .before .before .before .before .before .args .text .now))
 places c =
     let j = c .before .before .before .joint .ensures .takes in
     let u = c .units2 .ensures .takes in
     (forward j, forward u, inside u (inside j (search needs)))
+
+radix-requires : tie.Need-radix-requires Inv-loop μ-loop
+radix-requires c κs = search needs
 
 classes-requires : tie.Need-classes-requires Inv-loop μ-loop
 classes-requires c κs = search needs
@@ -76,6 +79,7 @@ longest-row-spec =
     (tie.spec
     Inv-loop
     μ-loop
+    radix-requires
     classes-requires
     units-requires
     returns
