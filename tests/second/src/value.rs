@@ -1,4 +1,9 @@
-//! The value calls: what an Integer or a Text literal denotes.
+//! The value calls: what an Integer, a Text, a Bits or a Blob literal denotes.
+
+mod base64;
+mod packed;
+
+pub use packed::{bits, blob};
 
 use crate::answer::{
     Answer, BAD_VALUE, NOT_THE_LITERAL, NOT_UTF8, OUT_OF_RANGE, TEXT_MAX, TOO_LONG,
@@ -49,7 +54,12 @@ fn integer_value(piece: &[u8]) -> Result<i64, Answer> {
 /// Writes the characters of a Text literal as UTF-8 to the buffer's start; a
 /// refusal leaves the buffer unchanged.
 pub fn text(piece: &[u8], buffer: &mut [u8]) -> Answer {
-    let bytes = match text_bytes(piece) {
+    written(piece, text_bytes(piece), buffer)
+}
+
+/// Writes what a piece stands for, if there is room.
+fn written(piece: &[u8], bytes: Result<Vec<u8>, Answer>, buffer: &mut [u8]) -> Answer {
+    let bytes = match bytes {
         Ok(bytes) => bytes,
         Err(refusal) => return refusal,
     };

@@ -763,10 +763,11 @@ pub const INTEGERS: &[(&[u8], u32, usize, i64)] = &[
     (b"5\xFF", 3, 1, 0),
 ];
 
-/// Piece, buffer length, number, place, count and bytes of a Text call.
-pub type TextCall = (&'static [u8], usize, u32, usize, usize, &'static [u8]);
+/// Piece, buffer length, number, place, count and bytes of a call that
+/// writes to a buffer.
+pub type BytesCall = (&'static [u8], usize, u32, usize, usize, &'static [u8]);
 
-pub const TEXTS: &[TextCall] = &[
+pub const TEXTS: &[BytesCall] = &[
     (
         b"\"a\" \"\\\\n\" \"\\n\" \"\\\\b\"",
         64,
@@ -786,6 +787,28 @@ pub const TEXTS: &[TextCall] = &[
     (b"\"a\" ", 64, 9, 0, 0, b""),
     (b"\"ab\"", 0, 8, 4, 2, b""),
     (b"\"\\\\<0cxD800>\"", 0, 5, 0, 0, b""),
+];
+
+pub const BLOBS: &[BytesCall] = &[
+    (b"0xy====", 64, 5, 0, 0, b""),
+    (b"0xyAB==", 64, 5, 0, 0, b""),
+    (b"0xyAQ==", 64, 0, 7, 1, b"\x01"),
+    (b"0xyAAB=", 64, 5, 0, 0, b""),
+    (b"0xyAA== AAAA", 64, 5, 0, 0, b""),
+    (b"0xy", 64, 0, 3, 0, b""),
+    (b"0xxA7_05 FF", 64, 0, 11, 3, b"\xA7\x05\xFF"),
+    (b"0xb00000001", 64, 0, 11, 1, b"\x01"),
+    (b"0xxA", 64, 9, 0, 0, b""),
+    (b"0bb1", 64, 9, 0, 0, b""),
+];
+
+pub const BITS: &[BytesCall] = &[
+    (b"0bb", 64, 0, 3, 0, b""),
+    (b"0bb ", 64, 9, 0, 0, b""),
+    (b"0bo17", 64, 0, 5, 6, b"\0\0\x01\x01\x01\x01"),
+    (b"0bxA", 64, 0, 4, 4, b"\x01\0\x01\0"),
+    (b"0bb1_0 1", 64, 0, 8, 3, b"\x01\0\x01"),
+    (b"0xx", 64, 9, 0, 0, b""),
 ];
 
 /// Standard input and output of the program.

@@ -8,6 +8,7 @@ mod quoted;
 mod symbol;
 mod word;
 
+pub use digits::figures;
 pub use number::{integer_parts, IntegerParts};
 pub use quoted::for_each_character;
 pub use symbol::Symbol;

@@ -1,4 +1,4 @@
-use super::{integer, text, IntAnswer};
+use super::{bits, blob, integer, text, IntAnswer};
 use crate::answer::Answer;
 use crate::samples::readings;
 
@@ -12,20 +12,33 @@ fn integer_is(piece: &[u8], number: u32, place: usize, value: i64) {
     assert_eq!(integer(piece), want, "{:?}", String::from_utf8_lossy(piece));
 }
 
-/// The Text call with a buffer of `room` bytes; bytes behind the written
-/// ones stay.
-fn text_is(piece: &[u8], room: usize, want: Answer, bytes: &[u8]) {
+type Call = fn(&[u8], &mut [u8]) -> Answer;
+
+/// A call with a buffer of `room` bytes; bytes behind the written ones stay.
+fn writes(call: Call, piece: &[u8], room: usize, want: Answer, bytes: &[u8]) {
     let mut buffer = vec![0xA5; room];
-    let answer = text(piece, &mut buffer);
+    let answer = call(piece, &mut buffer);
     assert_eq!(answer, want, "{:?}", String::from_utf8_lossy(piece));
     let written = if answer.number == 0 { answer.count } else { 0 };
     assert_eq!(&buffer[..written], bytes);
     assert!(buffer[written..].iter().all(|&byte| byte == 0xA5));
 }
 
-fn accepted(piece: &[u8], bytes: &[u8]) {
+fn text_is(piece: &[u8], room: usize, want: Answer, bytes: &[u8]) {
+    writes(text, piece, room, want, bytes);
+}
+
+fn accepted_by(call: Call, piece: &[u8], bytes: &[u8]) {
     let want = Answer::accepted(piece.len(), bytes.len());
-    text_is(piece, 400, want, bytes);
+    writes(call, piece, 400, want, bytes);
+}
+
+fn accepted(piece: &[u8], bytes: &[u8]) {
+    accepted_by(text, piece, bytes);
+}
+
+fn refused_by(call: Call, piece: &[u8], number: u32, place: usize) {
+    writes(call, piece, 400, Answer::refused(number, place), b"");
 }
 
 #[test]
@@ -36,14 +49,21 @@ fn integers_of_the_readings() {
 }
 
 #[test]
-fn texts_of_the_readings() {
-    for &(piece, room, number, place, count, bytes) in readings::TEXTS {
-        let want = Answer {
-            number,
-            place,
-            count,
-        };
-        text_is(piece, room, want, bytes);
+fn texts_blobs_and_bits_of_the_readings() {
+    let calls = [
+        (text as Call, readings::TEXTS),
+        (blob, readings::BLOBS),
+        (bits, readings::BITS),
+    ];
+    for (call, readings) in calls {
+        for &(piece, room, number, place, count, bytes) in readings {
+            let want = Answer {
+                number,
+                place,
+                count,
+            };
+            writes(call, piece, room, want, bytes);
+        }
     }
 }
 
@@ -111,4 +131,142 @@ fn texts_of_every_spelling() {
     text_is(b" a", 9, Answer::refused(9, 0), b"");
     text_is(b"\"a\"\xFF", 9, Answer::refused(3, 3), b"");
     text_is(&b"a".repeat(32_769), 9, Answer::refused(2, 0), b"");
+}
+
+#[test]
+fn blobs_of_the_source() {
+    accepted_by(blob, b"0xx", b"");
+    accepted_by(blob, b"0xxA705E416", b"\xA7\x05\xE4\x16");
+    accepted_by(blob, b"0xxA705_E416", b"\xA7\x05\xE4\x16");
+    accepted_by(blob, b"0xb00101110_10001011", b"\x2E\x8B");
+    accepted_by(
+        blob,
+        b"0xy
+        TWFuIGlzIGRpc3Rpbmd1aXNoZWQsIG5vdCBvbmx5IGJ5IGhpcyByZWFzb24sIGJ1dCBieSB0aGlz
+        IHNpbmd1bGFyIHBhc3Npb24gZnJvbSBvdGhlciBhbmltYWxzLCB3aGljaCBpcyBhIGx1c3Qgb2Yg
+        dGhlIG1pbmQsIHRoYXQgYnkgYSBwZXJzZXZlcmFuY2Ugb2YgZGVsaWdodCBpbiB0aGUgY29udGlu
+        dWVkIGFuZCBpbmRlZmF0aWdhYmxlIGdlbmVyYXRpb24gb2Yga25vd2xlZGdlLCBleGNlZWRzIHRo
+        ZSBzaG9ydCB2ZWhlbWVuY2Ugb2YgYW55IGNhcm5hbCBwbGVhc3VyZS4=",
+        b"Man is distinguished, not only by his reason, but by this singular passion from \
+          other animals, which is a lust of the mind, that by a perseverance of delight in \
+          the continued and indefatigable generation of knowledge, exceeds the short \
+          vehemence of any carnal pleasure.",
+    );
+}
+
+#[test]
+fn bits_of_the_source() {
+    let of = |digits: &str| {
+        digits
+            .bytes()
+            .map(|digit| digit - b'0')
+            .collect::<Vec<u8>>()
+    };
+    accepted_by(bits, b"0bb", b"");
+    accepted_by(bits, b"0bb00101110100010", &of("00101110100010"));
+    accepted_by(bits, b"0bb00101110_100010", &of("00101110100010"));
+    accepted_by(bits, b"0bo644", &of("110100100"));
+    accepted_by(bits, b"0bxA705E", &of("10100111000001011110"));
+}
+
+/// RFC 4648, section 10, in base 64 and in base 16.
+#[test]
+fn blobs_of_the_rfc() {
+    accepted_by(blob, b"0xy", b"");
+    accepted_by(blob, b"0xyZg==", b"f");
+    accepted_by(blob, b"0xyZm8=", b"fo");
+    accepted_by(blob, b"0xyZm9v", b"foo");
+    accepted_by(blob, b"0xyZm9vYg==", b"foob");
+    accepted_by(blob, b"0xyZm9vYmE=", b"fooba");
+    accepted_by(blob, b"0xyZm9vYmFy", b"foobar");
+    accepted_by(blob, b"0xx66", b"f");
+    accepted_by(blob, b"0xx666F", b"fo");
+    accepted_by(blob, b"0xx666F6F", b"foo");
+    accepted_by(blob, b"0xx666F6F62", b"foob");
+    accepted_by(blob, b"0xx666F6F6261", b"fooba");
+    accepted_by(blob, b"0xx666F6F626172", b"foobar");
+}
+
+#[test]
+fn joints_stand_for_nothing() {
+    accepted_by(blob, b"0xx `FF` A7`_`05\n`=` FF", b"\xA7\x05\xFF");
+    accepted_by(blob, b"0xb`1`00000001`0``1` 11111111", b"\x01\xFF");
+    accepted_by(blob, b"0xy Zm9v_YmE=", b"fooba");
+    accepted_by(blob, b"0xy`AAAA`Zm9v`=`Yg==", b"foob");
+    accepted_by(bits, b"0bb `1`0`0`\t1_1", b"\0\x01\x01");
+    accepted_by(bits, b"0bo 1`7`0", b"\0\0\x01\0\0\0");
+    accepted_by(bits, b"0bx`F`8_1", b"\x01\0\0\0\0\0\0\x01");
+}
+
+#[test]
+fn blobs_and_bits_that_are_refused() {
+    for piece in [
+        "0xy====",
+        "0xyA===",
+        "0xyAB==",
+        "0xyAAB=",
+        "0xyAA== AAAA",
+        "0xyAAAA====",
+        "0xyAA==_AA==",
+        "0xy=AAA",
+        "0xyAA=A",
+    ] {
+        refused_by(blob, piece.as_bytes(), 5, 0);
+        refused_by(bits, piece.as_bytes(), 9, 0);
+    }
+    for piece in [
+        "",
+        "0",
+        "0x",
+        "0xxA",
+        "0xxA7_0",
+        "0xx A7 ",
+        " 0xxA7",
+        "0xx_A7",
+        "0xxA7__05",
+        "0xxA7_ 05",
+        "0xxa7",
+        "0xb1010_1010",
+        "0xb101010102",
+        "0xyAAA",
+        "0xyAAA_A",
+        "0xy`A`AA=",
+        "0bb1",
+        "0xFF",
+        "\"0xx\"",
+        "0xxA7`",
+        "0xxA7)",
+    ] {
+        refused_by(blob, piece.as_bytes(), 9, 0);
+    }
+    for piece in [
+        "0b1", "0b", "0bb2", "0bb1_", "0bb_1", "0bo8", "0bxG", "0bb1 ", "0bb``", "0bTRUE", "0xb",
+    ] {
+        refused_by(bits, piece.as_bytes(), 9, 0);
+    }
+    for (call, mark) in [(blob as Call, &b"0xx"[..]), (bits, b"0bx")] {
+        refused_by(call, &[mark, b"F7\xFF"].concat(), 3, 5);
+        refused_by(call, &[mark, &[b'0'; 32_766]].concat(), 2, 0);
+        refused_by(call, &[mark, &[0xFF; 32_766]].concat(), 2, 0);
+    }
+}
+
+#[test]
+fn blobs_and_bits_without_room() {
+    writes(blob, b"0xxA705FF", 2, Answer::no_room(9, 3), b"");
+    let all = Answer::accepted(9, 3);
+    writes(blob, b"0xxA705FF", 3, all, b"\xA7\x05\xFF");
+    writes(bits, b"0bo6", 2, Answer::no_room(4, 3), b"");
+    writes(bits, b"0bo6", 3, Answer::accepted(4, 3), b"\x01\x01\0");
+    // a bad value comes before no room
+    writes(blob, b"0xyAAAAAB==", 0, Answer::refused(5, 0), b"");
+}
+
+/// Four bits a digit, behind a mark of three bytes.
+#[test]
+fn the_longest_bits() {
+    let piece = [b"0bx".to_vec(), vec![b'F'; 32_765]].concat();
+    let mut buffer = vec![0; 4 * 32_765];
+    assert_eq!(bits(&piece, &mut buffer), Answer::accepted(32_768, 131_060));
+    assert!(buffer.iter().all(|&bit| bit == 1));
 }
