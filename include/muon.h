@@ -1,5 +1,5 @@
 /* A proved reader of MUON plain text (Muldis Object Notation 0.300.0) at the levels 1 and 2: muon_read gives the nodes
-   of a text, muon_integer and muon_text give the value of one literal.
+   of a text, muon_integer, muon_text, muon_blob and muon_bits give the value of one literal.
 
    The archive is target/staticlib/libcapi.a, written by `rt staticlib capi` (x86-64); it needs no other library. Linking:
 
@@ -30,6 +30,8 @@ extern "C" {
 #define MUON_NODES_MAX 1024
 /* The longest table that is made use of: 6,144 words. */
 #define MUON_TABLE_MAX (MUON_NODES_MAX * MUON_NODE_WORDS)
+/* The longest buffer that muon_bits makes use of, for no piece has more bits; the other calls need no more bytes than the piece has. */
+#define MUON_BITS_MAX (4 * MUON_TEXT_MAX)
 
 /* The stack that a call needs at most, in bytes, whatever the input. Behind it: the frames of muon_read times the open brackets that
    there may be come to 24,952 bytes in the archive as built today, those of muon_integer to 1,288 and those of muon_text to 1,016; the
@@ -42,7 +44,7 @@ extern "C" {
 /* A call returns the answer's number, and writes its place and its count, in every case.
 
    Accepted is 0: the place is the length of the text or piece, and the count is the number of nodes written by muon_read, of bytes
-   written by muon_text, and 0 for muon_integer.
+   written by muon_text, muon_blob and muon_bits, and 0 for muon_integer.
    A refusal leaves the table or buffer as it was. Its count is 0, except under MUON_REFUSED_NO_ROOM. */
 #define MUON_ACCEPTED 0
 
@@ -58,7 +60,7 @@ extern "C" {
 /* No token starts here. That byte. */
 #define MUON_REFUSED_NO_TOKEN 4
 /* A bad value in a literal: a code point outside 0..D7FF and E000..10FFFF, denominator 0, radix below 2, or a `=` in a base-64 Blob
-   with another character behind it. The literal's first byte. */
+   with another character behind it; in muon_blob any base-64 Blob that RFC 4648 does not have (see there). The literal's first byte. */
 #define MUON_REFUSED_BAD_VALUE 5
 /* A token in the wrong place. Its first byte; the end counts as a token at the text's length. */
 #define MUON_REFUSED_WRONG_PLACE 6
@@ -80,7 +82,8 @@ extern "C" {
    faulty one decides: at one token 4, 6, 7, 5, 11 in this order. 8 comes last, so a text that gets it is accepted with a table of
    count * MUON_NODE_WORDS words, if the count is at most MUON_NODES_MAX. Never 9 or 10.
    muon_integer: 2, 3, 9, 10 in this order, and no other.
-   muon_text: 2, 3, 9, 5, 8 in this order, and no other. A piece that gets 8 is accepted with a buffer of count bytes. */
+   muon_text, muon_blob: 2, 3, 9, 5, 8 in this order, and no other. A piece that gets 8 is accepted with a buffer of count bytes.
+   muon_bits: the same without 5. */
 
 /* ---- The nodes -------------------------------------------------------------------------------------------------------------- */
 
@@ -172,7 +175,8 @@ uint32_t muon_read(uint32_t level, const uint8_t *text, size_t text_len, uint32_
    mark, first line `#!` or dividing space around it is dropped; with one of them the piece is refused with 9.
 
    The bytes of a node of an accepted text are never refused with 2, 3 or 9: an Integer's node gives muon_integer its value, or 10; a Text's
-   node gives muon_text its characters, or 8, and never 5 (proved; pieces in crates/demands/proofs/Pieces.antt). */
+   node gives muon_text its characters, or 8, and never 5; a Bits node gives muon_bits its bits, or 8; a Blob's node gives muon_blob its
+   bytes, or 8, or 5, since muon_read asks less of the padding (proved; pieces in crates/demands/proofs/Pieces.antt). */
 
 /* The signed integer of an Integer literal: `29 56` has the value 2956, `-0x F_F` has the value -255.
 
@@ -195,6 +199,35 @@ uint32_t muon_integer(const uint8_t *piece, size_t piece_len, int64_t *value, si
    piece_len bytes are room enough for every piece: the characters of a Text are no more bytes than its literal (proved; `enough-room`
    in `crates/values/proofs/Fits.antt`). */
 uint32_t muon_text(const uint8_t *piece, size_t piece_len, uint8_t *buffer, size_t buffer_len, size_t *place, size_t *count);
+
+/* The bytes of a Blob literal, from the start of a lent buffer on. The digits are of base 2, 16 or 64: `0xb00000001` has the bytes 01,
+   `0xxA7_05 FF` has the bytes A7 05 FF, `0xyAQ==` has the bytes 01, and `0xy` has no bytes.
+
+   Base 64 is RFC 4648 section 4. Refused with 5 is what it does not have: a `=` with another character behind it, more than two `=`, and
+   bits left over that are not zero. In the Blob call `0xyAA== AAAA` is 5@0, `0xy====` is 5@0, `0xyAB==` is 5@0 and `0xyAAB=` is 5@0.
+   Of these muon_read refuses the first only.
+
+   piece      piece_len bytes, read only; need not end in 0
+   buffer     buffer_len bytes; what they held does not matter
+   place      one size_t, written in every case
+   count      one size_t, written in every case
+
+   Accepted, exactly the first *count bytes of the buffer are written. Refused, none.
+   piece_len bytes are room enough for every piece, and three quarters of them are, too (proved). */
+uint32_t muon_blob(const uint8_t *piece, size_t piece_len, uint8_t *buffer, size_t buffer_len, size_t *place, size_t *count);
+
+/* The bits of a Bits literal, from the start of a lent buffer on: a byte 0 or 1 for each bit, the most significant bit of each digit
+   first. The digits are of base 2, 8 or 16: `0bb1_0 1` has the bits 1 0 1, `0bo17` has the bits 0 0 1 1 1 1, `0bxA` has the bits 1 0 1 0,
+   and `0bb` has no bits.
+
+   piece      piece_len bytes, read only; need not end in 0
+   buffer     buffer_len bytes; what they held does not matter
+   place      one size_t, written in every case
+   count      one size_t, written in every case
+
+   Accepted, exactly the first *count bytes of the buffer are written. Refused, none.
+   4 * piece_len bytes are room enough for every piece, and MUON_BITS_MAX for any (proved). */
+uint32_t muon_bits(const uint8_t *piece, size_t piece_len, uint8_t *buffer, size_t buffer_len, size_t *place, size_t *count);
 
 #ifdef __cplusplus
 }
