@@ -92,7 +92,8 @@ pub enum Refusal {
     NotUtf8 = 3,
     /// No token starts at the place.
     NoToken = 4,
-    /// A bad value in the literal that begins at the place.
+    /// A bad value in the literal that begins at the place; [`blob`](crate::blob)
+    /// gives it for more base-64 literals than [`read`](crate::read).
     BadValue = 5,
     /// The token that begins at the place stands where none such may; the
     /// end of the text is a token at the text's length.
@@ -104,7 +105,7 @@ pub enum Refusal {
     /// count: the nodes or bytes needed.
     NoRoom = 8,
     /// The piece is not exactly one literal of the asked kind; place 0.  Of
-    /// [`integer`](crate::integer) and [`text`](crate::text) only.
+    /// the value calls only.
     NotTheLiteral = 9,
     /// An integer that is no [`i64`]; place 0.  Of
     /// [`integer`](crate::integer) only.

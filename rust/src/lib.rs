@@ -29,8 +29,8 @@
 //! assert_eq!(table, [7; 60]);
 //! ```
 //!
-//! [`integer`] and [`text`] give the value of a literal, whose bytes a node
-//! tells:
+//! [`integer`], [`text`], [`blob`] and [`bits`] give the value of a literal,
+//! whose bytes a node tells:
 //!
 //! ```
 //! let text = br#"(29 56 : "\caf\<0cxE9>")"#;
@@ -48,7 +48,7 @@
 //!
 //! Every input has an answer: no text, level, table, piece or buffer makes a
 //! call fail in another way.  The proofs stand in the repository's crates;
-//! this package adds the three `unsafe` calls, whose pointers and lengths are
+//! this package adds the `unsafe` calls, whose pointers and lengths are
 //! those of slices and numbers.
 //!
 //! # Building
@@ -67,4 +67,4 @@ mod value;
 pub use answer::{Answer, IntegerAnswer, Refusal};
 pub use node::{detail, kind, nodes, role, Node, Nodes};
 pub use reading::{read, DEPTH_MAX, NODES_MAX, NODE_WORDS, STACK_MAX, TABLE_MAX, TEXT_MAX};
-pub use value::{integer, text};
+pub use value::{bits, blob, integer, text, BITS_MAX};

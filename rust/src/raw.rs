@@ -27,4 +27,22 @@ extern "C" {
         place: *mut usize,
         count: *mut usize,
     ) -> u32;
+
+    pub fn muon_blob(
+        piece: *const u8,
+        piece_len: usize,
+        buffer: *mut u8,
+        buffer_len: usize,
+        place: *mut usize,
+        count: *mut usize,
+    ) -> u32;
+
+    pub fn muon_bits(
+        piece: *const u8,
+        piece_len: usize,
+        buffer: *mut u8,
+        buffer_len: usize,
+        place: *mut usize,
+        count: *mut usize,
+    ) -> u32;
 }

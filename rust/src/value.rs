@@ -1,6 +1,9 @@
 //! The values of literals.
 
-use crate::{raw, Answer, IntegerAnswer};
+use crate::{raw, Answer, IntegerAnswer, TEXT_MAX};
+
+/// The longest buffer that [`bits`] makes use of, in bytes.
+pub const BITS_MAX: usize = 4 * TEXT_MAX;
 
 /// The signed integer of an Integer literal, which `piece` is exactly: no
 /// byte-order mark, first line or dividing space around it is dropped.
@@ -70,12 +73,74 @@ pub fn integer(piece: &[u8]) -> IntegerAnswer {
 /// assert_eq!(buffer, b"word");
 /// ```
 pub fn text(piece: &[u8], buffer: &mut [u8]) -> Answer {
+    writing(raw::muon_text, piece, buffer)
+}
+
+/// Writes the bytes of a Blob literal, which `piece` is exactly, to the start
+/// of `buffer`.
+///
+/// The digits are of base 2 (`0xb`), 16 (`0xx`) or 64 (`0xy`, RFC 4648
+/// section 4).  Accepted, exactly the first `count` bytes are written; refused,
+/// none.  What the buffer held doesn't matter; one as long as the piece is
+/// always enough.  Refusals are tested in the order 2, 3, 9, 5, 8; no other is
+/// given.
+///
+/// ```
+/// use muon::Refusal;
+///
+/// let mut buffer = [0; 3];
+/// let answer = muon::blob(b"0xxA7_05 FF", &mut buffer);
+/// assert_eq!((answer.place, answer.count), (11, 3));
+/// assert_eq!(buffer, [0xA7, 0x05, 0xFF]);
+/// let answer = muon::blob(b"0xy TWE=", &mut buffer);
+/// assert_eq!(&buffer[..answer.count], b"Ma");
+///
+/// // not base 64: more than two `=`, and bits left over that are not zero
+/// for piece in [&b"0xyA==="[..], b"0xyTWF="] {
+///     let answer = muon::blob(piece, &mut buffer);
+///     assert_eq!(answer.refusal(), Some(Refusal::BadValue));
+/// }
+/// ```
+pub fn blob(piece: &[u8], buffer: &mut [u8]) -> Answer {
+    writing(raw::muon_blob, piece, buffer)
+}
+
+/// Writes the bits of a Bits literal, which `piece` is exactly, to the start
+/// of `buffer`: a byte 0 or 1 for each, the most significant bit of each digit
+/// first.
+///
+/// The digits are of base 2 (`0bb`), 8 (`0bo`) or 16 (`0bx`).  Accepted,
+/// exactly the first `count` bytes are written; refused, none.  What the
+/// buffer held doesn't matter; one of four times the piece's length is always
+/// enough.  Refusals are tested in the order 2, 3, 9, 8; no other is given.
+///
+/// ```
+/// use muon::Refusal;
+///
+/// let mut buffer = [0; 6];
+/// assert!(muon::bits(b"0bo17", &mut buffer).is_accepted());
+/// assert_eq!(buffer, [0, 0, 1, 1, 1, 1]);
+///
+/// // a buffer that is too short: the count tells what is needed
+/// let answer = muon::bits(b"0bxA7", &mut buffer);
+/// assert_eq!(answer.refusal(), Some(Refusal::NoRoom));
+/// assert_eq!(answer.count, 8);
+/// ```
+pub fn bits(piece: &[u8], buffer: &mut [u8]) -> Answer {
+    writing(raw::muon_bits, piece, buffer)
+}
+
+/// A call that writes bytes to a buffer, its pointers with their lengths.
+type Writing =
+    unsafe extern "C" fn(*const u8, usize, *mut u8, usize, *mut usize, *mut usize) -> u32;
+
+fn writing(call: Writing, piece: &[u8], buffer: &mut [u8]) -> Answer {
     // What the call did not write would not look like an answer.
     let (mut place, mut count) = (usize::MAX, usize::MAX);
     // SAFETY: pointers and lengths are those of live slices and numbers, and
     // what may be written is borrowed by this call alone.
     let number = unsafe {
-        raw::muon_text(
+        call(
             piece.as_ptr(),
             piece.len(),
             buffer.as_mut_ptr(),

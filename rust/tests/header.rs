@@ -25,6 +25,18 @@ fn sizes() {
 }
 
 #[test]
+fn products() {
+    let defined_as = |name: &str, factors: &str| {
+        let define = format!("#define MUON_{name} ({factors})");
+        HEADER.lines().any(|line| line == define)
+    };
+    assert!(defined_as("TABLE_MAX", "MUON_NODES_MAX * MUON_NODE_WORDS"));
+    assert_eq!(muon::TABLE_MAX, muon::NODES_MAX * muon::NODE_WORDS);
+    assert!(defined_as("BITS_MAX", "4 * MUON_TEXT_MAX"));
+    assert_eq!(muon::BITS_MAX, 4 * muon::TEXT_MAX);
+}
+
+#[test]
 fn words() {
     let node = muon::Node::from([0, 1, 2, 3, 4, 5]);
     for (name, word) in [

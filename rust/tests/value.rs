@@ -1,15 +1,32 @@
-//! The values of literals: integers and texts.
+//! The values of literals: integers, texts, Blobs and Bits.
 
 use muon::{Answer, IntegerAnswer, Refusal};
 
 const FILLED: u8 = 0xA5;
 
-/// The characters of a piece that has to be accepted, or its refusal.  They
-/// are asked for with room to spare, with just enough, and with too little;
-/// what is not to be written stays.
-fn text(piece: &[u8]) -> Result<Vec<u8>, (Refusal, usize)> {
-    let mut buffer = vec![FILLED; piece.len() + 4];
-    let answer = muon::text(piece, &mut buffer);
+type Call = fn(&[u8], &mut [u8]) -> Answer;
+
+/// The bytes that a call writes, or the refusal and its place.
+type Outcome = Result<Vec<u8>, (Refusal, usize)>;
+
+fn text(piece: &[u8]) -> Outcome {
+    asked(muon::text, piece, piece.len())
+}
+
+fn blob(piece: &[u8]) -> Outcome {
+    asked(muon::blob, piece, 3 * piece.len() / 4)
+}
+
+fn bits(piece: &[u8]) -> Outcome {
+    asked(muon::bits, piece, 4 * piece.len())
+}
+
+/// The value of a piece, which is at most so many bytes.  They are asked for
+/// with room to spare, with just enough, and with too little; what is not to
+/// be written stays.
+fn asked(call: Call, piece: &[u8], most: usize) -> Outcome {
+    let mut buffer = vec![FILLED; most + 4];
+    let answer = call(piece, &mut buffer);
     let written = match answer.refusal() {
         None => answer.count,
         Some(_) => 0,
@@ -19,12 +36,12 @@ fn text(piece: &[u8]) -> Result<Vec<u8>, (Refusal, usize)> {
         assert_eq!(answer.count, 0);
         return Err((refusal, answer.place));
     }
-    assert!(answer.count <= piece.len());
+    assert!(answer.count <= most);
     assert_eq!(answer.place, piece.len());
     buffer.truncate(written);
 
     let mut enough = vec![FILLED; written];
-    assert_eq!(muon::text(piece, &mut enough), answer);
+    assert_eq!(call(piece, &mut enough), answer);
     assert_eq!(enough, buffer);
     if written > 0 {
         let mut short = vec![FILLED; written - 1];
@@ -32,7 +49,7 @@ fn text(piece: &[u8]) -> Result<Vec<u8>, (Refusal, usize)> {
             number: Refusal::NoRoom.number(),
             ..answer
         };
-        assert_eq!(muon::text(piece, &mut short), refused);
+        assert_eq!(call(piece, &mut short), refused);
         assert_eq!(short, vec![FILLED; written - 1]);
     }
     Ok(buffer)
@@ -174,4 +191,118 @@ fn every_code_point() {
         };
         assert_eq!(text(format!("0cx{number:X}").as_bytes()), expected);
     }
+}
+
+#[test]
+fn blobs() {
+    for (piece, bytes) in [
+        ("0xb", &b""[..]),
+        ("0xx", b""),
+        ("0xy", b""),
+        ("0xb00000001", b"\x01"),
+        ("0xb10100111_00000101", b"\xA7\x05"),
+        ("0xxA7_05 FF", b"\xA7\x05\xFF"),
+        ("0xx`A7`\nA7`05`FF", b"\xA7\xFF"),
+        ("0xyZg==", b"f"),
+        ("0xyZm8=", b"fo"),
+        ("0xy Zm9v", b"foo"),
+        ("0xyZm9v_Yg==", b"foob"),
+        ("0xyZm9v`=`YmE=", b"fooba"),
+        ("0xyZm9v YmFy", b"foobar"),
+        ("0xy+/+/", b"\xFB\xFF\xBF"),
+    ] {
+        assert_eq!(blob(piece.as_bytes()), Ok(bytes.to_vec()), "{piece}");
+    }
+}
+
+#[test]
+fn bits_of_every_base() {
+    for (piece, expected) in [
+        ("0bb", &[][..]),
+        ("0bo", &[]),
+        ("0bx", &[]),
+        ("0bb1_0 1", &[1, 0, 1]),
+        ("0bb `1`0`1`1", &[0, 1]),
+        ("0bo17", &[0, 0, 1, 1, 1, 1]),
+        ("0bo6`0`4", &[1, 1, 0, 1, 0, 0]),
+        ("0bxA", &[1, 0, 1, 0]),
+        ("0bx1_8", &[0, 0, 0, 1, 1, 0, 0, 0]),
+    ] {
+        assert_eq!(bits(piece.as_bytes()), Ok(expected.to_vec()), "{piece}");
+    }
+}
+
+#[test]
+fn refused_blobs() {
+    for (piece, refusal, place) in [
+        (b"".to_vec(), Refusal::NotTheLiteral, 0),
+        (b" 0xx".to_vec(), Refusal::NotTheLiteral, 0),
+        (b"0xx ".to_vec(), Refusal::NotTheLiteral, 0),
+        (b"\xEF\xBB\xBF0xx".to_vec(), Refusal::NotTheLiteral, 0),
+        (b"0xxA".to_vec(), Refusal::NotTheLiteral, 0),
+        (b"0xxa7".to_vec(), Refusal::NotTheLiteral, 0),
+        (b"0xxA7__05".to_vec(), Refusal::NotTheLiteral, 0),
+        (b"0xb1010_1010".to_vec(), Refusal::NotTheLiteral, 0),
+        (b"0xyAAA".to_vec(), Refusal::NotTheLiteral, 0),
+        (b"0bb1".to_vec(), Refusal::NotTheLiteral, 0),
+        (b"0xyA\xFF".to_vec(), Refusal::NotUtf8, 4),
+        (b"0xy====".to_vec(), Refusal::BadValue, 0),
+        (b"0xyA===".to_vec(), Refusal::BadValue, 0),
+        (b"0xyAA=A".to_vec(), Refusal::BadValue, 0),
+        (b"0xyAB==".to_vec(), Refusal::BadValue, 0),
+        (b"0xyAAB=".to_vec(), Refusal::BadValue, 0),
+        (b"0xyAA== AAAA".to_vec(), Refusal::BadValue, 0),
+        (b"0xyAAAA====".to_vec(), Refusal::BadValue, 0),
+        (vec![b'A'; muon::TEXT_MAX + 1], Refusal::TooLong, 0),
+    ] {
+        assert_eq!(blob(&piece), Err((refusal, place)), "{refusal}");
+    }
+    let bad = muon::blob(b"0xyAAAAAB==", &mut []);
+    assert_eq!(bad.accepted(), Err(Refusal::BadValue));
+}
+
+#[test]
+fn refused_bits() {
+    for (piece, refusal, place) in [
+        (b"".to_vec(), Refusal::NotTheLiteral, 0),
+        (b"0bb ".to_vec(), Refusal::NotTheLiteral, 0),
+        (b"0bb_1".to_vec(), Refusal::NotTheLiteral, 0),
+        (b"0bb2".to_vec(), Refusal::NotTheLiteral, 0),
+        (b"0bo8".to_vec(), Refusal::NotTheLiteral, 0),
+        (b"0bxG".to_vec(), Refusal::NotTheLiteral, 0),
+        (b"0bTRUE".to_vec(), Refusal::NotTheLiteral, 0),
+        (b"0xx".to_vec(), Refusal::NotTheLiteral, 0),
+        (b"0bb1\xFF".to_vec(), Refusal::NotUtf8, 4),
+        (vec![b'0'; muon::TEXT_MAX + 1], Refusal::TooLong, 0),
+    ] {
+        assert_eq!(bits(&piece), Err((refusal, place)), "{refusal}");
+    }
+}
+
+/// A mark and so many digits that the piece is as long as it may be.
+fn longest(mark: &str, digit: &str) -> Vec<u8> {
+    let digits = digit.repeat(muon::TEXT_MAX);
+    let mut piece = format!("{mark}{digits}").into_bytes();
+    piece.truncate(muon::TEXT_MAX);
+    piece
+}
+
+#[test]
+fn the_longest_bits_and_blob() {
+    let ones = bits(&longest("0bx", "F"));
+    assert_eq!(ones, Ok(vec![1; muon::BITS_MAX - 12]));
+    assert_eq!(blob(&longest("0xx ", "41")), Ok(vec![b'A'; 16_382]));
+    assert_eq!(blob(&longest("0xy ", "QUFB")), Ok(vec![b'A'; 24_573]));
+}
+
+/// A Blob's node is read with padding that the call refuses.
+#[test]
+fn padding_of_a_node() {
+    let text = b"(mark : 0xyAB==)";
+    let mut table = [0; muon::TABLE_MAX];
+    let answer = muon::read(2, text, &mut table);
+    let node = muon::nodes(&table, answer.count)
+        .find(|node| node.kind == muon::kind::BLOB)
+        .expect("a Blob");
+    assert_eq!(blob(&text[node.span()]), Err((Refusal::BadValue, 0)));
 }
