@@ -5,7 +5,10 @@
 
 use second::answer::Answer;
 use second::compare::{finish, same, Compared, Difference};
-use second::generate::{long_pieces, pieces, sample_pieces, short_pieces, Random};
+use second::generate::{
+    long_packed_pieces, long_pieces, packed_pieces, pieces, random_packed_pieces, sample_pieces,
+    short_pieces, Random,
+};
 use second::value;
 use std::process::ExitCode;
 
@@ -13,9 +16,40 @@ const SEED: u64 = 20_261_117;
 const GENERATED: usize = 200_000;
 /// Bytes behind the lent buffer, which no call may touch.
 const GUARD: usize = 8;
-/// The answers the calls can give.
-const INTEGER_NUMBERS: [usize; 5] = [0, 2, 3, 9, 10];
-const TEXT_NUMBERS: [usize; 6] = [0, 2, 3, 5, 8, 9];
+/// The answers that the Integer call can give.
+const INTEGER_NUMBERS: &[usize] = &[0, 2, 3, 9, 10];
+
+/// A call that writes to a buffer: this package's and the archive's, and the
+/// answers that it can give.
+struct Writing {
+    name: &'static str,
+    ours: Call,
+    theirs: Call,
+    numbers: &'static [usize],
+}
+
+type Call = fn(&[u8], &mut [u8]) -> Answer;
+
+const WRITING: [Writing; 3] = [
+    Writing {
+        name: "text",
+        ours: value::text,
+        theirs: archive::text,
+        numbers: &[0, 2, 3, 5, 8, 9],
+    },
+    Writing {
+        name: "blob",
+        ours: value::blob,
+        theirs: archive::blob,
+        numbers: &[0, 2, 3, 5, 8, 9],
+    },
+    Writing {
+        name: "bits",
+        ours: value::bits,
+        theirs: archive::bits,
+        numbers: &[0, 2, 3, 8, 9],
+    },
+];
 
 /// The calls of the archive, by the package that wraps it.
 mod archive {
@@ -32,30 +66,42 @@ mod archive {
         }
     }
 
-    pub fn text(piece: &[u8], buffer: &mut [u8]) -> Answer {
-        let answer = muon::text(piece, buffer);
+    fn plain(answer: muon::Answer) -> Answer {
         Answer {
             number: answer.number,
             place: answer.place,
             count: answer.count,
         }
     }
+
+    pub fn text(piece: &[u8], buffer: &mut [u8]) -> Answer {
+        plain(muon::text(piece, buffer))
+    }
+
+    pub fn blob(piece: &[u8], buffer: &mut [u8]) -> Answer {
+        plain(muon::blob(piece, buffer))
+    }
+
+    pub fn bits(piece: &[u8], buffer: &mut [u8]) -> Answer {
+        plain(muon::bits(piece, buffer))
+    }
 }
 
 /// The answer, and the buffer with its guard as they are then.  Lends
-/// `length` bytes of values that UTF-8 does not have, so every write shows.
-fn written(text: fn(&[u8], &mut [u8]) -> Answer, piece: &[u8], length: usize) -> (Answer, Vec<u8>) {
+/// `length` bytes of values that UTF-8 and bits do not have, so every write
+/// of these shows, and nearly every one of a Blob's bytes.
+fn written(call: Call, piece: &[u8], length: usize) -> (Answer, Vec<u8>) {
     let mut bytes: Vec<u8> = (0xF8..=0xFF).cycle().take(length + GUARD).collect();
-    let answer = text(piece, &mut bytes[..length]);
+    let answer = call(piece, &mut bytes[..length]);
     (answer, bytes)
 }
 
-/// What was compared: pieces, and answers of both calls by their numbers.
+/// What was compared: pieces, and the answers of each call by their numbers.
 struct Counts {
     random: Random,
     pieces: usize,
     integers: [usize; 12],
-    texts: [usize; 12],
+    written: [[usize; 12]; WRITING.len()],
 }
 
 impl Counts {
@@ -64,7 +110,7 @@ impl Counts {
             random: Random::new(SEED),
             pieces: 0,
             integers: [0; 12],
-            texts: [0; 12],
+            written: [[0; 12]; WRITING.len()],
         }
     }
 
@@ -75,24 +121,24 @@ impl Counts {
         Ok(())
     }
 
-    fn text(&mut self, piece: &[u8], length: usize) -> Compared {
-        let (ours, our_bytes) = written(value::text, piece, length);
-        let (theirs, their_bytes) = written(archive::text, piece, length);
-        let what = format!("text in {length} bytes");
+    /// A call with a buffer of this length; the number that it answers.
+    fn call(&self, writing: &Writing, piece: &[u8], length: usize) -> Result<usize, Difference> {
+        let (ours, our_bytes) = written(writing.ours, piece, length);
+        let (theirs, their_bytes) = written(writing.theirs, piece, length);
+        let what = format!("{} in {length} bytes", writing.name);
         same(&what, piece, ours, theirs)?;
         for (index, (ours, theirs)) in our_bytes.iter().zip(&their_bytes).enumerate() {
             if ours != theirs {
                 same(&format!("{what}: byte {index}"), piece, ours, theirs)?;
             }
         }
-        self.texts[ours.number as usize] += 1;
-        Ok(())
+        Ok(ours.number as usize)
     }
 
-    /// None, every length around what the text needs, and some; a refused
+    /// None, every length around what the piece needs, and some; a refused
     /// piece needs none.
-    fn lengths(&mut self, piece: &[u8]) -> Vec<usize> {
-        let need = value::text(piece, &mut []).count;
+    fn lengths(&mut self, writing: &Writing, piece: &[u8]) -> Vec<usize> {
+        let need = (writing.ours)(piece, &mut []).count;
         let mut lengths: Vec<usize> = (need.saturating_sub(2)..=need + 2).collect();
         lengths.extend([0, self.random.below(2 * need + 40)]);
         lengths.sort_unstable();
@@ -103,24 +149,30 @@ impl Counts {
     fn piece(&mut self, piece: &[u8]) -> Compared {
         self.pieces += 1;
         self.integer(piece)?;
-        for length in self.lengths(piece) {
-            self.text(piece, length)?;
+        for (index, writing) in WRITING.iter().enumerate() {
+            for length in self.lengths(writing, piece) {
+                let number = self.call(writing, piece, length)?;
+                self.written[index][number] += 1;
+            }
         }
         Ok(())
     }
 
     fn every_answer(&self) -> Compared {
-        met("integer", &self.integers, &INTEGER_NUMBERS)?;
-        met("text", &self.texts, &TEXT_NUMBERS)
+        met("integer", &self.integers, INTEGER_NUMBERS)?;
+        let mut written = WRITING.iter().zip(&self.written);
+        written.try_for_each(|(call, answers)| met(call.name, answers, call.numbers))
     }
 
     fn summary(&self) -> String {
-        format!(
-            "{} pieces, integers ({}), texts ({})",
-            self.pieces,
-            listed(&self.integers, &INTEGER_NUMBERS),
-            listed(&self.texts, &TEXT_NUMBERS)
-        )
+        let integers = ("integer", &self.integers, INTEGER_NUMBERS);
+        let written = WRITING.iter().zip(&self.written);
+        let calls = written.map(|(call, answers)| (call.name, answers, call.numbers));
+        let each = [integers]
+            .into_iter()
+            .chain(calls)
+            .map(|(name, answers, numbers)| format!(", {name} ({})", listed(answers, numbers)));
+        format!("{} pieces{}", self.pieces, each.collect::<String>())
     }
 }
 
@@ -146,11 +198,16 @@ fn run(counts: &mut Counts) -> Compared {
     for piece in sample_pieces() {
         counts.piece(piece)?;
     }
-    for piece in short_pieces().iter().chain(&long_pieces()) {
+    let lists = [
+        short_pieces(),
+        long_pieces(),
+        pieces(SEED, GENERATED),
+        packed_pieces(),
+        long_packed_pieces(),
+        random_packed_pieces(SEED, GENERATED),
+    ];
+    for piece in lists.iter().flatten() {
         counts.piece(piece)?;
-    }
-    for piece in pieces(SEED, GENERATED) {
-        counts.piece(&piece)?;
     }
     counts.every_answer()
 }

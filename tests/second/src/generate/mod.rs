@@ -6,6 +6,7 @@ mod flip;
 mod grammar;
 mod long;
 mod noise;
+mod packed;
 mod pieces;
 mod random;
 
@@ -13,6 +14,7 @@ pub use bytes::random_bytes;
 pub use flip::flipped;
 pub use grammar::Made;
 pub use long::{long_shapes, long_texts, Shape};
+pub use packed::{long_packed_pieces, packed_pieces, random_packed_pieces};
 pub use pieces::{long_pieces, pieces, sample_pieces, short_pieces};
 pub use random::Random;
 

@@ -44,7 +44,7 @@ fn literal(random: &mut Random) -> Vec<u8> {
     }
 }
 
-fn damage(piece: &mut Vec<u8>, random: &mut Random) {
+pub fn damage(piece: &mut Vec<u8>, random: &mut Random) {
     let at = random.below(piece.len() + 1);
     match random.below(4) {
         0 => piece.truncate(at),
@@ -62,7 +62,7 @@ fn insert(piece: &mut Vec<u8>, bytes: &[u8], random: &mut Random) {
 }
 
 /// What a reader of texts skips or reads beside a literal.
-fn surround(piece: &mut Vec<u8>, random: &mut Random) {
+pub fn surround(piece: &mut Vec<u8>, random: &mut Random) {
     const FRONTS: &[&str] = &[
         "", "", " ", "\t", "`c`", "\u{FEFF}", "#!x\n", "(", "::", "-", "+ ", "0", "\"\"",
     ];
@@ -388,7 +388,9 @@ pub fn sample_pieces() -> Vec<&'static [u8]> {
     let texts: Vec<&'static [u8]> = samples::all().iter().map(|sample| sample.text).collect();
     let mut all: Vec<&'static [u8]> = texts.iter().flat_map(|text| tokens(text)).collect();
     all.extend(readings::INTEGERS.iter().map(|call| call.0));
-    all.extend(readings::TEXTS.iter().map(|call| call.0));
+    for calls in [readings::TEXTS, readings::BLOBS, readings::BITS] {
+        all.extend(calls.iter().map(|call| call.0));
+    }
     let prefixes = |piece: &'static [u8]| (0..=piece.len()).map(|length| &piece[..length]);
     let mut all: Vec<&'static [u8]> = all.into_iter().flat_map(prefixes).collect();
     all.extend(texts);
@@ -411,7 +413,7 @@ pub fn short_pieces() -> Vec<Vec<u8>> {
 }
 
 /// Every piece of this length over the alphabet.
-fn every(alphabet: &[u8], length: u32) -> Vec<Vec<u8>> {
+pub fn every(alphabet: &[u8], length: u32) -> Vec<Vec<u8>> {
     let count = alphabet.len();
     (0..count.pow(length))
         .map(|index| {
