@@ -39,6 +39,14 @@ static void text_of_it(void) {
     call.number = muon_text((const uint8_t *)call.text, call.length, buffer, call.bytes, &call.place, &call.count);
 }
 
+static void blob_of_it(void) {
+    call.number = muon_blob((const uint8_t *)call.text, call.length, buffer, call.bytes, &call.place, &call.count);
+}
+
+static void bits_of_it(void) {
+    call.number = muon_bits((const uint8_t *)call.text, call.length, buffer, call.bytes, &call.place, &call.count);
+}
+
 static void read_nothing(void) {}
 
 /* Runs on a stack of its own, painted before; the bytes of it that were touched. */
@@ -126,21 +134,25 @@ static void integers(void) {
     if (muon_integer(digits, MUON_TEXT_MAX, &value, &place, &count) != MUON_ACCEPTED || place != MUON_TEXT_MAX || value != 0) exit(1);
 }
 
-/* `text` is what stands in the buffer then; every byte behind it is as it was. */
-static void expect_text(const char *piece, size_t bytes, uint32_t number, size_t place, size_t count, const char *text) {
+/* `value` is what stands in the buffer then, `written` bytes; every byte behind it is as it was. */
+static void expect_bytes(void (*run)(void), const char *piece, size_t bytes, uint32_t number, size_t place, size_t count,
+                         const char *value, size_t written) {
     static uint8_t rest[BYTES];
     memset(rest, PAINT, BYTES);
     memset(buffer, PAINT, BYTES);
     call.text = piece;
     call.length = strlen(piece);
     call.bytes = bytes;
-    text_of_it();
-    size_t written = strlen(text);
-    if (call.number == number && call.place == place && call.count == count && memcmp(buffer, text, written) == 0 &&
+    run();
+    if (call.number == number && call.place == place && call.count == count && memcmp(buffer, value, written) == 0 &&
         memcmp(buffer + written, rest, BYTES - written) == 0)
         return;
-    printf("text of %s: %u %zu %zu\n", piece, (unsigned)call.number, call.place, call.count);
+    printf("value of %s: %u %zu %zu\n", piece, (unsigned)call.number, call.place, call.count);
     exit(1);
+}
+
+static void expect_text(const char *piece, size_t bytes, uint32_t number, size_t place, size_t count, const char *text) {
+    expect_bytes(text_of_it, piece, bytes, number, place, count, text, strlen(text));
 }
 
 static void texts(void) {
@@ -168,6 +180,68 @@ static void texts(void) {
     if (memcmp(letters, room, sizeof room) != 0) exit(1);
 }
 
+static void accepts(void (*run)(void), const char *piece, const char *value, size_t written) {
+    expect_bytes(run, piece, BYTES, MUON_ACCEPTED, strlen(piece), written, value, written);
+    expect_bytes(run, piece, written, MUON_ACCEPTED, strlen(piece), written, value, written);
+    if (written > 0) expect_bytes(run, piece, written - 1, MUON_REFUSED_NO_ROOM, strlen(piece), written, "", 0);
+}
+
+static void refuses(void (*run)(void), const char *piece, uint32_t number, size_t place) {
+    expect_bytes(run, piece, BYTES, number, place, 0, "", 0);
+    expect_bytes(run, piece, 0, number, place, 0, "", 0);
+}
+
+static void blobs(void) {
+    accepts(blob_of_it, "0xb00000001", "\1", 1);
+    accepts(blob_of_it, "0xxA7_05 FF", "\xA7\x05\xFF", 3);
+    accepts(blob_of_it, "0xx `A7` 00`=`41", "\0A", 2);
+    accepts(blob_of_it, "0xyAQ==", "\1", 1);
+    accepts(blob_of_it, "0xyTWE=", "Ma", 2);
+    accepts(blob_of_it, "0xyTWFu_+/+/", "Man\xFB\xFF\xBF", 6);
+    accepts(blob_of_it, "0xy", "", 0);
+    refuses(blob_of_it, "0xyAB==", MUON_REFUSED_BAD_VALUE, 0);
+    refuses(blob_of_it, "0xyAAB=", MUON_REFUSED_BAD_VALUE, 0);
+    refuses(blob_of_it, "0xy====", MUON_REFUSED_BAD_VALUE, 0);
+    refuses(blob_of_it, "0xyAA== AAAA", MUON_REFUSED_BAD_VALUE, 0);
+    refuses(blob_of_it, "0xxA", MUON_REFUSED_NOT_THE_LITERAL, 0);
+    refuses(blob_of_it, "0xx ", MUON_REFUSED_NOT_THE_LITERAL, 0);
+    refuses(blob_of_it, "0bb1", MUON_REFUSED_NOT_THE_LITERAL, 0);
+    refuses(blob_of_it, "0xxA7\xFF", MUON_REFUSED_NOT_UTF8, 5);
+    /* nothing lent */
+    size_t place = 1, count = 1;
+    if (muon_blob(NULL, 0, NULL, 0, &place, &count) != MUON_REFUSED_NOT_THE_LITERAL || place != 0 || count != 0) exit(1);
+    if (muon_blob((const uint8_t *)"0xx00", 5, NULL, 0, &place, &count) != MUON_REFUSED_NO_ROOM || place != 5 || count != 1) exit(1);
+    /* a byte too many, and the longest Blob into three quarters of a buffer as long */
+    static uint8_t digits[MUON_TEXT_MAX + 1], room[MUON_TEXT_MAX / 4 * 3];
+    memset(digits, '/', sizeof digits);
+    memcpy(digits, "0xy ", 4);
+    if (muon_blob(digits, sizeof digits, room, sizeof room, &place, &count) != MUON_REFUSED_TOO_LONG || place != 0) exit(1);
+    if (muon_blob(digits, MUON_TEXT_MAX, room, sizeof room, &place, &count) != MUON_ACCEPTED || count != sizeof room - 3) exit(1);
+    if (room[0] != 0xFF || room[count - 1] != 0xFF || room[count] != 0) exit(1);
+}
+
+static void bits(void) {
+    accepts(bits_of_it, "0bb1_0 1", "\1\0\1", 3);
+    accepts(bits_of_it, "0bo17", "\0\0\1\1\1\1", 6);
+    accepts(bits_of_it, "0bx`F`8", "\1\0\0\0", 4);
+    accepts(bits_of_it, "0bb", "", 0);
+    refuses(bits_of_it, "0bb ", MUON_REFUSED_NOT_THE_LITERAL, 0);
+    refuses(bits_of_it, "0bo8", MUON_REFUSED_NOT_THE_LITERAL, 0);
+    refuses(bits_of_it, "0xx", MUON_REFUSED_NOT_THE_LITERAL, 0);
+    refuses(bits_of_it, "0bx\xFF", MUON_REFUSED_NOT_UTF8, 3);
+    /* nothing lent */
+    size_t place = 1, count = 1;
+    if (muon_bits(NULL, 0, NULL, 0, &place, &count) != MUON_REFUSED_NOT_THE_LITERAL || place != 0 || count != 0) exit(1);
+    if (muon_bits((const uint8_t *)"0bo1", 4, NULL, 0, &place, &count) != MUON_REFUSED_NO_ROOM || place != 4 || count != 3) exit(1);
+    /* a byte too many, and the longest Bits into the longest buffer */
+    static uint8_t digits[MUON_TEXT_MAX + 1], room[MUON_BITS_MAX];
+    memset(digits, 'F', sizeof digits);
+    memcpy(digits, "0bx", 3);
+    if (muon_bits(digits, sizeof digits, room, sizeof room, &place, &count) != MUON_REFUSED_TOO_LONG || place != 0) exit(1);
+    if (muon_bits(digits, MUON_TEXT_MAX, room, sizeof room, &place, &count) != MUON_ACCEPTED || count != sizeof room - 12) exit(1);
+    if (room[0] != 1 || room[count - 1] != 1 || room[count] != 0) exit(1);
+}
+
 /* The longest ways through a literal. */
 static const char *const literals[] = {
     "",    "5",     "-0x F_F `c` 0", "1 2.3 4*0b1 0^- 0x F F", "-1/2_0*3 0^+4_0", "1/0*1^2", "0bx F_F", "0xyAAAA_AAAA AA==", "0xxFF FF",
@@ -180,6 +254,8 @@ static const char *const pieces[] = {
     "-`c` 0x `c` 7FFF FFFF `c` FFFF_FFFF", "-9223372036854775808", "9223372036854775808", "0b 1_0 1", "+0o 7 7", "0d 1", "99999999999999999999999",
     "\"a\" `c` \"\\\\<0cx10FFFF>\\<0co7>\\<0cb1>\\<0cd9>\\n\" \"\xC3\xA9\"", "\"\\\\<0cxD800>\"", "0c1114111", "0c1114112", "0cb1", "\"\\\xF4\x8F\xBF\xBF\"",
     "\"\\", "\"a\" `c", "0cxF0\xFF",
+    "0xb `c` 10101010_00000001 `1`", "0xb `c` 10101010_00000001`1` 11111111", "0xx `c` A7_05 `0` FF", "0xxA", "0xy `c` TWFu_TWE=", "0xyTWFu TQ== ",
+    "0xyTWFu`=`TQ==", "0xyAB==", "0xyAAB=", "0xy====", "0xyAA==_AAAA", "0bb `c` 1_0`1` 1", "0bo `c` 7_0`1` 1", "0bx `c` F_0`1` A", "0bx", "0bb1_",
 };
 
 static size_t most_touched_by(void (*run)(void)) {
@@ -233,8 +309,12 @@ int main(void) {
     answers();
     integers();
     texts();
+    blobs();
+    bits();
     printf("muon_read %zu\n", most_touched_by_a_reading());
     printf("muon_integer %zu\n", most_touched_by(integer_of_it));
     printf("muon_text %zu\n", most_touched_by(text_of_it));
+    printf("muon_blob %zu\n", most_touched_by(blob_of_it));
+    printf("muon_bits %zu\n", most_touched_by(bits_of_it));
     return 0;
 }

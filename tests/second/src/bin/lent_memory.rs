@@ -1,10 +1,11 @@
-//! Reads a sample of texts through the C interface out of and into memory of
-//! exactly the size lent, to be run under valgrind: a read or write outside
-//! of it is an error there, and so is an answer that depends on what the
-//! table held, since nothing is written to it before.
+//! Reads a sample of texts, and asks for the values of a sample of pieces,
+//! through the C interface out of and into memory of exactly the size lent,
+//! to be run under valgrind: a read or write outside of it is an error there,
+//! and so is an answer that depends on what the table or buffer held, since
+//! nothing is written to it before.
 //!
-//! Exits with 1 if an answer, a written word or the text is not as it should
-//! be.  `lent_memory overstated` tells one byte more than there is, which
+//! Exits with 1 if an answer, a written word or byte, the text or the piece is
+//! not as it should be.  `lent_memory overstated` tells one byte more than there is, which
 //! valgrind must report: so it is known to look.
 
 // links the archive
@@ -12,8 +13,11 @@ use muon as _;
 
 use second::answer::{Answer, DEPTH_MAX, NODES_MAX, NODE_WORDS, TEXT_MAX};
 use second::compare::{finish, same, Compared};
-use second::generate::{flipped, long_texts, random_bytes, texts, Random};
-use second::{samples, tree};
+use second::generate::{
+    flipped, long_packed_pieces, long_texts, packed_pieces, pieces, random_bytes,
+    random_packed_pieces, sample_pieces, texts, Random,
+};
+use second::{samples, tree, value};
 use std::alloc::{alloc, dealloc, handle_alloc_error, Layout};
 use std::process::ExitCode;
 use std::ptr::NonNull;
@@ -22,6 +26,10 @@ use std::slice;
 const SEED: u64 = 20_261_115;
 const GENERATED: usize = 1_500;
 const RANDOM_BYTES: usize = 60_000;
+/// Of the short pieces for Blobs and Bits, one in so many.
+const SPARSELY: usize = 40;
+/// Of the long ones.
+const LONG_SPARSELY: usize = 4;
 const LEVELS: [u32; 6] = [1, 2, 0, 3, 257, u32::MAX];
 
 extern "C" {
@@ -34,7 +42,42 @@ extern "C" {
         place: *mut usize,
         count: *mut usize,
     ) -> u32;
+    fn muon_text(
+        piece: *const u8,
+        piece_len: usize,
+        buffer: *mut u8,
+        buffer_len: usize,
+        place: *mut usize,
+        count: *mut usize,
+    ) -> u32;
+    fn muon_blob(
+        piece: *const u8,
+        piece_len: usize,
+        buffer: *mut u8,
+        buffer_len: usize,
+        place: *mut usize,
+        count: *mut usize,
+    ) -> u32;
+    fn muon_bits(
+        piece: *const u8,
+        piece_len: usize,
+        buffer: *mut u8,
+        buffer_len: usize,
+        place: *mut usize,
+        count: *mut usize,
+    ) -> u32;
 }
+
+/// A call of the archive that writes to a buffer, and this package's.
+type Writing =
+    unsafe extern "C" fn(*const u8, usize, *mut u8, usize, *mut usize, *mut usize) -> u32;
+type Ours = fn(&[u8], &mut [u8]) -> Answer;
+
+const WRITING: [(&str, Writing, Ours); 3] = [
+    ("text", muon_text, value::text),
+    ("blob", muon_blob, value::blob),
+    ("bits", muon_bits, value::bits),
+];
 
 /// Memory of its own for so many items, with none of them written.
 struct Lent<T> {
@@ -85,25 +128,32 @@ impl<T> Drop for Lent<T> {
 /// What the archive answers for a text and a table, each of which is lent
 /// whole, with the length told of the text.
 fn proved(level: u32, text: &Lent<u8>, told: usize, table: &Lent<u32>) -> Answer {
-    let place = Lent::<usize>::new(1);
-    let count = Lent::<usize>::new(1);
     // SAFETY: each pointer is to memory of its own, of the length that is
-    // told, except by `overstated`; place and count are written by every call.
-    unsafe {
-        let number = muon_read(
+    // told, except by `overstated`.
+    answered(|place, count| unsafe {
+        muon_read(
             level,
             text.start.as_ptr(),
             told,
             table.start.as_ptr(),
             table.layout.size() / size_of::<u32>(),
-            place.start.as_ptr(),
-            count.start.as_ptr(),
-        );
-        Answer {
-            number,
-            place: place.written(1)[0],
-            count: count.written(1)[0],
-        }
+            place,
+            count,
+        )
+    })
+}
+
+/// What a call answers, which is given memory for place and count.
+fn answered(call: impl FnOnce(*mut usize, *mut usize) -> u32) -> Answer {
+    let place = Lent::<usize>::new(1);
+    let count = Lent::<usize>::new(1);
+    let number = call(place.start.as_ptr(), count.start.as_ptr());
+    // SAFETY: both are written by every call.
+    let [place, count] = [place, count].map(|number| unsafe { number.written(1)[0] });
+    Answer {
+        number,
+        place,
+        count,
     }
 }
 
@@ -138,6 +188,48 @@ fn compare(level: u32, text: &[u8], words: usize) -> Compared {
         theirs,
     )?;
     same(&format!("{what}: the text"), text, text, after)
+}
+
+/// The value of a piece in a buffer of this length, held against the second
+/// program's.
+fn compare_value(call: &(&str, Writing, Ours), piece: &[u8], length: usize) -> Compared {
+    let (name, theirs, ours) = *call;
+    let mut bytes = vec![0; length];
+    let answer = ours(piece, &mut bytes);
+    let written = if answer.number == 0 { answer.count } else { 0 };
+
+    let lent = Lent::holding(piece);
+    let buffer = Lent::<u8>::new(length);
+    // SAFETY: each pointer is to memory of its own, of the length that is told.
+    let proved = answered(|place, count| unsafe {
+        let (piece_start, start) = (lent.start.as_ptr(), buffer.start.as_ptr());
+        theirs(piece_start, piece.len(), start, length, place, count)
+    });
+    let what = format!("{name} in {length} bytes");
+    same(&what, piece, answer, proved)?;
+    // SAFETY: the piece is as long, and of an accepted one so many bytes are
+    // written, which valgrind checks.
+    let (after, theirs) = unsafe { (lent.written(piece.len()), buffer.written(written)) };
+    same(
+        &format!("{what}: the bytes"),
+        piece,
+        &bytes[..written],
+        theirs,
+    )?;
+    same(&format!("{what}: the piece"), piece, piece, after)
+}
+
+/// By every call, with no buffer, with what the piece needs, a byte less and
+/// a byte more.
+fn piece(piece: &[u8], values: &mut usize) -> Compared {
+    for call in &WRITING {
+        let need = (call.2)(piece, &mut []).count;
+        for length in [0, need.saturating_sub(1), need, need + 1] {
+            *values += 1;
+            compare_value(call, piece, length)?;
+        }
+    }
+    Ok(())
 }
 
 /// At every level, with no table, the longest, what the text needs, and a
@@ -176,7 +268,26 @@ fn deep_texts() -> Vec<Vec<u8>> {
         .collect()
 }
 
-fn run(readings: &mut usize) -> Compared {
+fn all_values(values: &mut usize) -> Compared {
+    for sample in sample_pieces().iter().step_by(SPARSELY) {
+        piece(sample, values)?;
+    }
+    let lists = [
+        packed_pieces().into_iter().step_by(SPARSELY).collect(),
+        pieces(SEED, GENERATED),
+        random_packed_pieces(SEED, GENERATED),
+        long_packed_pieces()
+            .into_iter()
+            .step_by(LONG_SPARSELY)
+            .collect(),
+    ];
+    lists
+        .iter()
+        .flatten()
+        .try_for_each(|made| piece(made, values))
+}
+
+fn all_readings(readings: &mut usize) -> Compared {
     let mut random = Random::new(SEED);
     for sample in samples::all() {
         text(sample.text, readings)?;
@@ -215,7 +326,8 @@ fn main() -> ExitCode {
         overstated();
         return ExitCode::SUCCESS;
     }
-    let mut readings = 0;
-    let outcome = run(&mut readings);
-    finish("lent_memory", &format!("{readings} readings"), outcome)
+    let (mut readings, mut values) = (0, 0);
+    let outcome = all_readings(&mut readings).and_then(|()| all_values(&mut values));
+    let compared = format!("{readings} readings, {values} values");
+    finish("lent_memory", &compared, outcome)
 }
