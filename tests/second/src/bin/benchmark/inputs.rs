@@ -1,4 +1,4 @@
-//! Accepted texts of a given length, each of one shape.
+//! Accepted texts and pieces of a given length, each of one shape.
 
 use second::answer::DEPTH_MAX;
 use std::iter;
@@ -6,7 +6,7 @@ use std::iter;
 pub const SIZES: [usize; 3] = [1_024, 8_192, 32_768];
 
 /// A text of so many bytes.
-type Shape = fn(usize) -> Vec<u8>;
+pub type Shape = fn(usize) -> Vec<u8>;
 
 pub const SHAPES: [(&str, Shape); 8] = [
     ("settings", settings),
@@ -17,6 +17,19 @@ pub const SHAPES: [(&str, Shape); 8] = [
     ("integer", integer),
     ("digits", digits),
     ("grouped-integer", grouped_integer),
+];
+
+pub const BLOB_SHAPES: [(&str, Shape); 4] = [
+    ("blob-base-2", |size| literal("0xb", "01000110", size)),
+    ("blob-base-16", |size| literal("0xx", "F3", size)),
+    ("blob-base-64", |size| literal("0xy", "RnJv", size)),
+    ("blob-in-lines", blob_in_lines),
+];
+
+pub const BITS_SHAPES: [(&str, Shape); 3] = [
+    ("bits-base-2", |size| literal("0bb", "01", size)),
+    ("bits-base-8", |size| literal("0bo", "37", size)),
+    ("bits-base-16", |size| literal("0bx", "F3", size)),
 ];
 
 /// A word so long that 32 KB of them have fewer than 1,024 nodes.
@@ -109,4 +122,20 @@ fn grouped_integer(size: usize) -> Vec<u8> {
 /// The text in as many groups as may be.
 pub fn grouped(text: &[u8]) -> Vec<u8> {
     [&[b'('; DEPTH_MAX], text, &[b')'; DEPTH_MAX]].concat()
+}
+
+/// A mark, so much space that whole units fill the rest, and digits.
+fn literal(mark: &str, unit: &str, size: usize) -> Vec<u8> {
+    let room = size - mark.len();
+    let space = " ".repeat(room % unit.len());
+    let digits = unit.repeat(room / unit.len());
+    format!("{mark}{space}{digits}").into_bytes()
+}
+
+/// As the source writes one: lines of 76 characters, indented.
+fn blob_in_lines(size: usize) -> Vec<u8> {
+    let line = format!("\n        {}", "RnJv".repeat(19));
+    let lines = line.repeat((size - 3) / line.len());
+    let space = " ".repeat(size - 3 - lines.len());
+    format!("0xy{space}{lines}").into_bytes()
 }

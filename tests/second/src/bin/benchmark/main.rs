@@ -1,48 +1,93 @@
-//! The proved reader and the second program on the same texts.
+//! The proved library and the second program on the same texts and pieces.
 //!
 //! `benchmark times` prints bytes per second.  `benchmark readings` makes
-//! each reading once, in `counted`, and prints a line for it: shape, size,
-//! reader.  `tests/benchmark` runs that under callgrind, which counts the
+//! each call once, in `counted`, and prints a line for it: shape, size, whose
+//! it is.  `tests/benchmark` runs that under callgrind, which counts the
 //! instructions of each call.
 
 mod inputs;
 
-use inputs::{grouped, SHAPES, SIZES};
-use second::answer::{DEPTH_MAX, NODES_MAX, NODE_WORDS};
+use inputs::{grouped, Shape, BITS_SHAPES, BLOB_SHAPES, SHAPES, SIZES};
+use second::answer::DEPTH_MAX;
 use second::generate::long_shapes;
-use second::tree;
+use second::{tree, value};
 use std::hint::black_box;
 use std::process::ExitCode;
 use std::time::{Duration, Instant};
 
 const LEVEL: u32 = 2;
-/// A reader is timed for so long; the fastest of its rounds counts.
+/// A call is timed for so long; the fastest of its rounds counts.
 const LONG_ENOUGH: Duration = Duration::from_millis(200);
 
-type Table = [u32; NODES_MAX * NODE_WORDS];
-
-/// The answer's number, with the longest table lent.
-type Reader = fn(&[u8], &mut Table) -> u32;
-
-const READERS: [(&str, Reader); 2] = [("proved", proved), ("second", by_second)];
-
-fn proved(text: &[u8], table: &mut Table) -> u32 {
-    muon::read(LEVEL, text, table).number
+/// What is lent to the calls: the longest table and the longest buffer.
+struct Lent {
+    table: [u32; muon::TABLE_MAX],
+    buffer: [u8; muon::BITS_MAX],
 }
 
-fn by_second(text: &[u8], table: &mut Table) -> u32 {
-    tree::read(LEVEL, text, table).number
+impl Lent {
+    fn new() -> Lent {
+        Lent {
+            table: [0; muon::TABLE_MAX],
+            buffer: [0; muon::BITS_MAX],
+        }
+    }
 }
 
-fn bytes_per_second(reader: Reader, text: &[u8]) -> f64 {
-    let mut table = [0; NODES_MAX * NODE_WORDS];
+/// The answer's number.
+type Call = fn(&[u8], &mut Lent) -> u32;
+
+/// The same call of both.
+type Calls = [(&'static str, Call); 2];
+
+const READ: Calls = [
+    ("proved", |text, lent| {
+        muon::read(LEVEL, text, &mut lent.table).number
+    }),
+    ("second", |text, lent| {
+        tree::read(LEVEL, text, &mut lent.table).number
+    }),
+];
+const BLOB: Calls = [
+    ("proved", |piece, lent| {
+        muon::blob(piece, &mut lent.buffer).number
+    }),
+    ("second", |piece, lent| {
+        value::blob(piece, &mut lent.buffer).number
+    }),
+];
+const BITS: Calls = [
+    ("proved", |piece, lent| {
+        muon::bits(piece, &mut lent.buffer).number
+    }),
+    ("second", |piece, lent| {
+        value::bits(piece, &mut lent.buffer).number
+    }),
+];
+
+/// Every shape that is accepted, and what it is given to.
+fn shapes() -> Vec<(&'static str, Shape, Calls)> {
+    let with = |shapes: &[(&'static str, Shape)], calls: Calls| {
+        let given = |&(name, shape): &(&'static str, Shape)| (name, shape, calls);
+        shapes.iter().map(given).collect::<Vec<_>>()
+    };
+    [
+        with(&SHAPES, READ),
+        with(&BLOB_SHAPES, BLOB),
+        with(&BITS_SHAPES, BITS),
+    ]
+    .concat()
+}
+
+fn bytes_per_second(call: Call, text: &[u8]) -> f64 {
+    let mut lent = Lent::new();
     let times = 1 + 65_536 / text.len();
     let begin = Instant::now();
     let mut best = Duration::MAX;
     while begin.elapsed() < LONG_ENOUGH {
         let start = Instant::now();
         for _ in 0..times {
-            black_box(reader(black_box(text), black_box(&mut table)));
+            black_box(call(black_box(text), black_box(&mut lent)));
         }
         best = best.min(start.elapsed());
     }
@@ -50,10 +95,10 @@ fn bytes_per_second(reader: Reader, text: &[u8]) -> f64 {
 }
 
 fn times() {
-    for (name, shape) in SHAPES {
+    for (name, shape, calls) in shapes() {
         for size in SIZES {
             let text = shape(size);
-            let [proved, second] = READERS.map(|(_, reader)| bytes_per_second(reader, &text) / 1e6);
+            let [proved, second] = calls.map(|(_, call)| bytes_per_second(call, &text) / 1e6);
             println!("{name} {size} {proved:.1} {second:.1}");
         }
     }
@@ -61,19 +106,19 @@ fn times() {
 
 /// The call that is counted.
 #[inline(never)]
-fn counted(reader: Reader, text: &[u8], table: &mut Table) -> u32 {
-    black_box(reader(black_box(text), table))
+fn counted(call: Call, text: &[u8], lent: &mut Lent) -> u32 {
+    black_box(call(black_box(text), lent))
 }
 
-/// Every shape that is accepted, by both readers; then the long texts, most
-/// of them refused, plain and in groups, at two sizes.
+/// Every shape that is accepted, by both; then the long texts, most of them
+/// refused, plain and in groups, at two sizes.
 fn readings() {
-    let mut table = [0; NODES_MAX * NODE_WORDS];
-    for (name, shape) in SHAPES {
+    let mut lent = Lent::new();
+    for (name, shape, calls) in shapes() {
         for size in SIZES {
             let text = shape(size);
-            for (who, reader) in READERS {
-                let number = counted(reader, &text, &mut table);
+            for (who, call) in calls {
+                let number = counted(call, &text, &mut lent);
                 assert_eq!(number, 0, "{name} of {size} bytes");
                 println!("{name} {size} {who}");
             }
@@ -87,8 +132,8 @@ fn readings() {
         ] {
             for size in [small, large] {
                 let text = wrap(&shape.text(size - 2 * DEPTH_MAX));
-                for (who, reader) in READERS {
-                    counted(reader, &text, &mut table);
+                for (who, call) in READ {
+                    counted(call, &text, &mut lent);
                     println!("{name}-{index} {} {who}", text.len());
                 }
             }
