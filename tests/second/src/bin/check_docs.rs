@@ -36,10 +36,15 @@ impl Library for Proved {
     }
 
     fn text(&self, piece: &[u8]) -> (u32, usize, Vec<u8>) {
-        let mut buffer = vec![0; piece.len()];
-        let answer = muon::text(piece, &mut buffer);
-        buffer.truncate(answer.count);
-        (answer.number, answer.place, buffer)
+        written(muon::text, piece)
+    }
+
+    fn blob(&self, piece: &[u8]) -> (u32, usize, Vec<u8>) {
+        written(muon::blob, piece)
+    }
+
+    fn bits(&self, piece: &[u8]) -> (u32, usize, Vec<u8>) {
+        written(muon::bits, piece)
     }
 
     fn tokens(&self, text: &[u8]) -> (Vec<(usize, usize)>, Option<usize>) {
@@ -55,6 +60,13 @@ impl Library for Proved {
             at = end as usize;
         }
     }
+}
+
+fn written(call: fn(&[u8], &mut [u8]) -> muon::Answer, piece: &[u8]) -> (u32, usize, Vec<u8>) {
+    let mut buffer = vec![0; 4 * piece.len()];
+    let answer = call(piece, &mut buffer);
+    buffer.truncate(answer.count);
+    (answer.number, answer.place, buffer)
 }
 
 /// What was checked.
@@ -188,6 +200,7 @@ fn self_test(repository: &Repository, root: &Path) -> Result<(), String> {
         "[a](docs/NONE.md)",
         "`5` is 6@0",
         "`29 56` has the value 29",
+        "`0xxA705` has the bytes A7 50",
         "`1..10` has the tokens `1.`, `.10`",
         "    $ printf '5' | target/bin/muon\n    ok 2 2\n",
     ];
@@ -195,6 +208,7 @@ fn self_test(repository: &Repository, root: &Path) -> Result<(), String> {
         "`rules/specs/Rule.antt`: `Takes`, `Longest`; `tree::read::read`; `text/upper_bound_excluded`",
         "[a](docs/MAP.md), `(5:y,)` is 6@4, `29 56` has the value 2956",
         "`1..10` has the tokens `1`, `..`, `10`",
+        "`0xxA705` has the bytes A7 05, `0bo17` has the bits 0 0 1 1 1 1",
         "    $ printf '5' | target/bin/muon\n    ok 2 1\n    3 0 1 0 0 0\n",
     ];
     if let Some(text) = wrong.iter().find(|text| findings(text) == 0) {

@@ -6,8 +6,10 @@
 //!   at both levels, or at the one that the sentence names before;
 //! * "TEXT has the tokens PIECE, PIECE", at its end perhaps "and then 4@3";
 //! * "TEXT has the value 29", by the Integer call; "TEXT has the characters
-//!   OTHER" or "TEXT has no characters", by the Text call; where the sentence
-//!   names a call before, "TEXT is 9@0" is that call's.
+//!   OTHER" or "TEXT has no characters", by the Text call; "TEXT has the bytes
+//!   A7 05" or "TEXT has no bytes", by the Blob call; "TEXT has the bits 0 1 1"
+//!   or "TEXT has no bits", by the Bits call; where the sentence names a call
+//!   before, "TEXT is 9@0" is that call's.
 //!
 //! In a table with the columns "text", "old reader" and "new reader" or "both
 //! readers": an answer, nodes, a number of nodes, or "the same" as before.
@@ -15,7 +17,7 @@
 
 use super::markup::{one_spaced, Block, Part, Passage};
 use super::{Document, Finding};
-use crate::answer::{NODES_MAX, NODE_WORDS, NO_TOKEN};
+use crate::answer::{Answer, NODES_MAX, NODE_WORDS, NO_TOKEN};
 use crate::token::Lexed;
 use crate::{front, token, tree, value};
 
@@ -25,6 +27,8 @@ pub enum Call {
     Tokens,
     Integer,
     Text,
+    Blob,
+    Bits,
     /// The text is a command.
     Shell,
 }
@@ -43,6 +47,8 @@ pub enum Want {
     Tokens(Vec<String>, Option<(u32, usize)>),
     Value(i64),
     Characters(String),
+    /// Of a Blob, or 0 and 1 of Bits.
+    Bytes(Vec<u8>),
     Writes(String),
 }
 
@@ -62,6 +68,8 @@ enum Asked {
     Level(u32),
     Integer,
     Text,
+    Blob,
+    Bits,
 }
 
 impl Asked {
@@ -71,6 +79,8 @@ impl Asked {
             Asked::Level(level) => vec![Call::Read(*level)],
             Asked::Integer => vec![Call::Integer],
             Asked::Text => vec![Call::Text],
+            Asked::Blob => vec![Call::Blob],
+            Asked::Bits => vec![Call::Bits],
         }
     }
 }
@@ -177,6 +187,36 @@ fn leading_number<T: std::str::FromStr>(text: &str) -> Option<T> {
     word.trim_end_matches('.').parse().ok()
 }
 
+/// The bytes at the start, each of so many hexadecimal digits, with a space
+/// between.
+fn leading_bytes(text: &str, digits: usize) -> Vec<u8> {
+    let mut bytes = Vec::new();
+    for word in text.split(' ') {
+        let number = word.trim_end_matches([',', ';', ':', '.']);
+        match u8::from_str_radix(number, 16) {
+            Ok(byte) if number.len() == digits => bytes.push(byte),
+            _ => break,
+        }
+        if number != word {
+            break;
+        }
+    }
+    bytes
+}
+
+/// What is said of a Blob or of Bits: the call, and its bytes.
+fn leading_value(text: &str) -> Option<(Call, Vec<u8>)> {
+    for (call, name, digits) in [(Call::Blob, "bytes", 2), (Call::Bits, "bits", 1)] {
+        if text.starts_with(&format!("no {name}")) {
+            return Some((call, Vec::new()));
+        }
+        if let Some(rest) = text.strip_prefix(&format!("the {name} ")) {
+            return Some((call, leading_bytes(rest, digits)));
+        }
+    }
+    None
+}
+
 /// "3 nodes" or "1 node".
 fn leading_count(text: &str) -> Option<usize> {
     let (_, behind) = text.split_once(' ')?;
@@ -198,6 +238,8 @@ fn asked(before: Asked, prose: &str) -> Asked {
         ("evel 2", Asked::Level(2)),
         ("Integer call", Asked::Integer),
         ("Text call", Asked::Text),
+        ("Blob call", Asked::Blob),
+        ("Bits call", Asked::Bits),
     ];
     for (phrase, call) in phrases {
         if sentence.contains(phrase) {
@@ -299,6 +341,8 @@ impl Reader<'_> {
         } else if rest == "the characters " {
             let characters = listed(&behind[1..]).0.swap_remove(0);
             self.add(line, text, &[Call::Text], &Want::Characters(characters));
+        } else if let Some((call, bytes)) = leading_value(rest) {
+            self.add(line, text, &[call], &Want::Bytes(bytes));
         }
         false
     }
@@ -383,6 +427,8 @@ pub trait Library {
     fn integer(&self, piece: &[u8]) -> (u32, usize, i64);
     /// Number, place and bytes.
     fn text(&self, piece: &[u8]) -> (u32, usize, Vec<u8>);
+    fn blob(&self, piece: &[u8]) -> (u32, usize, Vec<u8>);
+    fn bits(&self, piece: &[u8]) -> (u32, usize, Vec<u8>);
     /// Spans of the tokens, and the place where none starts.
     fn tokens(&self, text: &[u8]) -> (Vec<(usize, usize)>, Option<usize>);
 }
@@ -404,10 +450,15 @@ impl Library for Second {
     }
 
     fn text(&self, piece: &[u8]) -> (u32, usize, Vec<u8>) {
-        let mut buffer = vec![0; piece.len()];
-        let answer = value::text(piece, &mut buffer);
-        buffer.truncate(answer.count);
-        (answer.number, answer.place, buffer)
+        written(value::text, piece)
+    }
+
+    fn blob(&self, piece: &[u8]) -> (u32, usize, Vec<u8>) {
+        written(value::blob, piece)
+    }
+
+    fn bits(&self, piece: &[u8]) -> (u32, usize, Vec<u8>) {
+        written(value::bits, piece)
     }
 
     fn tokens(&self, text: &[u8]) -> (Vec<(usize, usize)>, Option<usize>) {
@@ -423,6 +474,13 @@ impl Library for Second {
     }
 }
 
+fn written(call: fn(&[u8], &mut [u8]) -> Answer, piece: &[u8]) -> (u32, usize, Vec<u8>) {
+    let mut buffer = vec![0; 4 * piece.len()];
+    let answer = call(piece, &mut buffer);
+    buffer.truncate(answer.count);
+    (answer.number, answer.place, buffer)
+}
+
 /// Runs an example; the text that was found instead, if it is another.
 pub fn run(example: &Example, library: &dyn Library) -> Result<(), String> {
     let text = example.text.as_bytes();
@@ -431,6 +489,8 @@ pub fn run(example: &Example, library: &dyn Library) -> Result<(), String> {
         Call::Tokens => tokens(text, library),
         Call::Integer => integer(&example.want, library.integer(text)),
         Call::Text => characters(&example.want, library.text(text)),
+        Call::Blob => bytes(library.blob(text)),
+        Call::Bits => bytes(library.bits(text)),
         Call::Shell => return Ok(()),
     };
     if found == example.want {
@@ -486,6 +546,13 @@ fn characters(want: &Want, (number, place, bytes): (u32, usize, Vec<u8>)) -> Wan
     }
 }
 
+fn bytes((number, place, bytes): (u32, usize, Vec<u8>)) -> Want {
+    match number {
+        0 => Want::Bytes(bytes),
+        _ => Want::Refused(number, place),
+    }
+}
+
 #[cfg(test)]
 mod tests {
     use super::*;
@@ -508,9 +575,11 @@ mod tests {
         let text = "`(5:y,)` is 6@4. At level 1 `[1]` is 7@0, and at level 2 `[1]` has 2 nodes. \
             `1..10` has the tokens `1`, `..`, `10`. `5 ~` has the tokens `5` and then 4@2. \
             `29 56` has the value 2956. `\"a\\n\"` has the characters `a\\n`, `\"\"` has no characters. \
-            The Integer call: ` 5` is 9@0. `5` has the nodes `3 0 1 0 0 0`.";
+            The Integer call: ` 5` is 9@0. `5` has the nodes `3 0 1 0 0 0`. \
+            `0xxA705` has the bytes A7 05, `0xy` has no bytes, and `0bo17` has the bits 0 0 1 1 1 1. \
+            `0bb` has no bits. The Blob call: `0xy====` is 5@0. The Bits call: `0xx` is 9@0.";
         let found = of(text);
-        assert_eq!(found.examples.len(), 12);
+        assert_eq!(found.examples.len(), 18);
         assert_eq!(wrong(text), 0);
     }
 
@@ -520,6 +589,11 @@ mod tests {
         assert_eq!(wrong("At level 2 `[1]` has 3 nodes"), 1);
         assert_eq!(wrong("`1..10` has the tokens `1.`, `.10`"), 1);
         assert_eq!(wrong("`29 56` has the value 29"), 1);
+        assert_eq!(wrong("`0xxA705` has the bytes A7 50"), 1);
+        assert_eq!(wrong("`0xxA705` has the bytes A7, too"), 1);
+        assert_eq!(wrong("`0xxA705` has no bytes"), 1);
+        assert_eq!(wrong("`0bo17` has the bits 0 0 1 1 1"), 1);
+        assert_eq!(wrong("The Blob call: `0xy` is 5@0"), 1);
         assert_eq!(wrong("an answer, 6@4, without a text"), 1);
     }
 
