@@ -213,7 +213,7 @@ uint32_t muon_text(const uint8_t *piece, size_t piece_len, uint8_t *buffer, size
    count      one size_t, written in every case
 
    Accepted, exactly the first *count bytes of the buffer are written. Refused, none.
-   piece_len bytes are room enough for every piece, and three quarters of them are, too (proved). */
+   piece_len bytes are room enough for every piece (proved; `enough-room` in `crates/values/proofs/Fits.antt`). */
 uint32_t muon_blob(const uint8_t *piece, size_t piece_len, uint8_t *buffer, size_t buffer_len, size_t *place, size_t *count);
 
 /* The bits of a Bits literal, from the start of a lent buffer on: a byte 0 or 1 for each bit, the most significant bit of each digit
@@ -226,7 +226,8 @@ uint32_t muon_blob(const uint8_t *piece, size_t piece_len, uint8_t *buffer, size
    count      one size_t, written in every case
 
    Accepted, exactly the first *count bytes of the buffer are written. Refused, none.
-   4 * piece_len bytes are room enough for every piece, and MUON_BITS_MAX for any (proved). */
+   4 * piece_len bytes are room enough for every piece, and so MUON_BITS_MAX are for any (proved; `enough-room` in
+   `crates/values/proofs/Fits.antt`). */
 uint32_t muon_bits(const uint8_t *piece, size_t piece_len, uint8_t *buffer, size_t buffer_len, size_t *place, size_t *count);
 
 #ifdef __cplusplus
