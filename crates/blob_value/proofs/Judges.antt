@@ -8,7 +8,7 @@ use native.Mathlib.Omega.{arith}
 use lib.ListN.{length, getD}
 use Rattle.rules.specs.Class.{byteOf}
 use Rattle.rules.specs.Test.{Says}
-use Rattle.rules.specs.Rule.{Rule, row, Takes, byte, both, left, right, Longest, Fails}
+use Rattle.rules.specs.Rule.{Rule, _then_, row, Takes, byte, both, left, right, Longest, Fails}
 use Rattle.rules.proofs.Classes.{just-is}
 use Rattle.rules.proofs.Matches.{ending}
 use Rattle.rules.proofs.Tests.{refuted}

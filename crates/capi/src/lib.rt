@@ -3,6 +3,8 @@ ghost use Rattle.reading.specs.Sizes.{base};
 ghost use Rattle.reading.specs.Answers.{answer, Answers};
 ghost use Rattle.values.specs.Integer.{IntegerAnswers};
 ghost use Rattle.values.specs.Text.{TextAnswers};
+ghost use Rattle.values.specs.Blob.{BlobAnswers};
+ghost use Rattle.values.specs.Bits.{BitsAnswers};
 
 // uint32_t muon_read(uint32_t level, const uint8_t *text, size_t text_len, uint32_t *table, size_t table_len, size_t *place, size_t *count);
 // The answer's number is returned, its place and count are written, and the nodes stand in the table.
@@ -53,6 +55,40 @@ pub extern "C" fn muon_text(
     ensures { λ r. ⌜ TextAnswers base (now (piece .entry)) (now (buffer .entry)) (answer r (now (place .exit)) (now (count .exit))) (now (buffer .exit)) ⌝ }
 {
     let read = text_value::value::text(piece, buffer);
+    *place = read.place;
+    *count = read.count;
+    read.number
+}
+
+// uint32_t muon_blob(const uint8_t *piece, size_t piece_len, uint8_t *buffer, size_t buffer_len, size_t *place, size_t *count);
+// The bytes of a Blob literal, which the piece is exactly, from the buffer's start on.
+#[no_mangle]
+pub extern "C" fn muon_blob(
+    piece: &[u8],
+    buffer: &mut [u8],
+    place: &mut usize,
+    count: &mut usize,
+) -> u32
+    ensures { λ r. ⌜ BlobAnswers base (now (piece .entry)) (now (buffer .entry)) (answer r (now (place .exit)) (now (count .exit))) (now (buffer .exit)) ⌝ }
+{
+    let read = blob_value::value::blob(piece, buffer);
+    *place = read.place;
+    *count = read.count;
+    read.number
+}
+
+// uint32_t muon_bits(const uint8_t *piece, size_t piece_len, uint8_t *buffer, size_t buffer_len, size_t *place, size_t *count);
+// The bits of a Bits literal, which the piece is exactly, a byte each, from the buffer's start on.
+#[no_mangle]
+pub extern "C" fn muon_bits(
+    piece: &[u8],
+    buffer: &mut [u8],
+    place: &mut usize,
+    count: &mut usize,
+) -> u32
+    ensures { λ r. ⌜ BitsAnswers base (now (piece .entry)) (now (buffer .entry)) (answer r (now (place .exit)) (now (count .exit))) (now (buffer .exit)) ⌝ }
+{
+    let read = blob_value::value::bits(piece, buffer);
     *place = read.place;
     *count = read.count;
     read.number
