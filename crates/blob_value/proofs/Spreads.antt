@@ -37,37 +37,40 @@ pub parts-small : (w k v : ℕ) → Every (λ b. b < 2 ^ w) (parts w k v)
 parts-small w zero v = none
 parts-small w (suc k) v = also (mod-lt (v / 2 ^ (k * w)) (power-positive w)) (parts-small w k v)
 
--- the parts before the last k are put
+-- the first k parts are put
 pub record Spreading (w count v : ℕ) (t : List ℕ) (at k : ℕ) (t' : List ℕ) (n : ℕ) : Type 0 where
   pub within : k ≤ count
   pub before : List ℕ
-  pub are : before ++ parts w k v ≡ parts w count v
+  pub are : before ++ parts w (count - k) v ≡ parts w count v
   pub puts : Puts t at before t' n
 
 module _ (w count v : ℕ) (t : List ℕ) (at : ℕ) where
-  pub spread-begins : length t ≤ largest → at ≤ largest → Spreading w count v t at count t at
-  spread-begins h l = record { within = omega arith; before = []; are = refl; puts = puts-none t at h l }
+  pub spread-begins : length t ≤ largest → at ≤ largest → Spreading w count v t at 0 t at
+  spread-begins h l =
+      let e : count - 0 ≡ count = omega arith in
+      record { within = omega arith; before = []; are = ap (λ (j : ℕ). parts w j v) e; puts = puts-none t at h l }
 
-  pub spread-more : {k b n m : ℕ} {t' u : List ℕ} → Spreading w count v t at k t' n → 1 ≤ k → b ≡ v / 2 ^ ((k - 1) * w) % 2 ^ w →
-      Puts t' n (b ∷ []) u m → Spreading w count v t at (k - 1) u m
-  spread-more {k = zero} s h e p = absurd (omega (arith, h))
-  spread-more {k = suc k} {b = b} s h e p =
-      let f : suc k - 1 ≡ k = omega arith in
-      let g : b ≡ v / 2 ^ (k * w) % 2 ^ w = e ∙ ap (λ (j : ℕ). v / 2 ^ (j * w) % 2 ^ w) f in
+  pub spread-more : {k b n m : ℕ} {t' u : List ℕ} → Spreading w count v t at k t' n → k < count → b ≡ v / 2 ^ ((count - 1 - k) * w) % 2 ^ w →
+      Puts t' n (b ∷ []) u m → Spreading w count v t at (k + 1) u m
+  spread-more {k} {b} s h e p =
+      let f : suc (count - 1 - k) ≡ count - k = omega (arith, h) in
+      let g : count - (k + 1) ≡ count - 1 - k = omega (arith, h) in
       record {
-        within = omega (arith, s .within);
+        within = omega (arith, h);
         before = s .before ++ (b ∷ []);
         are =
-            append-assoc (s .before) (b ∷ []) (parts w (suc k - 1) v)
-            ∙ ap (λ (j : ℕ). s .before ++ (b ∷ parts w j v)) f
-            ∙ ap (λ (x : ℕ). s .before ++ (x ∷ parts w k v)) g
+            append-assoc (s .before) (b ∷ []) (parts w (count - (k + 1)) v)
+            ∙ ap (λ (j : ℕ). s .before ++ (b ∷ parts w j v)) g
+            ∙ ap (λ (x : ℕ). s .before ++ (x ∷ parts w (count - 1 - k) v)) e
+            ∙ ap (λ (j : ℕ). s .before ++ parts w j v) f
             ∙ s .are;
         puts = puts-then (s .puts) p;
       }
 
-  pub spread-ends : {k n : ℕ} {t' : List ℕ} → Spreading w count v t at k t' n → k ≤ 0 → Puts t at (parts w count v) t' n
-  spread-ends {k = zero} s h = puts-same (sym (append-nil (s .before)) ∙ s .are) (s .puts)
-  spread-ends {k = suc k} s h = absurd (omega (arith, h))
+  pub spread-ends : {k n : ℕ} {t' : List ℕ} → Spreading w count v t at k t' n → count ≤ k → Puts t at (parts w count v) t' n
+  spread-ends {k} s h =
+      let e : 0 ≡ count - k = omega (arith, h) in
+      puts-same (sym (append-nil (s .before)) ∙ ap (λ (j : ℕ). s .before ++ parts w j v) e ∙ s .are) (s .puts)
 
 -- ---- digits as a number
 

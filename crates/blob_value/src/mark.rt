@@ -90,13 +90,13 @@ pub(crate) fn digit_value(radix: u64, b: u8) -> u64
     sextet(b as u32) as u64
 }
 
-// The bits of a number that a byte of the size holds, `k` such bytes before its last bits.
-pub(crate) fn part(number: u64, k: usize, size: Size) -> u8
-    requires { ⌜ k < 8 ⌝ }
-    ensures { λ r. ⌜ r ≡ number / 2 ^ (k * bitsIn size) % 2 ^ bitsIn size ⌝ }
+// The bits of a number that a byte of the size holds, with so many such bytes behind it.
+pub(crate) fn part(number: u64, behind: usize, size: Size) -> u8
+    requires { ⌜ behind < 8 ⌝ }
+    ensures { λ r. ⌜ r ≡ number / 2 ^ (behind * bitsIn size) % 2 ^ bitsIn size ⌝ }
 {
     match size {
-        Size::One => ((number >> k) % 2) as u8,
-        Size::Eight => ((number >> (8 * k)) % 256) as u8,
+        Size::One => ((number >> behind) % 2) as u8,
+        Size::Eight => ((number >> (8 * behind)) % 256) as u8,
     }
 }

@@ -38,11 +38,12 @@ fn spread(number: u64, count: usize, size: Size, buffer: &mut [u8], at: usize) -
     requires { ⌜ count ≤ 8 ⌝ }
     ensures { λ r. ⌜ Puts (now (buffer .entry)) at (parts (bitsIn size) count number) (now (buffer .exit)) r ⌝ }
 {
-    let mut k = count;
+    let mut k = 0;
     let mut n = at;
-    while k > 0 {
-        k -= 1;
-        n = put(buffer, n, part(number, k, size));
+    while k < count {
+        let behind = count - 1 - k;
+        n = put(buffer, n, part(number, behind, size));
+        k += 1;
     }
     n
 }

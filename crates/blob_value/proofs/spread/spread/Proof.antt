@@ -1,5 +1,6 @@
--- `blob_value::spread::spread` meets its contract: the parts before the last `k` are put. Assumes nothing.
+-- `blob_value::spread::spread` meets its contract: the first `k` parts are put. Assumes nothing.
 use borrow.Author.Needs.{needs}
+use Prim.Native.Nat.{_-_}
 use native.Mathlib.Omega.{arith}
 use Rattle.buffer.proofs.Puts.{puts-length}
 use Rattle.blob_value.specs.Marks.{bitsIn}
@@ -11,19 +12,25 @@ abbrev Inv-loop : tie.InvT-loop
 Inv-loop number count size buffer₀ at k₀ n₀ buffer k n = Spreading (bitsIn size) count number buffer₀ at k buffer n
 
 abbrev μ-loop : tie.MeasureT-loop
-μ-loop number count size buffer₀ at k₀ n₀ buffer k n = k
+μ-loop number count size buffer₀ at k₀ n₀ buffer k n = count - k
 
 loop-holds : tie.Need-loop-holds Inv-loop μ-loop
 loop-holds c = spread-begins _ _ _ _ _ (omega arith) (omega arith)
 
-sub-k : tie.Need-sub-k Inv-loop μ-loop
-sub-k c = omega (arith, c .loop-test .taken)
+sub-behind : tie.Need-sub-behind Inv-loop μ-loop
+sub-behind c = search needs
+
+sub-behind-2 : tie.Need-sub-behind-2 Inv-loop μ-loop
+sub-behind-2 c = search needs
 
 part-requires : tie.Need-part-requires Inv-loop μ-loop
-part-requires c κs = omega (arith, c .before .before .loop .inv .within, c .before .before .before .before .pre)
+part-requires c κs = omega (arith, c .before .loop-test .taken, c .before .before .before .before .pre)
 
 put-requires : tie.Need-put-requires Inv-loop μ-loop
 put-requires c κs = search needs
+
+add-k : tie.Need-add-k Inv-loop μ-loop
+add-k c = search needs
 
 loop-less : tie.Need-loop-less Inv-loop μ-loop
 loop-less c = omega (arith, c .before .before .before .before .before .loop-test .taken)
@@ -46,9 +53,11 @@ spread-spec =
     Inv-loop
     μ-loop
     loop-holds
-    sub-k
+    sub-behind
+    sub-behind-2
     part-requires
     put-requires
+    add-k
     loop-less
     loop-again
     same-length
