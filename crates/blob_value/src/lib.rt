@@ -1,10 +1,10 @@
 // The value calls for Blobs and Bits: the bytes of a Blob literal, and the bits of a Bits literal, a byte each.
-pub mod mark;
+mod mark;
 mod spread;
 pub mod value;
 
 // Which of the two calls.
-pub enum Kind {
+enum Kind {
     Blob,
     Bits,
 }

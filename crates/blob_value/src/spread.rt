@@ -1,4 +1,5 @@
-// The digits of a literal, unit by unit, as bytes in a lent buffer.
+// The digits of a literal, unit by unit, as bytes in a lent buffer. The functions have a `requires` each: their caller has found the
+// literal.
 use crate::mark::Mark;
 use crate::mark::Size;
 use crate::mark::bytes;

@@ -1,4 +1,5 @@
 // The calls themselves: the refusals in their order, then the value.
+// A function with a `requires` is this crate's own: its caller has tested the piece. `blob` and `bits`, the public ones, have none.
 use crate::Kind;
 use crate::mark::Mark;
 use crate::mark::unit;
@@ -45,6 +46,7 @@ fn refused(number: u32, place: usize) -> Answer
     }
 }
 
+// The byte behind `0x` tells the base.
 fn judge_blob(piece: &[u8]) -> Verdict
     ensures { λ r. ⌜ Judged Kinds.Blob (now (piece .entry)) r ⌝ }
 {
@@ -64,6 +66,7 @@ fn judge_blob(piece: &[u8]) -> Verdict
     }
 }
 
+// The byte behind `0b` tells the base.
 fn judge_bits(piece: &[u8]) -> Verdict
     ensures { λ r. ⌜ Judged Kinds.Bits (now (piece .entry)) r ⌝ }
 {
@@ -147,7 +150,7 @@ fn fitting(piece: &[u8], mark: Mark, buffer: &mut [u8]) -> Answer
         };
     }
     // No byte beyond those needed fits in this part: what a `=` stands for is not written.
-    let all = write(piece, mark, &mut buffer[..needed]);
+    write(piece, mark, &mut buffer[..needed]);
     Answer {
         number: 0,
         place: piece.len(),
