@@ -3,3 +3,4 @@ pub mod Integers
 pub mod Reading
 pub mod Starred
 pub mod Values
+pub mod Contents

@@ -26,7 +26,7 @@ use Rattle.decisions.proofs.Front.{frontOf, front-is}
 use Rattle.reading.specs.declared.Limits.{Limits}
 use Rattle.reading.specs.Tokens.{seen, Follow, nothing, next, opened}
 use Rattle.reading.specs.Faults.{NewerAt, TooDeep, FirstFault}
-use Rattle.reading.specs.Answers.{first, Accepted}
+use Rattle.reading.specs.Answers.{Accepted}
 use Rattle.reading.proofs.Rows.{pick, no-end, no-none}
 use Rattle.reading.proofs.Stands.{Stands, at-front, goes-on, no-token, wrong-place, wrong-end, newer-form, bad-value, too-deep}
 use Rattle.reading.proofs.At.{accepted}

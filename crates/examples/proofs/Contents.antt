@@ -1,0 +1,187 @@
+-- The answers of the Blob and Bits calls for the pieces of the table, each by tests that compute. Assumes nothing.
+use mathlib.Core.Path.{_≡_, refl, ap, subst, _∙_}
+use mathlib.Core.Bool.{Bool, true, false, _&&_}
+use mathlib.Core.List.{List, [], _∷_}
+use Prim.Native.Nat.{ℕ, suc, _≤_, _<_}
+use Prim.Native.String.{String}
+use native.Mathlib.Omega.{arith}
+use borrow.Author.Tests.{leb-true, ltb-true}
+use lib.Dec.{leb, eqb, ltb}
+use lib.ListN.{length, getD, drop}
+use Rattle.rules.specs.Class.{Class, has, codes}
+use Rattle.rules.specs.Test.{Says}
+use Rattle.rules.specs.Every.{Every, none, also}
+use Rattle.rules.specs.Rule.{Rule, _then_, opt, lit}
+use Rattle.rules.proofs.Bools.{and-left, and-right}
+use Rattle.rules.proofs.Tests.{says-no, says-yes, refuted}
+use Rattle.lexicon.specs.Bytes.{binary, octal, hexadecimal, base64}
+use Rattle.lexicon.specs.Space.{sp}
+use Rattle.lexicon.specs.Base64.{character, Encodes}
+use Rattle.lexicon.specs.Values.{Digits, Behind, markAlone, markDigits, BitsOf, BlobOf}
+use Rattle.lexicon.specs.Bad.{Other, Misplaced, LeftOver, BadBase64}
+use Rattle.lexicon.proofs.Unfit.{bad-no-bytes}
+use Rattle.decisions.proofs.Tests.{by, and, equal}
+use Rattle.decisions.proofs.Cuts.{reaches, takes, leads, cut}
+use Rattle.decisions.proofs.Digits.{rows, row}
+use Rattle.decisions.proofs.Utf8.{formed, formed-is}
+use Rattle.reading.specs.Sizes.{base}
+use Rattle.values.specs.Exactly.{Exactly}
+use Rattle.values.specs.Bytes.{Call, BadPiece, PieceBytes, notTheLiteral, accepted}
+use Rattle.values.specs.Bytes as Bytes
+use Rattle.values.specs.Blob.{blobCall}
+use Rattle.values.specs.Bits.{bitsCall}
+use Rattle.examples.specs.Contents.{Hands, Refuses, Contents}
+
+-- ---- what a piece is
+
+-- short enough and UTF-8, and the rule takes all of it
+abbrev whole : Rule → List ℕ → Bool
+whole r bytes = (leb (length bytes) (base .text) && formed bytes) && reaches bytes r 0 (length bytes)
+
+abbrev sameAs : List ℕ → List ℕ → Bool
+sameAs [] [] = true
+sameAs [] (d ∷ ds) = false
+sameAs (e ∷ es) [] = false
+sameAs (e ∷ es) (d ∷ ds) = eqb d e && sameAs es ds
+
+same-as : (es ds : List ℕ) → Says (sameAs es ds) (ds ≡ es)
+same-as [] [] = says-yes refl
+same-as [] (d ∷ ds) = says-no (λ e. omega (arith, ap length e))
+same-as (e ∷ es) [] = says-no (λ x. omega (arith, ap length x))
+same-as (e ∷ es) (d ∷ ds) =
+    by
+    (λ x. ap (λ (n : ℕ). n ∷ ds) (x .0) ∙ ap (λ (l : List ℕ). e ∷ l) (x .1))
+    (λ x. (ap (λ (l : List ℕ). getD l 0 0) x, ap (λ (l : List ℕ). drop 1 l) x))
+    (and (equal d e) (same-as es ds))
+
+-- the mark, and digits in units of n + 1 that are these
+abbrev digitsAre : List ℕ → String → ℕ → Class → List ℕ → Bool
+digitsAre bytes mark n c ds =
+    leads bytes (lit mark then opt sp) 0 (λ s. rows bytes n c (length bytes) (sameAs ds) s (length bytes))
+
+digits-are : (bytes : List ℕ) (mark : String) (n : ℕ) (c : Class) (ds : List ℕ) → digitsAre bytes mark n c ds ≡ true → Behind bytes mark (suc n) c 0 (length bytes) ds
+digits-are bytes mark n c ds e =
+    let x =
+    cut bytes (lit mark then opt sp) 0 (λ s. rows bytes n c (length bytes) (sameAs ds) s (length bytes))
+    (λ s. (es : List ℕ) × Digits bytes (suc n) c s (length bytes) es × (es ≡ ds))
+    (λ s t. row bytes n c (length bytes) (sameAs ds) (λ es. es ≡ ds) (same-as ds) s (length bytes) (omega arith)) .true-holds e in
+    markDigits (x .1) (subst (λ (l : List ℕ). Digits bytes (suc n) c (x .0) (length bytes) l) (x .2 .2) (x .2 .1))
+
+-- ---- the answers
+
+module _ (call : Call) (text : String) where
+  abbrev bytes : List ℕ
+  bytes = codes text
+
+  module _ (w : whole (call .literal) bytes ≡ true) where
+    front : (leb (length bytes) (base .text) && formed bytes) ≡ true
+    front = and-left (leb (length bytes) (base .text) && formed bytes) (reaches bytes (call .literal) 0 (length bytes)) w
+
+    short : length bytes ≤ base .text
+    short = leb-true (length bytes) (base .text) (and-left (leb (length bytes) (base .text)) (formed bytes) front)
+
+    exact : Exactly (call .literal) bytes
+    exact =
+        takes bytes (call .literal) 0 (length bytes) .true-holds
+        (and-right (leb (length bytes) (base .text) && formed bytes) (reaches bytes (call .literal) 0 (length bytes)) w)
+
+    hands : (bs : List ℕ) → (BadPiece call bytes → ⊥) → PieceBytes call bytes bs → Hands call text bs
+    hands bs good b lent room = accepted short (formed-is bytes (and-right (leb (length bytes) (base .text)) (formed bytes) front)) exact good b room
+
+    five : BadPiece call bytes → Refuses call text 5
+    five b lent = Bytes.bad short (formed-is bytes (and-right (leb (length bytes) (base .text)) (formed bytes) front)) exact b
+
+  -- no literal of the call
+  nine : (leb (length bytes) (base .text) && formed bytes) ≡ true → reaches bytes (call .literal) 0 (length bytes) ≡ false → Refuses call text 9
+  nine e f lent =
+      notTheLiteral (leb-true (length bytes) (base .text) (and-left (leb (length bytes) (base .text)) (formed bytes) e))
+      (formed-is bytes (and-right (leb (length bytes) (base .text)) (formed bytes) e)) (refuted (takes bytes (call .literal) 0 (length bytes)) f)
+
+blob-hands : (text : String) (bs : List ℕ) → whole (blobCall .literal) (codes text) ≡ true → BlobOf (codes text) 0 (length (codes text)) bs → Hands blobCall text bs
+blob-hands text bs w b = hands blobCall text w bs (λ n. n bs b) b
+
+bits-hands : (text : String) (bs : List ℕ) → whole (bitsCall .literal) (codes text) ≡ true → BitsOf (codes text) 0 (length (codes text)) bs → Hands bitsCall text bs
+bits-hands text bs w b = hands bitsCall text w bs (λ n. n) b
+
+bad-blob : (text : String) (ds : List ℕ) → whole (blobCall .literal) (codes text) ≡ true → digitsAre (codes text) "0xy" 3 base64 ds ≡ true → BadBase64 ds → Refuses blobCall text 5
+bad-blob text ds w d b = five blobCall text w (bad-no-bytes (digits-are (codes text) "0xy" 3 base64 ds d) b)
+
+-- ---- the table
+
+allBelow : ℕ → List ℕ → Bool
+allBelow n [] = true
+allBelow n (b ∷ bs) = ltb b n && allBelow n bs
+
+below : (n : ℕ) (bs : List ℕ) → allBelow n bs ≡ true → Every (λ b. b < n) bs
+unfolding allBelow
+below n [] e = none
+below n (b ∷ bs) e = also (ltb-true b n (and-left (ltb b n) (allBelow n bs) e)) (below n bs (and-right (ltb b n) (allBelow n bs) e))
+
+alone : (text : String) → reaches (codes text) (lit text) 0 (length (codes text)) ≡ true → (n : ℕ) (c : Class) → Behind (codes text) text n c 0 (length (codes text)) []
+alone text e n c = markAlone (takes (codes text) (lit text) 0 (length (codes text)) .true-holds e)
+
+-- `AQ==`, and no characters
+encodes-one : Encodes (codes "AQ==") (0x01 ∷ [])
+unfolding allBelow character
+encodes-one =
+    record {
+      groups = 0 ∷ 16 ∷ [];
+      six-bits = below 64 (0 ∷ 16 ∷ []) refl;
+      padding = 2;
+      at-most-two = omega arith;
+      characters-are = refl;
+      quanta = refl;
+      bits-are = refl;
+    }
+
+encodes-none : Encodes [] []
+unfolding allBelow character
+encodes-none =
+    record {
+      groups = [];
+      six-bits = none;
+      padding = 0;
+      at-most-two = omega arith;
+      characters-are = refl;
+      quanta = refl;
+      bits-are = refl;
+    }
+
+-- bits left over: `B` is 000001
+four-left : LeftOver (codes "AB==")
+unfolding character
+four-left = record { before = codes "A"; last = 1; six-bits = omega arith; padding = 2; characters-are = refl; not-zero = λ e. omega (arith, ap (λ (l : List ℕ). getD l 3 0) e) }
+
+two-left : LeftOver (codes "AAB=")
+unfolding character
+two-left = record { before = codes "AA"; last = 1; six-bits = omega arith; padding = 1; characters-are = refl; not-zero = λ e. omega (arith, ap (λ (l : List ℕ). getD l 1 0) e) }
+
+pub contents : Contents
+unfolding has allBelow
+contents =
+    record {
+      one-byte =
+          blob-hands "0xyAQ==" (0x01 ∷ []) refl
+          (BlobOf.inBase64 (digits-are (codes "0xyAQ==") "0xy" 3 base64 (codes "AQ==") refl) (below 256 (0x01 ∷ []) refl) encodes-one);
+      three-bytes =
+          blob-hands "0xxA7_05 FF" (0xA7 ∷ 0x05 ∷ 0xFF ∷ []) refl
+          (BlobOf.inHexadecimal (digits-are (codes "0xxA7_05 FF") "0xx" 1 hexadecimal (codes "A705FF") refl) (below 256 (0xA7 ∷ 0x05 ∷ 0xFF ∷ []) refl) refl);
+      eight-digits =
+          blob-hands "0xb00000001" (0x01 ∷ []) refl
+          (BlobOf.inBinary (digits-are (codes "0xb00000001") "0xb" 7 binary (codes "00000001") refl) (below 256 (0x01 ∷ []) refl) refl);
+      no-byte = blob-hands "0xy" [] refl (BlobOf.inBase64 (alone "0xy" refl 4 base64) none encodes-none);
+      octal =
+          bits-hands "0bo17" (0 ∷ 0 ∷ 1 ∷ 1 ∷ 1 ∷ 1 ∷ []) refl (BitsOf.inOctal (digits-are (codes "0bo17") "0bo" 0 octal (codes "17") refl));
+      hexadecimal = bits-hands "0bxA" (1 ∷ 0 ∷ 1 ∷ 0 ∷ []) refl (BitsOf.inHexadecimal (digits-are (codes "0bxA") "0bx" 0 hexadecimal (codes "A") refl));
+      joined = bits-hands "0bb1_0 1" (1 ∷ 0 ∷ 1 ∷ []) refl (BitsOf.inBinary (digits-are (codes "0bb1_0 1") "0bb" 0 binary (codes "101") refl));
+      no-bit = bits-hands "0bb" [] refl (BitsOf.inBinary (alone "0bb" refl 1 binary));
+      four-pads = bad-blob "0xy====" (codes "====") refl refl (BadBase64.moreThanTwo (omega arith));
+      four-bits-left = bad-blob "0xyAB==" (codes "AB==") refl refl (BadBase64.bitsLeft four-left);
+      two-bits-left = bad-blob "0xyAAB=" (codes "AAB=") refl refl (BadBase64.bitsLeft two-left);
+      not-at-end =
+          bad-blob "0xyAA== AAAA" (codes "AA==AAAA") refl refl
+          (BadBase64.notAtEnd (Misplaced.later (Misplaced.later (Misplaced.now (Other.later (Other.now (λ e. omega (arith, e))))))));
+      half-a-byte = nine blobCall "0xxA" refl refl;
+      bits-for-blob = nine blobCall "0bb1" refl refl;
+      blob-for-bits = nine bitsCall "0xx" refl refl;
+    }
