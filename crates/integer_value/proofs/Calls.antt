@@ -18,7 +18,7 @@ use Rattle.lexicon.specs.declared.Encoding.{Encoding}
 use Rattle.lexicon.specs.declared.Encoding.the-variants as Encoding
 use Rattle.lexicon.specs.Bytes.{radix}
 use Rattle.lexicon.specs.Literals.{integer}
-use Rattle.lexicon.specs.Utf8.{WellFormed, BadAt, Encoded}
+use Rattle.lexicon.specs.Utf8.{WellFormed, Encoded}
 use Rattle.lexicon.specs.Values.{value}
 use Rattle.reading.specs.Sizes.{base}
 use Rattle.values.specs.declared.IntegerAnswer.{IntegerAnswer}

@@ -13,7 +13,6 @@ ghost use mathlib.Core.Path.{_≡_};
 ghost use mathlib.Core.Bool.{cond};
 ghost use Prim.Native.Nat.{_≤_, _^_};
 ghost use lib.IntN.{pos, negℤ};
-ghost use lib.ListN.{length};
 ghost use Rattle.rules.specs.Test.{Says};
 ghost use Rattle.reading.specs.Sizes.{base as rules};
 ghost use Rattle.lexicon.specs.Literals.{integer as integerOf};

@@ -6,7 +6,7 @@ use Prim.Native.Nat.{ℕ, _+_, _≤_, _<_, min}
 use native.Mathlib.Omega.{arith}
 use lib.ListN.{length, getD}
 use Rattle.rules.specs.Class.{In, has}
-use Rattle.rules.specs.Rule.{Takes, Fails, At, opt}
+use Rattle.rules.specs.Rule.{Takes, Fails, opt}
 use Rattle.rules.proofs.Classes.{is-just, just-is, in-cons}
 use Rattle.rules.proofs.Matches.{forward, starting}
 use Rattle.lexicon.specs.declared.Base.{Base}
