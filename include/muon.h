@@ -34,9 +34,10 @@ extern "C" {
 #define MUON_BITS_MAX (4 * MUON_TEXT_MAX)
 
 /* The stack that a call needs at most, in bytes, whatever the input. Behind it: the frames of muon_read times the open brackets that
-   there may be come to 24,952 bytes in the archive as built today, those of muon_integer to 1,288 and those of muon_text to 1,016; the
-   most that was measured, over the deepest texts and the longest ways through a literal, is 24,648, 1,288 and 1,016 (tests/stack prints
-   them and fails if one exceeds the number here). No call takes memory from anywhere else. */
+   there may be come to 28,456 bytes in the archive as built today, those of muon_integer to 584, those of muon_text to 864 and those of
+   muon_blob and of muon_bits to 568 each; the most that was measured, over the deepest texts and the longest ways through a literal, is
+   28,024 for muon_read and for the others what their frames come to (tests/stack prints them and fails if one exceeds the number here).
+   No call takes memory from anywhere else. */
 #define MUON_STACK_MAX 32768
 
 /* ---- The answer ------------------------------------------------------------------------------------------------------------- */
@@ -204,8 +205,9 @@ uint32_t muon_text(const uint8_t *piece, size_t piece_len, uint8_t *buffer, size
    `0xxA7_05 FF` has the bytes A7 05 FF, `0xyAQ==` has the bytes 01, and `0xy` has no bytes.
 
    Base 64 is RFC 4648 section 4. Refused with 5 is what it does not have: a `=` with another character behind it, more than two `=`, and
-   bits left over that are not zero. In the Blob call `0xyAA== AAAA` is 5@0, `0xy====` is 5@0, `0xyAB==` is 5@0 and `0xyAAB=` is 5@0.
-   Of these muon_read refuses the first only.
+   bits left over that are not zero. As number@place: in the Blob call `0xyAA== AAAA` is 5@0, `0xy====` is 5@0, `0xyAB==` is 5@0 and
+   `0xyAAB=` is 5@0. Of these muon_read refuses the first only. Digits that do not fill whole bytes, or in base 64 groups of four, make no
+   Blob: in the Blob call `0xxA` is 9@0 and `0xyAQ=` is 9@0.
 
    piece      piece_len bytes, read only; need not end in 0
    buffer     buffer_len bytes; what they held does not matter
