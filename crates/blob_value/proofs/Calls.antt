@@ -11,7 +11,7 @@ use Rattle.rules.proofs.Every.{every-append}
 use Rattle.lexicon.specs.Expansion.{expand}
 use Rattle.lexicon.specs.Base64.{character, Encodes}
 use Rattle.lexicon.specs.Utf8.{WellFormed}
-use Rattle.lexicon.specs.Values.{digit, Octets, Behind, BitsOf, BlobOf}
+use Rattle.lexicon.specs.Values.{digit, Octets, BitsOf, BlobOf}
 use Rattle.lexicon.proofs.Expansions.{bits-zero, expand-append, expand-length, expand-bits, expand-same, expand-one, RowOf, rows}
 use Rattle.lexicon.proofs.Sextets.{sextet-character, character-no-pad}
 use Rattle.lexicon.proofs.Contents.{bits-same, blob-encodes, blob-octets, blob-same}
@@ -20,8 +20,8 @@ use Rattle.reading.specs.Answers.{answer}
 use Rattle.values.specs.Bytes.{PieceBytes, BytesAnswers, noRoom, accepted}
 use Rattle.blob_value.specs.declared.mark.Mark.{Mark}
 use Rattle.blob_value.specs.declared.mark.Mark.the-variants.{BlobBinary, BlobHexadecimal, BlobBase64, BitsBinary, BitsOctal, BitsHexadecimal}
-use Rattle.blob_value.specs.Marks.{markOf, kindOf, digitsOf, unitOf, widthOf, sizeOf, bytesOf, valueOf}
-use Rattle.blob_value.specs.Spread.{Fills, MeasuredDigits, SpreadDigits}
+use Rattle.blob_value.specs.Marks.{kindOf, unitOf, widthOf, sizeOf, bytesOf, valueOf}
+use Rattle.blob_value.specs.Spread.{Whole, Fills, Measured, Spread}
 use Rattle.blob_value.specs.Calls.{callOf, Sound, Padded}
 use Rattle.blob_value.proofs.Marks.{value-digit, value-pad, value-sextet}
 
@@ -99,7 +99,7 @@ module _ (piece : List ℕ) where
     bits-are : expand 8 out ≡ expand w (map (valueOf radix) ds) → expand 8 out ≡ expand w (map digit ds)
     bits-are e = e ∙ ap (expand w) (values-digits radix h ds)
 
-  filling-bytes : (mark : Mark) {n : ℕ} (ds out bs : List ℕ) → Behind piece (markOf mark) (unitOf mark) (digitsOf mark) 0 (length piece) ds → Fills mark ds out →
+  filling-bytes : (mark : Mark) {n : ℕ} (ds out bs : List ℕ) → Whole piece mark ds → Fills mark ds out →
       BytesOf mark bs → Padded piece mark n → out ≡ bs ++ replicate n 0
   filling-bytes BlobBinary ds out bs s f b p =
       plain (not-base64 (λ e. omega (arith, e))) p (blob-same piece (BlobOf.inBinary s (f .small) (bits-are 1 2 (omega arith) ds out (f .bits-are))) b)
@@ -148,17 +148,17 @@ whole-bytes mark ds k e =
 
 module _ (piece : List ℕ) (mark : Mark) (s : Sound piece mark) {n : ℕ} (p : Padded piece mark n) where
   -- the bytes are counted exactly
-  counted : {m : ℕ} → MeasuredDigits piece mark m → m ≡ length (s .bytes) + n
+  counted : {m : ℕ} → Measured mark (Whole piece mark) m → m ≡ length (s .bytes) + n
   counted v =
       let r = whole-bytes mark (v .digits) (v .units) (v .units-are) in
       let f : Fills mark (v .digits) (r .numbers) = record { small = r .small; bits-are = r .bits-are } in
-      let e = ap length (filling-bytes piece mark (v .digits) (r .numbers) (s .bytes) (v .behind) f (s .are) p) in
+      let e = ap length (filling-bytes piece mark (v .digits) (r .numbers) (s .bytes) (v .are) f (s .are) p) in
       omega (arith, e, r .count, v .bytes-are, length-append (s .bytes) (replicate n 0), length-replicate {A = ℕ} n 0)
 
-  pub enough : {m : ℕ} → MeasuredDigits piece mark m → n ≤ m
+  pub enough : {m : ℕ} → Measured mark (Whole piece mark) m → n ≤ m
   enough v = omega (arith, counted v)
 
-  module _ (rules : Rules) (h : length piece ≤ rules .text) (formed : WellFormed piece) (lent : List ℕ) {m : ℕ} (v : MeasuredDigits piece mark m) where
+  module _ (rules : Rules) (h : length piece ≤ rules .text) (formed : WellFormed piece) (lent : List ℕ) {m : ℕ} (v : Measured mark (Whole piece mark) m) where
     abbrev Answers : ℕ → ℕ → List ℕ → Type 0
     Answers number count u = BytesAnswers (callOf (kindOf mark)) rules piece lent (answer number (length piece) count) u
 
@@ -169,12 +169,12 @@ module _ (piece : List ℕ) (mark : Mark) (s : Sound piece mark) {n : ℕ} (p : 
     too-small l = subst⁻¹ (λ (k : ℕ). Answers 8 k lent) needed (noRoom h formed (s .exact) (s .good) (s .are) (omega (arith, l, needed)))
 
     -- what is written into a part of that length leaves the bytes there
-    pub fits : {u : List ℕ} {j : ℕ} → m - n ≤ length lent → SpreadDigits piece mark (take (m - n) lent) u j → Answers 0 (m - n) (u ++ drop (m - n) lent)
+    pub fits : {u : List ℕ} → m - n ≤ length lent → Spread mark (Whole piece mark) (take (m - n) lent) u → Answers 0 (m - n) (u ++ drop (m - n) lent)
     fits {u} l w =
         let part = take (m - n) lent in
         let e : u ≡ s .bytes =
         w .puts .bytes-are
-        ∙ ap (over part 0) (filling-bytes piece mark (w .digits) (w .bytes) (s .bytes) (w .behind) (w .fills) (s .are) p)
+        ∙ ap (over part 0) (filling-bytes piece mark (w .digits) (w .bytes) (s .bytes) (w .are) (w .fills) (s .are) p)
         ∙ over-cut part (s .bytes) (replicate n 0) (sym (part-length lent (m - n) l) ∙ needed) in
         let f : u ++ drop (m - n) lent ≡ s .bytes ++ drop (length (s .bytes)) lent =
         ap (λ (x : List ℕ). x ++ drop (m - n) lent) e ∙ ap (λ (k : ℕ). s .bytes ++ drop k lent) needed in

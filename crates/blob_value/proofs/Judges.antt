@@ -35,7 +35,7 @@ use Rattle.blob_value.specs.declared.mark.Mark.the-variants.{BlobBinary,
 use Rattle.blob_value.specs.Marks.{kindOf}
 use Rattle.blob_value.specs.declared.value.Verdict.{Verdict}
 use Rattle.blob_value.specs.declared.value.Verdict.the-variants as Verdict
-use Rattle.blob_value.specs.Spread.{HasDigits}
+use Rattle.blob_value.specs.Spread.{Whole, Has}
 use Rattle.blob_value.specs.Calls.{callOf, Sound, Judged, other, bad, good}
 
 module _ (piece : List ℕ) where
@@ -51,40 +51,40 @@ module _ (piece : List ℕ) where
   blob-long (right (left t)) = third 0x30 0x78 0x78 t .1
   blob-long (right (right t)) = third 0x30 0x78 0x79 t .1
 
-  blob-binary : Exactly blob piece → getD piece 2 0 ≡ byteOf "b" → HasDigits piece BlobBinary
-  blob-binary (left t) e = let d = has-digits "0xb" 8 binary t in record { digits = d .0; behind = d .1 }
+  blob-binary : Exactly blob piece → getD piece 2 0 ≡ byteOf "b" → Has (Whole piece BlobBinary)
+  blob-binary (left t) e = let d = has-digits "0xb" 8 binary t in record { digits = d .0; are = d .1 }
   blob-binary (right (left t)) e = absurd (omega (arith, e, third 0x30 0x78 0x78 t .0))
   blob-binary (right (right t)) e = absurd (omega (arith, e, third 0x30 0x78 0x79 t .0))
 
-  blob-hexadecimal : Exactly blob piece → getD piece 2 0 ≡ byteOf "x" → HasDigits piece BlobHexadecimal
+  blob-hexadecimal : Exactly blob piece → getD piece 2 0 ≡ byteOf "x" → Has (Whole piece BlobHexadecimal)
   blob-hexadecimal (left t) e = absurd (omega (arith, e, third 0x30 0x78 0x62 t .0))
-  blob-hexadecimal (right (left t)) e = let d = has-digits "0xx" 2 hexadecimal t in record { digits = d .0; behind = d .1 }
+  blob-hexadecimal (right (left t)) e = let d = has-digits "0xx" 2 hexadecimal t in record { digits = d .0; are = d .1 }
   blob-hexadecimal (right (right t)) e = absurd (omega (arith, e, third 0x30 0x78 0x79 t .0))
 
-  blob-base64 : Exactly blob piece → (getD piece 2 0 ≡ byteOf "b" → ⊥) → (getD piece 2 0 ≡ byteOf "x" → ⊥) → HasDigits piece BlobBase64
+  blob-base64 : Exactly blob piece → (getD piece 2 0 ≡ byteOf "b" → ⊥) → (getD piece 2 0 ≡ byteOf "x" → ⊥) → Has (Whole piece BlobBase64)
   blob-base64 (left t) f g = absurd (f (third 0x30 0x78 0x62 t .0))
   blob-base64 (right (left t)) f g = absurd (g (third 0x30 0x78 0x78 t .0))
-  blob-base64 (right (right t)) f g = let d = has-digits "0xy" 4 base64 t in record { digits = d .0; behind = d .1 }
+  blob-base64 (right (right t)) f g = let d = has-digits "0xy" 4 base64 t in record { digits = d .0; are = d .1 }
 
   pub bits-long : Exactly bits piece → 2 < length piece
   bits-long (left t) = third 0x30 0x62 0x62 t .1
   bits-long (right (left t)) = third 0x30 0x62 0x6F t .1
   bits-long (right (right t)) = third 0x30 0x62 0x78 t .1
 
-  bits-binary : Exactly bits piece → getD piece 2 0 ≡ byteOf "b" → HasDigits piece BitsBinary
-  bits-binary (left t) e = let d = has-digits "0bb" 1 binary t in record { digits = d .0; behind = d .1 }
+  bits-binary : Exactly bits piece → getD piece 2 0 ≡ byteOf "b" → Has (Whole piece BitsBinary)
+  bits-binary (left t) e = let d = has-digits "0bb" 1 binary t in record { digits = d .0; are = d .1 }
   bits-binary (right (left t)) e = absurd (omega (arith, e, third 0x30 0x62 0x6F t .0))
   bits-binary (right (right t)) e = absurd (omega (arith, e, third 0x30 0x62 0x78 t .0))
 
-  bits-octal : Exactly bits piece → getD piece 2 0 ≡ byteOf "o" → HasDigits piece BitsOctal
+  bits-octal : Exactly bits piece → getD piece 2 0 ≡ byteOf "o" → Has (Whole piece BitsOctal)
   bits-octal (left t) e = absurd (omega (arith, e, third 0x30 0x62 0x62 t .0))
-  bits-octal (right (left t)) e = let d = has-digits "0bo" 1 octal t in record { digits = d .0; behind = d .1 }
+  bits-octal (right (left t)) e = let d = has-digits "0bo" 1 octal t in record { digits = d .0; are = d .1 }
   bits-octal (right (right t)) e = absurd (omega (arith, e, third 0x30 0x62 0x78 t .0))
 
-  bits-hexadecimal : Exactly bits piece → (getD piece 2 0 ≡ byteOf "b" → ⊥) → (getD piece 2 0 ≡ byteOf "o" → ⊥) → HasDigits piece BitsHexadecimal
+  bits-hexadecimal : Exactly bits piece → (getD piece 2 0 ≡ byteOf "b" → ⊥) → (getD piece 2 0 ≡ byteOf "o" → ⊥) → Has (Whole piece BitsHexadecimal)
   bits-hexadecimal (left t) f g = absurd (f (third 0x30 0x62 0x62 t .0))
   bits-hexadecimal (right (left t)) f g = absurd (g (third 0x30 0x62 0x6F t .0))
-  bits-hexadecimal (right (right t)) f g = let d = has-digits "0bx" 1 hexadecimal t in record { digits = d .0; behind = d .1 }
+  bits-hexadecimal (right (right t)) f g = let d = has-digits "0bx" 1 hexadecimal t in record { digits = d .0; are = d .1 }
 
   -- ---- the verdicts
 

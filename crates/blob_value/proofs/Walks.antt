@@ -2,7 +2,6 @@
 use mathlib.Core.Path.{_≡_, refl, sym, ap, subst, _∙_}
 use mathlib.Core.List.{List, [], _++_, map, map-append, foldl, append-assoc, append-nil}
 use Prim.Native.Nat.{ℕ, zero, suc, _+_, _*_, _^_, _≤_, _<_}
-use native.Mathlib.Nat.{mul-le-mul-left}
 use native.Mathlib.Decide.{ℕ-discrete}
 use native.Mathlib.Omega.{arith}
 use lib.ListN.{length, getD, length-append}
@@ -24,7 +23,7 @@ use Rattle.buffer.proofs.Puts.{puts-none, puts-same, puts-then}
 use Rattle.blob_value.specs.declared.mark.Mark.{Mark}
 use Rattle.blob_value.specs.declared.mark.Mark.the-variants.{BlobBinary, BlobHexadecimal, BlobBase64, BitsBinary, BitsOctal, BitsHexadecimal}
 use Rattle.blob_value.specs.Marks.{kindOf, digitsOf, unitOf, widthOf, sizeOf, bytesOf, valueOf}
-use Rattle.blob_value.specs.Spread.{withDigit, parts, Small, HasUnits, Measured, SpreadUnits}
+use Rattle.blob_value.specs.Spread.{withDigit, parts, Small, Units, Has, HasUnits, Counts, Spread}
 use Rattle.blob_value.proofs.Marks.{value-digit, value-pad, value-sextet}
 use Rattle.blob_value.proofs.Spreads.{parts-small, unit-bits}
 
@@ -146,7 +145,7 @@ module _ (piece : List ℕ) (mark : Mark) where
           expand (widthOf mark) (map (valueOf (2 ^ widthOf mark)) whole)
       pub puts : Puts t 0 bytes t' n
 
-    pub walk-begins : HasUnits piece mark at → length t ≤ largest → Walk at t 0
+    pub walk-begins : Has (Units piece mark at) → length t ≤ largest → Walk at t 0
     walk-begins h l =
         record {
           whole = h .digits;
@@ -209,10 +208,10 @@ module _ (piece : List ℕ) (mark : Mark) where
       module _ {sum count size m : ℕ} {u : List ℕ} (e : sum ≡ foldl (withDigit (2 ^ widthOf mark)) 0 (read piece i (unitOf mark))) (f : count ≡ bytesOf mark)
           (g : size ≡ sizeOf (kindOf mark)) (p : Puts t' n (parts size count sum) u m) where
         -- the last unit
-        pub walk-ends : i + unitOf mark ≡ length piece → SpreadUnits piece mark at t u m
+        pub walk-ends : i + unitOf mark ≡ length piece → Spread mark (Units piece mark at) t u
         walk-ends h = go (w .rest-are) refl
           where
-            go : {ds : List ℕ} → Row i ds → w .rest ≡ ds → SpreadUnits piece mark at t u m
+            go : {ds : List ℕ} → Row i ds → w .rest ≡ ds → Spread mark (Units piece mark at) t u
             go (lastUnit v) d =
                 record {
                   digits = w .whole;
@@ -223,6 +222,7 @@ module _ (piece : List ℕ) (mark : Mark) where
                         small = more-small;
                         bits-are = sym (append-nil (expand (sizeOf (kindOf mark)) (w .bytes ++ bytesAt i))) ∙ more-bits v [] (d ∙ sym (append-nil (read piece i (unitOf mark))));
                       };
+                  end = m;
                   puts = more-puts e f g p;
                 }
             go (nextUnit v s r) d =
@@ -247,79 +247,63 @@ module _ (piece : List ℕ) (mark : Mark) where
                   puts = more-puts e f g p;
                 }
 
-  -- ---- how many bytes they fill
+-- ---- how many units there are
 
-  module _ (at : ℕ) where
-    pub record Count (i n : ℕ) : Type 0 where
-      pub whole : List ℕ
-      pub whole-are : Row at whole
-      pub rest : List ℕ
-      pub rest-are : Row i rest
-      pub units : ℕ
-      pub behind : units ≤ i
-      pub units-are : length whole ≡ units * unitOf mark + length rest
-      pub bytes-are : n ≡ units * bytesOf mark
+module _ (piece : List ℕ) (n at : ℕ) where
+  -- at i, with k units before
+  pub record Counting (i k : ℕ) : Type 0 where
+    pub behind : k ≤ i
+    pub has : HasUnits piece n i
+    pub of : (mark : Mark) → n ≡ unitOf mark → (ds : List ℕ) → Units piece mark at ds →
+        (rest : List ℕ) × Units piece mark i rest × (length ds ≡ k * unitOf mark + length rest)
 
-    pub count-begins : HasUnits piece mark at → Count at 0
-    count-begins h =
-        record {
-          whole = h .digits;
-          whole-are = h .are;
-          rest = h .digits;
-          rest-are = h .are;
-          units = 0;
-          behind = omega arith;
-          units-are = omega arith;
-          bytes-are = omega arith;
-        }
+  pub count-begins : HasUnits piece n at → Counting at 0
+  count-begins h = record { behind = omega arith; has = h; of = λ mark e ds d. (ds, d, omega arith) }
 
-    module _ {i n : ℕ} (w : Count i n) where
-      pub count-within : i + unitOf mark ≤ length piece
-      count-within = digits-forward (w .rest-are)
+  module _ {i k : ℕ} (w : Counting i k) where
+    pub count-within : i + n ≤ length piece
+    count-within = omega (arith, w .has .unit-is, digits-forward (w .has .has .are))
 
-      pub count-small : n ≤ 4 * i
-      count-small =
-          let a : w .units * bytesOf mark ≤ w .units * 4 = mul-le-mul-left (w .units) (few-bytes mark) in
-          omega (arith, a, w .bytes-are, w .behind)
+    pub count-some : 1 ≤ n
+    count-some = let o = one-at-least (w .has .mark) in omega (arith, w .has .unit-is, o .1)
 
-      one-more : (r : ℕ) → length (w .whole) ≡ w .units * unitOf mark + (unitOf mark + r) → length (w .whole) ≡ suc (w .units) * unitOf mark + r
-      one-more r e = let a : suc (w .units) * unitOf mark ≡ w .units * unitOf mark + unitOf mark = omega arith in omega (arith, e, a)
+    one-more : (m : Mark) (l r : ℕ) → l ≡ k * unitOf m + (unitOf m + r) → l ≡ (k + 1) * unitOf m + r
+    one-more m l r e = let a : (k + 1) * unitOf m ≡ k * unitOf m + unitOf m = omega arith in omega (arith, e, a)
 
-      bytes-more : {b : ℕ} → b ≡ bytesOf mark → n + b ≡ suc (w .units) * bytesOf mark
-      bytes-more e = let a : suc (w .units) * bytesOf mark ≡ w .units * bytesOf mark + bytesOf mark = omega arith in omega (arith, e, a, w .bytes-are)
+    pub count-ends : i + n ≡ length piece → Counts piece n at (k + 1)
+    count-ends h = record { of = ends }
+      where
+        last : (mark : Mark) → n ≡ unitOf mark → {ds : List ℕ} → Units piece mark i ds → length ds ≡ unitOf mark
+        last mark e (lastUnit v) = read-length piece i (unitOf mark)
+        last mark e (nextUnit v s r) =
+            let o = one-at-least mark in absurd (omega (arith, h, e, unit-end (unitOf mark) (digitsOf mark) v, forward s, digits-forward r, o .1))
 
-      pub count-ends : {b : ℕ} → b ≡ bytesOf mark → i + unitOf mark ≡ length piece → Measured piece mark at (n + b)
-      count-ends {b} e h = go (w .rest-are) (w .units-are)
-        where
-          go : {ds : List ℕ} → Row i ds → length (w .whole) ≡ w .units * unitOf mark + length ds → Measured piece mark at (n + b)
-          go (lastUnit v) d =
-              let z : length (w .whole) ≡ suc (w .units) * unitOf mark + 0 = one-more 0 (omega (arith, d, read-length piece i (unitOf mark))) in
-              record {
-                digits = w .whole;
-                are = w .whole-are;
-                units = suc (w .units);
-                units-are = omega (arith, z);
-                bytes-are = bytes-more e;
-              }
-          go (nextUnit v s r) d =
-              let o = one-at-least mark in
-              absurd (omega (arith, h, unit-end (unitOf mark) (digitsOf mark) v, forward s, digits-forward r, o .1))
+        ends : (mark : Mark) → n ≡ unitOf mark → (ds : List ℕ) → Units piece mark at ds → length ds ≡ (k + 1) * unitOf mark
+        ends mark e ds d =
+            let x = w .of mark e ds d in
+            let z = one-more mark (length ds) 0 (omega (arith, x .2, last mark e (x .1))) in
+            omega (arith, z)
 
-      pub count-next : {b k : ℕ} → b ≡ bytesOf mark → (i + unitOf mark ≡ length piece → ⊥) → Longest piece (opt joint) (i + unitOf mark) k → Count k (n + b)
-      count-next {b} {k} e h j = go (w .rest-are) (w .units-are)
-        where
-          go : {ds : List ℕ} → Row i ds → length (w .whole) ≡ w .units * unitOf mark + length ds → Count k (n + b)
-          go (lastUnit v) d = absurd (h (sym (unit-end (unitOf mark) (digitsOf mark) v)))
-          go (nextUnit {ds = ds} v s r) d =
-              let q = next-row v s r j in
-              let o = one-at-least mark in
-              record {
-                whole = w .whole;
-                whole-are = w .whole-are;
-                rest = ds;
-                rest-are = q;
-                units = suc (w .units);
-                behind = omega (arith, w .behind, forward (j .takes), o .1);
-                units-are = one-more (length ds) (omega (arith, d, length-append (read piece i (unitOf mark)) ds, read-length piece i (unitOf mark)));
-                bytes-are = bytes-more e;
-              }
+    -- behind the joint
+    module _ {l : ℕ} (h : i + n ≡ length piece → ⊥) (j : Longest piece (opt joint) (i + n) l) where
+      behind-one : (mark : Mark) → n ≡ unitOf mark → {ds : List ℕ} → Units piece mark i ds →
+          (rest : List ℕ) × Units piece mark l rest × (length ds ≡ unitOf mark + length rest)
+      behind-one mark e (lastUnit v) = absurd (h (ap (λ (m : ℕ). i + m) e ∙ sym (unit-end (unitOf mark) (digitsOf mark) v)))
+      behind-one mark e (nextUnit {ds = ds} v s r) = (
+        ds,
+        next-row piece mark v s r (subst (λ (m : ℕ). Longest piece (opt joint) (i + m) l) e j),
+        omega (arith, length-append (read piece i (unitOf mark)) ds, read-length piece i (unitOf mark)),
+      )
+
+      pub count-next : Counting l (k + 1)
+      count-next =
+          let b = behind-one (w .has .mark) (w .has .unit-is) (w .has .has .are) in
+          record {
+            behind = omega (arith, w .behind, forward (j .takes), count-some);
+            has = record { mark = w .has .mark; unit-is = w .has .unit-is; has = record { digits = b .0; are = b .1 } };
+            of =
+                λ mark e ds d.
+                let x = w .of mark e ds d in
+                let y = behind-one mark e (x .1) in
+                (y .0, y .1, one-more mark (length ds) (length (y .0)) (omega (arith, x .2, y .2)));
+          }

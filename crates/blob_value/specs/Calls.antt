@@ -17,7 +17,7 @@ use Rattle.blob_value.specs.declared.mark.Mark.the-variants.{BlobBase64}
 use Rattle.blob_value.specs.declared.value.Verdict.{Verdict}
 use Rattle.blob_value.specs.declared.value.Verdict.the-variants as Verdict
 use Rattle.blob_value.specs.Marks.{kindOf}
-use Rattle.blob_value.specs.Spread.{HasDigits}
+use Rattle.blob_value.specs.Spread.{Whole, Has}
 
 abbrev pub callOf : Kind → Call
 callOf Kind.Blob = blobCall
@@ -27,7 +27,7 @@ callOf Kind.Bits = bitsCall
 pub record Sound (piece : List ℕ) (mark : Mark) : Type 0 where
   pub exact : Exactly (callOf (kindOf mark) .literal) piece
   pub good : BadPiece (callOf (kindOf mark)) piece → ⊥
-  pub digits : HasDigits piece mark
+  pub digits : Has (Whole piece mark)
   pub bytes : List ℕ
   pub are : PieceBytes (callOf (kindOf mark)) piece bytes
 

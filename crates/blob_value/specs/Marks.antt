@@ -12,8 +12,6 @@ use Rattle.blob_value.specs.declared.Kind.the-variants as Kind
 use Rattle.blob_value.specs.declared.mark.Mark.{Mark}
 use Rattle.blob_value.specs.declared.mark.Mark.the-variants.{BlobBinary, BlobHexadecimal, BlobBase64}
 use Rattle.blob_value.specs.declared.mark.Mark.the-variants.{BitsBinary, BitsOctal, BitsHexadecimal}
-use Rattle.blob_value.specs.declared.mark.Size.{Size}
-use Rattle.blob_value.specs.declared.mark.Size.the-variants as Size
 
 -- the mark itself
 abbrev pub markOf : Mark → String
@@ -59,10 +57,6 @@ widthOf BitsOctal = 3
 widthOf BitsHexadecimal = 4
 
 -- the bits that a byte of the buffer holds, and how many bytes a unit fills
-abbrev pub bitsIn : Size → ℕ
-bitsIn Size.One = 1
-bitsIn Size.Eight = 8
-
 abbrev pub sizeOf : Kind → ℕ
 sizeOf Kind.Blob = 8
 sizeOf Kind.Bits = 1

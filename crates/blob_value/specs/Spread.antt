@@ -31,45 +31,45 @@ pub record Fills (mark : Mark) (ds bs : List ℕ) : Type 0 where
   pub small : Every (λ b. b < 2 ^ sizeOf (kindOf mark)) bs
   pub bits-are : expand (sizeOf (kindOf mark)) bs ≡ expand (widthOf mark) (map (valueOf (2 ^ widthOf mark)) ds)
 
+-- ---- rows of digits
+
 module _ (piece : List ℕ) (mark : Mark) where
-  -- units stand from i to the end of the piece
-  pub record HasUnits (i : ℕ) : Type 0 where
-    pub digits : List ℕ
-    pub are : Digits piece (unitOf mark) (digitsOf mark) i (length piece) digits
+  -- the digits of the units from i to the end of the piece
+  abbrev pub Units : ℕ → List ℕ → Type 0
+  Units i ds = Digits piece (unitOf mark) (digitsOf mark) i (length piece) ds
 
-  -- and fill n bytes
-  pub record Measured (i n : ℕ) : Type 0 where
-    pub digits : List ℕ
-    pub are : Digits piece (unitOf mark) (digitsOf mark) i (length piece) digits
-    pub units : ℕ
-    pub units-are : length digits ≡ units * unitOf mark
-    pub bytes-are : n ≡ units * bytesOf mark
+  -- the digits of a piece that is the mark and they
+  abbrev pub Whole : List ℕ → Type 0
+  Whole ds = Behind piece (markOf mark) (unitOf mark) (digitsOf mark) 0 (length piece) ds
 
-  -- and their bytes are put from the start of t
-  pub record SpreadUnits (i : ℕ) (t t' : List ℕ) (n : ℕ) : Type 0 where
-    pub digits : List ℕ
-    pub are : Digits piece (unitOf mark) (digitsOf mark) i (length piece) digits
-    pub bytes : List ℕ
-    pub fills : Fills mark digits bytes
-    pub puts : Puts t 0 bytes t' n
+pub record Has (Are : List ℕ → Type 0) : Type 0 where
+  pub digits : List ℕ
+  pub are : Are digits
 
-  -- the piece is the mark and its digits
-  pub record HasDigits : Type 0 where
-    pub digits : List ℕ
-    pub behind : Behind piece (markOf mark) (unitOf mark) (digitsOf mark) 0 (length piece) digits
+-- units of n digits stand from i to the end of the piece
+pub record HasUnits (piece : List ℕ) (n i : ℕ) : Type 0 where
+  pub mark : Mark
+  pub unit-is : n ≡ unitOf mark
+  pub has : Has (Units piece mark i)
 
-  -- they fill n bytes
-  pub record MeasuredDigits (n : ℕ) : Type 0 where
+-- r is how many they are, whatever the mark
+pub record Counts (piece : List ℕ) (n i r : ℕ) : Type 0 where
+  pub of : (mark : Mark) → n ≡ unitOf mark → (ds : List ℕ) → Units piece mark i ds → length ds ≡ r * unitOf mark
+
+module _ (mark : Mark) (Are : List ℕ → Type 0) where
+  -- the digits fill n bytes
+  pub record Measured (n : ℕ) : Type 0 where
     pub digits : List ℕ
-    pub behind : Behind piece (markOf mark) (unitOf mark) (digitsOf mark) 0 (length piece) digits
+    pub are : Are digits
     pub units : ℕ
     pub units-are : length digits ≡ units * unitOf mark
     pub bytes-are : n ≡ units * bytesOf mark
 
   -- and these are put from the start of t
-  pub record SpreadDigits (t t' : List ℕ) (n : ℕ) : Type 0 where
+  pub record Spread (t t' : List ℕ) : Type 0 where
     pub digits : List ℕ
-    pub behind : Behind piece (markOf mark) (unitOf mark) (digitsOf mark) 0 (length piece) digits
+    pub are : Are digits
     pub bytes : List ℕ
     pub fills : Fills mark digits bytes
-    pub puts : Puts t 0 bytes t' n
+    pub end : ℕ
+    pub puts : Puts t 0 bytes t' end

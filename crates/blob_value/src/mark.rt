@@ -1,9 +1,10 @@
 // What a literal's mark tells of its digits: a unit of them fills so many bytes, and a byte holds eight bits or one.
+use crate::Kind;
 use text::digit::digit;
 use text::digit::sextet;
 ghost use mathlib.Core.Path.{_≡_};
 ghost use Prim.Native.Nat.{_*_, _/_, _%_, _^_, _<_};
-ghost use Rattle.blob_value.specs.Marks.{kindOf, unitOf, widthOf, bytesOf, bitsIn, sizeOf, valueOf};
+ghost use Rattle.blob_value.specs.Marks.{kindOf, unitOf, widthOf, bytesOf, sizeOf, valueOf};
 
 // The marks `0xb`, `0xx`, `0xy` of Blobs and `0bb`, `0bo`, `0bx` of Bits.
 pub enum Mark {
@@ -13,12 +14,6 @@ pub enum Mark {
     BitsBinary,
     BitsOctal,
     BitsHexadecimal,
-}
-
-// How many bits a byte of the buffer holds.
-pub enum Size {
-    One,
-    Eight,
 }
 
 // How many digits make a unit.
@@ -63,17 +58,17 @@ pub(crate) fn radix(mark: Mark) -> u64
     }
 }
 
-// What a byte of the buffer holds.
-pub(crate) fn size_of(mark: Mark) -> Size
-    ensures { λ r. ⌜ bitsIn r ≡ sizeOf (kindOf mark) ⌝ }
+// Whose literals they are: a byte of the buffer holds eight bits of a Blob, or one of Bits.
+pub(crate) fn kind(mark: Mark) -> Kind
+    ensures { λ r. ⌜ r ≡ kindOf mark ⌝ }
 {
     match mark {
-        Mark::BlobBinary => Size::Eight,
-        Mark::BlobHexadecimal => Size::Eight,
-        Mark::BlobBase64 => Size::Eight,
-        Mark::BitsBinary => Size::One,
-        Mark::BitsOctal => Size::One,
-        Mark::BitsHexadecimal => Size::One,
+        Mark::BlobBinary => Kind::Blob,
+        Mark::BlobHexadecimal => Kind::Blob,
+        Mark::BlobBase64 => Kind::Blob,
+        Mark::BitsBinary => Kind::Bits,
+        Mark::BitsOctal => Kind::Bits,
+        Mark::BitsHexadecimal => Kind::Bits,
     }
 }
 
@@ -90,13 +85,13 @@ pub(crate) fn digit_value(radix: u64, b: u8) -> u64
     sextet(b as u32) as u64
 }
 
-// The bits of a number that a byte of the size holds, with so many such bytes behind it.
-pub(crate) fn part(number: u64, behind: usize, size: Size) -> u8
+// The bits of a number that a byte of the buffer holds, with so many such bytes behind it.
+pub(crate) fn part(number: u64, behind: usize, kind: Kind) -> u8
     requires { ⌜ behind < 8 ⌝ }
-    ensures { λ r. ⌜ r ≡ number / 2 ^ (behind * bitsIn size) % 2 ^ bitsIn size ⌝ }
+    ensures { λ r. ⌜ r ≡ number / 2 ^ (behind * sizeOf kind) % 2 ^ sizeOf kind ⌝ }
 {
-    match size {
-        Size::One => ((number >> behind) % 2) as u8,
-        Size::Eight => ((number >> (8 * behind)) % 256) as u8,
+    match kind {
+        Kind::Blob => ((number >> (8 * behind)) % 256) as u8,
+        Kind::Bits => ((number >> behind) % 2) as u8,
     }
 }

@@ -2,8 +2,9 @@
 // A function with a `requires` is this crate's own: its caller has tested the piece. `blob` and `bits`, the public ones, have none.
 use crate::Kind;
 use crate::mark::Mark;
+use crate::mark::bytes;
 use crate::mark::unit;
-use crate::spread::measure;
+use crate::spread::count;
 use crate::spread::units;
 use lexicon::Encoding;
 use lexicon::Found;
@@ -24,7 +25,7 @@ ghost use Rattle.values.specs.Blob.{BlobAnswers};
 ghost use Rattle.values.specs.Bits.{BitsAnswers};
 ghost use Rattle.blob_value.specs.declared.Kind.the-variants as Kinds;
 ghost use Rattle.blob_value.specs.Marks.{kindOf};
-ghost use Rattle.blob_value.specs.Spread.{HasDigits, MeasuredDigits, SpreadDigits};
+ghost use Rattle.blob_value.specs.Spread.{Whole, Has, Measured, Spread};
 ghost use Rattle.blob_value.specs.Calls.{callOf, Sound, Judged, Padded};
 
 // What a piece is: no literal of the kind, a bad one, or one with a mark.
@@ -95,37 +96,36 @@ fn judge(kind: Kind, piece: &[u8]) -> Verdict
 
 // How many bytes all the units fill, what `=` stands for too. A mark alone has none.
 fn measured(piece: &[u8], mark: Mark) -> usize
-    requires { ⌜ HasDigits (now piece) mark × (length (now piece) ≤ widest) ⌝ }
-    ensures { λ r. ⌜ MeasuredDigits (now (piece .entry)) mark r ⌝ }
+    requires { ⌜ Has (Whole (now piece) mark) × (length (now piece) ≤ widest) ⌝ }
+    ensures { λ r. ⌜ Measured mark (Whole (now (piece .entry)) mark) r ⌝ }
 {
     if piece.len() == 3 {
         return 0;
     }
     let start = space(piece, 3);
-    measure(piece, start, mark)
+    count(piece, start, unit(mark)) * bytes(mark)
 }
 
-// These bytes from the start of the buffer, and how many they are.
-fn write(piece: &[u8], mark: Mark, buffer: &mut [u8]) -> usize
-    requires { ⌜ HasDigits (now piece) mark ⌝ }
-    ensures { λ r. ⌜ SpreadDigits (now (piece .entry)) mark (now (buffer .entry)) (now (buffer .exit)) r ⌝ }
+// These bytes from the start of the buffer on.
+fn write(piece: &[u8], mark: Mark, buffer: &mut [u8])
+    requires { ⌜ Has (Whole (now piece) mark) ⌝ }
+    ensures { λ _. ⌜ Spread mark (Whole (now (piece .entry)) mark) (now (buffer .entry)) (now (buffer .exit)) ⌝ }
 {
     if piece.len() == 3 {
-        return 0;
+        return;
     }
     let start = space(piece, 3);
-    units(piece, start, mark, buffer)
+    units(piece, start, mark, buffer);
 }
 
 // How many `=` end the literal.
 fn padding(piece: &[u8], mark: Mark) -> usize
-    requires { ⌜ HasDigits (now piece) mark ⌝ }
+    requires { ⌜ Has (Whole (now piece) mark) ⌝ }
     ensures { λ r. ⌜ Padded (now (piece .entry)) mark r ⌝ }
 {
-    // Only base 64 has units of four digits.
-    if unit(mark) != 4 {
+    let Mark::BlobBase64 = mark else {
         return 0;
-    }
+    };
     if !stands(piece, piece.len() - 1, b'=') {
         return 0;
     }

@@ -3,16 +3,16 @@ use borrow.Author.Needs.{needs}
 use Prim.Native.Nat.{_-_}
 use native.Mathlib.Omega.{arith}
 use Rattle.buffer.proofs.Puts.{puts-length}
-use Rattle.blob_value.specs.Marks.{bitsIn}
+use Rattle.blob_value.specs.Marks.{sizeOf}
 use Rattle.blob_value.proofs.Spreads.{Spreading, spread-begins, spread-more, spread-ends}
 use Rattle.blob_value.proofs.spread.spread.Statement.{statement}
 use Rattle.blob_value.proofs.spread.spread.Tie as tie
 
 abbrev Inv-loop : tie.InvT-loop
-Inv-loop number count size buffer₀ at k₀ n₀ buffer k n = Spreading (bitsIn size) count number buffer₀ at k buffer n
+Inv-loop number count kind buffer₀ at k₀ n₀ buffer k n = Spreading (sizeOf kind) count number buffer₀ at k buffer n
 
 abbrev μ-loop : tie.MeasureT-loop
-μ-loop number count size buffer₀ at k₀ n₀ buffer k n = count - k
+μ-loop number count kind buffer₀ at k₀ n₀ buffer k n = count - k
 
 loop-holds : tie.Need-loop-holds Inv-loop μ-loop
 loop-holds c = spread-begins _ _ _ _ _ (omega arith) (omega arith)
