@@ -36,6 +36,9 @@ pub data Misplaced : List ℕ → Type 0 where
   now : {ds : List ℕ} → Other ds → Misplaced (byteOf "=" ∷ ds)
   later : {d : ℕ} {ds : List ℕ} → Misplaced ds → Misplaced (d ∷ ds)
 
+-- `pads`, `LeftOver` and `BadBase64` below: no answer rests on them. They say in the request's words what `NoBytes`, at
+-- the end, says of a Blob; the theorems beside `BadBase64` tie the two
+
 -- how many bytes are `=`
 abbrev pub pads : List ℕ → ℕ
 pads [] = 0
@@ -51,7 +54,9 @@ pub record LeftOver (ds : List ℕ) : Type 0 where
   pub not-zero : bitsOf (2 * padding) last ≡ replicate (2 * padding) 0 → ⊥
 
 -- bad base-64 characters in the Blob call: 01's `=` with another later; 02, request 1, 'more than two `=`', 'bits left
--- over that aren't zero'. Exactly then there are no bytes (lexicon/proofs/Unfit.antt: `bad-no-bytes`, `no-bytes-bad`)
+-- over that aren't zero'. Exactly then there are no bytes (lexicon/proofs/Unfit.antt: `bad-no-bytes`, `no-bytes-bad`;
+-- of whole Blobs, in any base: `no-bytes-only`). Digits that fill no whole byte or group of four the grammar never
+-- passes
 pub data BadBase64 (ds : List ℕ) : Type 0 where
   notAtEnd : Misplaced ds → BadBase64 ds
   moreThanTwo : 2 < pads ds → BadBase64 ds
