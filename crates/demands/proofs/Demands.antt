@@ -12,13 +12,15 @@ use Rattle.reading.specs.Answers.{Reading, Answers, nodesOf, noLevel, tooLong, 
 use Rattle.reading.proofs.Unique.{one-answer}
 use Rattle.reading.proofs.Agree.{levels-agree}
 use Rattle.values.proofs.IntegerExists as IntegerExists
+use Rattle.values.specs.Bytes.{Call}
 use Rattle.values.specs.Text.{textCall}
 use Rattle.values.specs.Bits.{bitsCall}
 use Rattle.values.specs.Blob.{blobCall}
+use Rattle.values.proofs.BytesDetermined.{Settled, refused-keeps}
 use Rattle.values.proofs.BytesExists as BytesExists
 use Rattle.values.proofs.Texts.{text-settled}
 use Rattle.values.proofs.BitsAndBlobs.{bits-settled, blob-settled}
-use Rattle.demands.specs.Demands.{ValueAnswers, Answered, Demand1, Demand2, Demand3, Demands}
+use Rattle.demands.specs.Demands.{OneOf, ValueAnswers, Answered, Demand1, Demand2, Demand3, Demands}
 use Rattle.demands.proofs.Derived.{decides}
 use Rattle.demands.proofs.Exists.{some-reading}
 use Rattle.demands.proofs.Pieces.{pieces}
@@ -44,12 +46,17 @@ module _ (rules : Rules) (bytes lent : List ℕ) {number : ℕ} where
 pub every-answer : Demand1
 every-answer rules bytes lent number = let x = some-reading rules bytes lent number in (x .0, x .1, answered rules bytes lent (x .2))
 
+bytes-answered : (call : Call) → Settled call → (rules : Rules) (piece lent : List ℕ) → OneOf call rules piece lent
+bytes-answered call settled rules piece lent =
+    let x = BytesExists.exactly-one call settled rules piece lent in
+    (x .0, x .1, record { answers = x .2; only = x .3; unchanged = refused-keeps call rules piece lent (x .2) })
+
 pub every-value : ValueAnswers
 every-value rules piece lent = (
   IntegerExists.exactly-one rules piece,
-  BytesExists.exactly-one textCall text-settled rules piece lent,
-  BytesExists.exactly-one bitsCall bits-settled rules piece lent,
-  BytesExists.exactly-one blobCall blob-settled rules piece lent,
+  bytes-answered textCall text-settled rules piece lent,
+  bytes-answered bitsCall bits-settled rules piece lent,
+  bytes-answered blobCall blob-settled rules piece lent,
 )
 
 pub every-decision : Demand2

@@ -43,11 +43,18 @@ abbrev pub OneInteger : Rules → List ℕ → Type 0
 OneInteger rules piece =
     (r : IntegerAnswer) × IntegerAnswers rules piece r × ((s : IntegerAnswer) → IntegerAnswers rules piece s → r ≡ s)
 
--- a call that hands back bytes has an answer for a piece and a buffer, and no other
+-- of one call that hands back bytes, with the answer r, which leaves the lent buffer as `left`
+pub record BytesAnswered (call : Call) (rules : Rules) (piece lent : List ℕ) (r : Answer) (left : List ℕ) :
+    Type 0 where
+  pub answers : BytesAnswers call rules piece lent r left
+  -- no other number, place or count, and no other buffer, is an answer too
+  pub only : (s : Answer) (u : List ℕ) → BytesAnswers call rules piece lent s u → (r ≡ s) × (left ≡ u)
+  -- a refusal writes nothing
+  pub unchanged : (r .number ≡ 0 → ⊥) → left ≡ lent
+
+-- such a call has an answer for a piece and a buffer, and no other
 abbrev pub OneOf : Call → Rules → (piece lent : List ℕ) → Type 0
-OneOf call rules piece lent =
-    (r : Answer) × (left : List ℕ) × BytesAnswers call rules piece lent r left ×
-    ((s : Answer) (u : List ℕ) → BytesAnswers call rules piece lent s u → (r ≡ s) × (left ≡ u))
+OneOf call rules piece lent = (r : Answer) × (left : List ℕ) × BytesAnswered call rules piece lent r left
 
 -- the value calls too have an answer for every piece and buffer, and no other: `every-value`
 abbrev pub ValueAnswers : Type 0
