@@ -37,7 +37,7 @@ valueFrom r v (d ∷ ds) = valueFrom r (v * r + digit d) ds
 abbrev pub value : ℕ → List ℕ → ℕ
 value r ds = valueFrom r 0 ds
 
--- bytes
+-- numbers below 256
 abbrev pub Octets : List ℕ → Type 0
 Octets bs = Every (λ b. b < 256) bs
 

@@ -13,7 +13,8 @@ pub fn joint(text: &[u8], at: usize) -> usize
     }
     match text[at] {
         b'_' => at + 1,
-        // Every byte that may begin dividing space is among these; `space` tells which do.
+        // Every byte that may begin dividing space is among these. The range, since it is one comparison, and the four bytes are more;
+        // `space` itself tells them from the others.
         0x00..=0x20 | b'`' => space(text, at),
         _ => at,
     }
