@@ -83,7 +83,8 @@ extern "C" {
    faulty one decides: at one token 4, 6, 7, 5, 11 in this order. 8 comes last, so a text that gets it is accepted with a table of
    count * MUON_NODE_WORDS words, if the count is at most MUON_NODES_MAX. Never 9 or 10.
    muon_integer: 2, 3, 9, 10 in this order, and no other.
-   muon_text, muon_blob: 2, 3, 9, 5, 8 in this order, and no other. A piece that gets 8 is accepted with a buffer of count bytes.
+   muon_text, muon_blob: 2, 3, 9, 5, 8 in this order, and no other. A piece that gets 8 is accepted with a buffer of count bytes
+   (proved; `told-room` in `crates/values/proofs/Fits.antt`).
    muon_bits: the same without 5. */
 
 /* ---- The nodes -------------------------------------------------------------------------------------------------------------- */
@@ -197,8 +198,8 @@ uint32_t muon_integer(const uint8_t *piece, size_t piece_len, int64_t *value, si
    count      one size_t, written in every case
 
    Accepted, exactly the first *count bytes of the buffer are written, and they are well-formed UTF-8. Refused, none.
-   piece_len bytes are room enough for every piece: the characters of a Text are no more bytes than its literal (proved; `enough-room`
-   in `crates/values/proofs/Fits.antt`). */
+   piece_len bytes are room enough for every piece: the characters of a Text are no more bytes than its literal (proved; `text-bounded`
+   in `crates/values/proofs/Texts.antt` with `enough-room` in `crates/values/proofs/Fits.antt`). */
 uint32_t muon_text(const uint8_t *piece, size_t piece_len, uint8_t *buffer, size_t buffer_len, size_t *place, size_t *count);
 
 /* The bytes of a Blob literal, from the start of a lent buffer on. The digits are of base 2, 16 or 64: `0xb00000001` has the bytes 01,
@@ -215,7 +216,8 @@ uint32_t muon_text(const uint8_t *piece, size_t piece_len, uint8_t *buffer, size
    count      one size_t, written in every case
 
    Accepted, exactly the first *count bytes of the buffer are written. Refused, none.
-   piece_len bytes are room enough for every piece (proved; `enough-room` in `crates/values/proofs/Fits.antt`). */
+   piece_len bytes are room enough for every piece (proved; `blob-bounded` in `crates/values/proofs/BitsAndBlobs.antt` with `enough-room`
+   in `crates/values/proofs/Fits.antt`). */
 uint32_t muon_blob(const uint8_t *piece, size_t piece_len, uint8_t *buffer, size_t buffer_len, size_t *place, size_t *count);
 
 /* The bits of a Bits literal, from the start of a lent buffer on: a byte 0 or 1 for each bit, the most significant bit of each digit
@@ -228,8 +230,8 @@ uint32_t muon_blob(const uint8_t *piece, size_t piece_len, uint8_t *buffer, size
    count      one size_t, written in every case
 
    Accepted, exactly the first *count bytes of the buffer are written. Refused, none.
-   4 * piece_len bytes are room enough for every piece, and so MUON_BITS_MAX are for any (proved; `enough-room` in
-   `crates/values/proofs/Fits.antt`). */
+   4 * piece_len bytes are room enough for every piece, and so MUON_BITS_MAX are for any (proved; `bits-bounded` in
+   `crates/values/proofs/BitsAndBlobs.antt` with `enough-room` in `crates/values/proofs/Fits.antt`). */
 uint32_t muon_bits(const uint8_t *piece, size_t piece_len, uint8_t *buffer, size_t buffer_len, size_t *place, size_t *count);
 
 #ifdef __cplusplus
