@@ -15,8 +15,7 @@ use Rattle.rules.proofs.Tests.{refuted}
 use Rattle.lexicon.specs.Bytes.{binary, octal, hexadecimal, base64}
 use Rattle.lexicon.specs.Literals.{bits, blob}
 use Rattle.lexicon.specs.Bad.{NoBytes}
-use Rattle.lexicon.specs.declared.Encoding.{Encoding}
-use Rattle.lexicon.specs.Utf8.{WellFormed, Encoded}
+use Rattle.lexicon.specs.Utf8.{WellFormed}
 use Rattle.lexicon.proofs.Answers.{shorter}
 use Rattle.lexicon.proofs.Contents.{has-digits, has-bits}
 use Rattle.reading.specs.declared.Answer.{Answer}
@@ -153,9 +152,6 @@ module _ (piece : List ℕ) where
   kind-as {v = v} e x = subst⁻¹ (λ (k : Kind). Judged k piece v) e x
 
   -- ---- the answers
-
-  pub encoded-as : {v w : Encoding} → v ≡ w → Encoded piece v → Encoded piece w
-  encoded-as e x = subst (λ (y : Encoding). Encoded piece y) e x
 
   module _ (kind : Kind) (rules : Rules) (lent : List ℕ) where
     pub answered : {t : List ℕ} {a b : Answer} → a ≡ b → BytesAnswers (callOf kind) rules piece lent b t → BytesAnswers (callOf kind) rules piece lent a t

@@ -12,22 +12,8 @@ use Rattle.lexicon.specs.Bytes.{base64}
 use Rattle.lexicon.specs.Base64.{character, Encodes}
 use Rattle.lexicon.specs.Values.{read, Digits, lastUnit, nextUnit, Behind, markAlone, markDigits}
 use Rattle.lexicon.proofs.Groups.{unit-end, digits-forward}
-use Rattle.lexicon.proofs.Expansions.{ends-same, every-parts}
+use Rattle.lexicon.proofs.Expansions.{ends-same, every-parts, last-of}
 use Rattle.lexicon.proofs.Sextets.{character-no-pad}
-
--- ---- the last numbers of a list
-
-pub record Last (xs : List ℕ) : Type 0 where
-  pub front : List ℕ
-  pub last : ℕ
-  pub are : xs ≡ front ++ (last ∷ [])
-
-last-of : (xs : List ℕ) → 1 ≤ length xs → Last xs
-last-of [] h = absurd (omega (arith, h))
-last-of (x ∷ []) h = record { front = []; last = x; are = refl }
-last-of (x ∷ y ∷ xs) h =
-    let l = last-of (y ∷ xs) (omega arith) in
-    record { front = x ∷ l .front; last = l .last; are = ap (λ (zs : List ℕ). x ∷ zs) (l .are) }
 
 -- ---- the last unit of a row
 

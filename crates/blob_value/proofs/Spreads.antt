@@ -7,7 +7,7 @@ use native.Mathlib.Omega.{arith}
 use lib.ListN.{length, getD}
 use Rattle.rules.specs.Every.{Every, none, also}
 use Rattle.lexicon.specs.Expansion.{bitsOf, expand}
-use Rattle.lexicon.proofs.Expansions.{power-positive, bits-join, low-bits}
+use Rattle.lexicon.proofs.Expansions.{power-positive, bits-join, low-bits, last-bits}
 use Rattle.buffer.specs.Puts.{largest, Puts}
 use Rattle.buffer.proofs.Puts.{puts-none, puts-same, puts-then}
 use Rattle.lexicon.specs.Values.{read}
@@ -16,12 +16,6 @@ use Rattle.blob_value.specs.Marks.{valueOf}
 use Rattle.blob_value.specs.Spread.{withDigit, parts, Small}
 
 -- ---- numbers as bytes
-
--- only the last bits matter
-last-bits : (w v : ℕ) → bitsOf w (v % 2 ^ w) ≡ bitsOf w v
-last-bits w v =
-    let e : 0 + w ≡ w = omega arith in
-    sym (low-bits 0 w v) ∙ ap (λ (n : ℕ). bitsOf n v) e
 
 -- the parts of a number have its bits
 pub parts-bits : (w k v : ℕ) → expand w (parts w k v) ≡ bitsOf (k * w) v

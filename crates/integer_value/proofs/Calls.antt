@@ -20,6 +20,7 @@ use Rattle.lexicon.specs.Bytes.{radix}
 use Rattle.lexicon.specs.Literals.{integer}
 use Rattle.lexicon.specs.Utf8.{WellFormed, Encoded}
 use Rattle.lexicon.specs.Values.{value}
+use Rattle.lexicon.proofs.Answers.{encoded-as}
 use Rattle.reading.specs.Sizes.{base}
 use Rattle.values.specs.declared.IntegerAnswer.{IntegerAnswer}
 use Rattle.integer_value.specs.declared.digits.Size.{Size}
@@ -79,11 +80,11 @@ module _ (piece : List ℕ) where
   too-long h e = subst Answered (sym e) (tooLong h)
 
   well-formed : (r : Encoding) → Encoded piece r → r ≡ Encoding.WellFormed → WellFormed piece
-  well-formed r u e = subst (λ (x : Encoding). Encoded piece x) e u
+  well-formed r u e = encoded-as piece e u
 
   module _ {a : IntegerAnswer} (h : length piece ≤ base .text) (r : Encoding) (u : Encoded piece r) where
     pub not-utf8 : {p : ℕ} → r ≡ Encoding.BadAt p → a ≡ refusal 3 p → Answered a
-    not-utf8 e f = subst Answered (sym f) (notUtf8 h (subst (λ (x : Encoding). Encoded piece x) e u))
+    not-utf8 e f = subst Answered (sym f) (notUtf8 h (encoded-as piece e u))
 
     pub not-integer : r ≡ Encoding.WellFormed → (Exactly integer piece → ⊥) → a ≡ refusal 9 0 → Answered a
     not-integer e n f = subst Answered (sym f) (notInteger h (well-formed r u e) n)

@@ -9,11 +9,13 @@ use lib.ListN.{length}
 use Rattle.rules.specs.Test.{Says}
 use Rattle.rules.specs.Rule.{Rule, Takes, Longest, Fails}
 use Rattle.rules.proofs.Matches.{inside}
+use Rattle.lexicon.specs.declared.Encoding.{Encoding}
 use Rattle.lexicon.specs.declared.Found as Found
 use Rattle.lexicon.specs.declared.Found.{Found}
 use Rattle.lexicon.specs.declared.Literal as Literal
 use Rattle.lexicon.specs.declared.Literal.{Literal}
 use Rattle.lexicon.specs.Found.{Finds, Judges}
+use Rattle.lexicon.specs.Utf8.{Encoded}
 
 module _ {text : List ℕ} {r : Rule} {i : ℕ} where
   pub found-at : {f : Found} {j : ℕ} → f ≡ Found.the-variants.At j → Finds text r i f → Longest text r i j
@@ -28,6 +30,9 @@ module _ {text : List ℕ} {r : Rule} {i : ℕ} (P : ℕ → ℕ → Type 0) whe
 
   pub judged-none : {l : Literal} → l ≡ Literal.the-variants.Nothing → Judges text r P i l → Fails text r i
   judged-none e y = subst (λ (x : Literal). Judges text r P i x) e y
+
+pub encoded-as : (text : List ℕ) {v w : Encoding} → v ≡ w → Encoded text v → Encoded text w
+encoded-as text e x = subst (λ (y : Encoding). Encoded text y) e x
 
 -- a longest match that ends before the text does is no match of all of it
 pub shorter : {text : List ℕ} {r : Rule} {e : ℕ} → Longest text r 0 e → (e ≡ length text → ⊥) → Takes text r 0 (length text) → ⊥

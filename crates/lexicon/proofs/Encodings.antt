@@ -1,6 +1,6 @@
 -- Base 64: characters in whole quanta encode bytes exactly if they are fit, and no more than one row of bytes. Assumes nothing.
 use mathlib.Core.Path.{_≡_, refl, sym, ap, subst, _∙_}
-use mathlib.Core.List.{List, [], _∷_, _++_, map}
+use mathlib.Core.List.{List, [], _∷_, _++_, map, map-append}
 use Prim.Native.Nat.{ℕ, zero, suc, _+_, _-_, _*_, _/_, _%_, _^_, _≤_, _<_}
 use native.Mathlib.Nat.{mod-eq-of-lt, one-le-pow}
 use native.Mathlib.Omega.{arith}
@@ -14,7 +14,7 @@ use Rattle.lexicon.specs.Values.{Octets}
 use Rattle.lexicon.specs.Parts.{sextet}
 use Rattle.lexicon.proofs.Fit.{lastFrom, Fit}
 use Rattle.lexicon.proofs.Sextets.{sextet-character, character-no-pad, sextet-small, character-sextet}
-use Rattle.lexicon.proofs.Expansions.{same-cons, ends-same, every-parts, expand-length, expand-bits, expand-same, RowOf, rows, left-zero, zero-left}
+use Rattle.lexicon.proofs.Expansions.{same-cons, ends-same, every-parts, Last, last-of, expand-length, expand-bits, expand-same, RowOf, rows, left-zero, zero-left}
 
 -- a byte other than `=`
 abbrev pub NoPad : ℕ → Type 0
@@ -46,9 +46,19 @@ power (suc zero) h = refl
 power (suc (suc zero)) h = refl
 power (suc (suc (suc k))) h = absurd (omega (arith, h))
 
-last-split : (v : ℕ) (cs : List ℕ) → (us : List ℕ) × (v ∷ map sextet cs ≡ us ++ (lastFrom v cs ∷ []))
-last-split v [] = ([], refl)
-last-split v (c ∷ cs) = let r = last-split (sextet c) cs in (v ∷ r .0, ap (λ (l : List ℕ). v ∷ l) (r .1))
+last-from : (v : ℕ) (cs : List ℕ) (c : ℕ) → lastFrom v (cs ++ (c ∷ [])) ≡ sextet c
+last-from v [] c = refl
+last-from v (d ∷ cs) c = last-from (sextet d) cs c
+
+-- where it stands, and its value
+pub last-value : {cs : List ℕ} (l : Last cs) → lastFrom 0 cs ≡ sextet (l .last)
+last-value l = ap (lastFrom 0) (l .are) ∙ last-from 0 (l .front) (l .last)
+
+last-split : (c : ℕ) (cs : List ℕ) → (us : List ℕ) × (map sextet (c ∷ cs) ≡ us ++ (lastFrom (sextet c) cs ∷ []))
+last-split c cs =
+    let l = last-of (c ∷ cs) (omega arith) in
+    let us = map sextet (l .front) in
+    (us, ap (map sextet) (l .are) ∙ map-append sextet (l .front) (l .last ∷ []) ∙ ap (λ (v : ℕ). us ++ (v ∷ [])) (sym (last-value l)))
 
 module _ (k : ℕ) (h : k ≤ 2) where
   six : 6 - 2 * k + 2 * k ≡ 6
@@ -58,13 +68,13 @@ module _ (k : ℕ) (h : k ≤ 2) where
   zeros-last : (cs bits : List ℕ) → expand 6 (map sextet cs) ≡ bits ++ replicate (2 * k) 0 → lastFrom 0 cs % 4 ^ k ≡ 0
   zeros-last [] bits e = mod-eq-of-lt (one-le-pow k 4 (omega arith))
   zeros-last (c ∷ cs) bits e =
-      let s = last-split (sextet c) cs in
+      let s = last-split c cs in
       let f : expand (6 - 2 * k + 2 * k) (s .0 ++ (lastFrom (sextet c) cs ∷ [])) ≡ bits ++ replicate (2 * k) 0 =
       ap (λ (w : ℕ). expand w (s .0 ++ (lastFrom (sextet c) cs ∷ []))) six ∙ ap (expand 6) (sym (s .1)) ∙ e in
       ap (λ (p : ℕ). lastFrom (sextet c) cs % p) (power k h) ∙ left-zero (s .0) (lastFrom (sextet c) cs) (6 - 2 * k) (2 * k) bits f
 
   last-zeros : (c : ℕ) (cs : List ℕ) → lastFrom 0 (c ∷ cs) % 4 ^ k ≡ 0 → (bits : List ℕ) × (expand 6 (map sextet (c ∷ cs)) ≡ bits ++ replicate (2 * k) 0)
-  last-zeros c cs e = go (last-split (sextet c) cs) (lastFrom (sextet c) cs) refl
+  last-zeros c cs e = go (last-split c cs) (lastFrom (sextet c) cs) refl
     where
       go : (us : List ℕ) × (map sextet (c ∷ cs) ≡ us ++ (lastFrom (sextet c) cs ∷ [])) → (v : ℕ) → lastFrom (sextet c) cs ≡ v → (bits : List ℕ) × (expand 6 (map sextet (c ∷ cs)) ≡ bits ++ replicate (2 * k) 0)
       go (us, f) v g =

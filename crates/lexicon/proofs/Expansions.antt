@@ -39,6 +39,19 @@ first-of (suc n) [] h = absurd (omega (arith, h))
 first-of (suc n) (b ∷ bs) h =
     let r = first-of n bs (omega (arith, h)) in (b ∷ r .0, r .1, omega (arith, r .2), ap (λ (l : List ℕ). b ∷ l) (r .3))
 
+-- the last of a list that is not empty
+pub record Last (xs : List ℕ) : Type 0 where
+  pub front : List ℕ
+  pub last : ℕ
+  pub are : xs ≡ front ++ (last ∷ [])
+
+pub last-of : (xs : List ℕ) → 1 ≤ length xs → Last xs
+last-of [] h = absurd (omega (arith, h))
+last-of (x ∷ []) h = record { front = []; last = x; are = refl }
+last-of (x ∷ y ∷ xs) h =
+    let l = last-of (y ∷ xs) (omega arith) in
+    record { front = x ∷ l .front; last = l .last; are = ap (λ (zs : List ℕ). x ∷ zs) (l .are) }
+
 -- ---- the bits of a number
 
 pub power-positive : (w : ℕ) → 0 < 2 ^ w
@@ -106,6 +119,12 @@ bits-zero (suc w) = ap (λ (l : List ℕ). l ++ zeros 1) (bits-zero w) ∙ repli
 pub low-bits : (n k v : ℕ) → bitsOf (n + k) v ≡ bitsOf n (v / 2 ^ k) ++ bitsOf k (v % 2 ^ k)
 low-bits n k v =
     ap (bitsOf (n + k)) (sym (div-add-mod' v (2 ^ k))) ∙ bits-join k n (v / 2 ^ k) (v % 2 ^ k) (mod-lt v (power-positive k))
+
+-- no others matter
+pub last-bits : (w v : ℕ) → bitsOf w (v % 2 ^ w) ≡ bitsOf w v
+last-bits w v =
+    let e : 0 + w ≡ w = omega arith in
+    sym (low-bits 0 w v) ∙ ap (λ (n : ℕ). bitsOf n v) e
 
 -- ---- the bits of a row
 

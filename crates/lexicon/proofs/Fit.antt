@@ -13,11 +13,15 @@ abbrev pub lastFrom : ℕ → List ℕ → ℕ
 lastFrom v [] = v
 lastFrom v (c ∷ cs) = lastFrom (sextet c) cs
 
-pub record Fit (ds : List ℕ) : Type 0 where
+-- such a row, after a character of value v
+pub record FitFrom (v : ℕ) (ds : List ℕ) : Type 0 where
   pub characters : List ℕ
   pub padding : ℕ
   pub are : ds ≡ characters ++ replicate padding (byteOf "=")
   pub no-pad : Every (λ c. c ≡ byteOf "=" → ⊥) characters
   pub at-most-two : padding ≤ 2
   -- two bits of the last character are left over for each `=`
-  pub left-over : lastFrom 0 characters % 4 ^ padding ≡ 0
+  pub left-over : lastFrom v characters % 4 ^ padding ≡ 0
+
+abbrev pub Fit : List ℕ → Type 0
+Fit ds = FitFrom 0 ds

@@ -18,7 +18,7 @@ use Rattle.rules.proofs.Bools.{or-cases, or-left, or-right, decide, not-both}
 use Rattle.lexicon.specs.Bad.{Other, Misplaced}
 use Rattle.lexicon.specs.Bad as Bad
 use Rattle.lexicon.specs.Parts.{sextet}
-use Rattle.lexicon.proofs.Fit.{Fit, lastFrom}
+use Rattle.lexicon.proofs.Fit.{FitFrom, Fit, lastFrom}
 
 -- behind the first `=`, by the value of the character before it: each `=` wants two bits of it to be zero
 unfoldable pub opened : ℕ → ℕ
@@ -279,14 +279,6 @@ few v (suc (suc n)) h e = absurd (omega arith)
 
 -- ---- from the front, behind a character of value v
 
-record FitFrom (v : ℕ) (ds : List ℕ) : Type 0 where
-  characters : List ℕ
-  padding : ℕ
-  are : ds ≡ characters ++ replicate padding 0x3D
-  no-pad : Every (λ c. c ≡ 0x3D → ⊥) characters
-  at-most-two : padding ≤ 2
-  left-over : lastFrom v characters % 4 ^ padding ≡ 0
-
 good-fit : (s : ℕ) (ds : List ℕ) → Before s → (Unfit (run s ds) → ⊥) → FitFrom (last s) ds
 good-fit s [] b g = record { characters = []; padding = 0; are = refl; no-pad = none; at-most-two = omega arith; left-over = omega arith }
 good-fit s (d ∷ ds) b g = by (ℕ-discrete d 0x3D) (good-fit (d + 5) ds (inr (omega arith)))
@@ -346,9 +338,7 @@ fit-not : {ds : List ℕ} → Fit ds → Unfit (run 0 ds) → ⊥
 fit-not f u = fit-good 0 (f .characters) (f .padding) (inl refl) (f .no-pad) (f .at-most-two) (f .left-over) (subst (λ (l : List ℕ). Unfit (run 0 l)) (f .are) u)
 
 not-fit : (ds : List ℕ) → (Unfit (run 0 ds) → ⊥) → Fit ds
-not-fit ds g =
-    let f = good-fit 0 ds (inl refl) g in
-    record { characters = f .characters; padding = f .padding; are = f .are; no-pad = f .no-pad; at-most-two = f .at-most-two; left-over = f .left-over }
+not-fit ds g = good-fit 0 ds (inl refl) g
 
 pub fits-says : (ds : List ℕ) → Says (fits ds) (Fit ds)
 fits-says ds =

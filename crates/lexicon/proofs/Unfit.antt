@@ -22,9 +22,9 @@ use Rattle.lexicon.specs.Bad.{Other, Misplaced, pads, LeftOver, BadBase6
 use Rattle.lexicon.specs.Bad as Bad
 use Rattle.lexicon.specs.Parts.{sextet}
 use Rattle.lexicon.proofs.Fit.{lastFrom, Fit}
-use Rattle.lexicon.proofs.Expansions.{same-cons, every-parts, power-positive, bits-value, bits-zero, low-bits}
+use Rattle.lexicon.proofs.Expansions.{same-cons, every-parts, Last, last-of, power-positive, bits-value, bits-zero, last-bits}
 use Rattle.lexicon.proofs.Sextets.{sextet-character, character-no-pad, sextet-small, character-sextet}
-use Rattle.lexicon.proofs.Encodings.{NoPad, power, cut-same}
+use Rattle.lexicon.proofs.Encodings.{NoPad, power, last-value, cut-same}
 use Rattle.lexicon.proofs.Contents.{behind-in, has-digits, has-binary, has-hexadecimal, has-base64, blob-fit}
 
 abbrev padded : List ℕ → ℕ → List ℕ
@@ -34,14 +34,10 @@ padded cs k = cs ++ replicate k (byteOf "=")
 
 -- they are zero where the number divides
 low-zero : (k v : ℕ) → v % 2 ^ k ≡ 0 → bitsOf k v ≡ replicate k 0
-low-zero k v e =
-    let z : 0 + k ≡ k = omega arith in
-    ap (λ (n : ℕ). bitsOf n v) (sym z) ∙ low-bits 0 k v ∙ ap (bitsOf k) e ∙ bits-zero k
+low-zero k v e = sym (last-bits k v) ∙ ap (bitsOf k) e ∙ bits-zero k
 
 zero-low : (k v : ℕ) → bitsOf k v ≡ replicate k 0 → v % 2 ^ k ≡ 0
-zero-low k v e =
-    let z : 0 + k ≡ k = omega arith in
-    bits-value k (v % 2 ^ k) 0 (mod-lt v (power-positive k)) (power-positive k) (sym (low-bits 0 k v) ∙ ap (λ (n : ℕ). bitsOf n v) z ∙ e ∙ sym (bits-zero k))
+zero-low k v e = bits-value k (v % 2 ^ k) 0 (mod-lt v (power-positive k)) (power-positive k) (last-bits k v ∙ e ∙ sym (bits-zero k))
 
 -- ---- a bad character is not fit
 
@@ -75,17 +71,13 @@ cut-last (u ∷ us) [] c k p (also q n) h e =
 cut-last (u ∷ us) (d ∷ cs) c k p (also q n) h e =
     let r = cut-last us cs c k p n h (ap (drop 1) e) in (same-cons (ap (λ (l : List ℕ). getD l 0 0) e) (r .0), r .1)
 
-last-of : (v : ℕ) (cs : List ℕ) (c : ℕ) → lastFrom v (cs ++ (c ∷ [])) ≡ sextet c
-last-of v [] c = refl
-last-of v (d ∷ cs) c = last-of (sextet d) cs c
-
 unfit : {ds : List ℕ} → Fit ds → BadBase64 ds → ⊥
 unfit f (notAtEnd m) = not-misplaced (f .characters) (f .padding) (f .no-pad) (subst Misplaced (f .are) m)
 unfit f (moreThanTwo h) = omega (arith, h, ap pads (f .are), pads-count (f .characters) (f .padding) (f .no-pad), f .at-most-two)
 unfit f (bitsLeft l) =
     let c = character (l .last) in
     let r = cut-last (f .characters) (l .before) c (f .padding) (l .padding) (f .no-pad) (character-no-pad (l .six-bits)) (sym (f .are) ∙ l .characters-are) in
-    let v : lastFrom 0 (f .characters) ≡ l .last = ap (lastFrom 0) (r .0) ∙ last-of 0 (l .before) c ∙ sextet-character (l .six-bits) in
+    let v : lastFrom 0 (f .characters) ≡ l .last = last-value (record { front = l .before; last = c; are = r .0 }) ∙ sextet-character (l .six-bits) in
     let p : 2 ^ (2 * l .padding) ≡ 4 ^ f .padding = ap (λ (k : ℕ). 2 ^ (2 * k)) (sym (r .1)) ∙ sym (power (f .padding) (f .at-most-two)) in
     let z : l .last % 2 ^ (2 * l .padding) ≡ 0 =
     ap (λ (m : ℕ). l .last % m) p ∙ ap (λ (x : ℕ). x % 4 ^ f .padding) (sym v) ∙ f .left-over in
@@ -119,30 +111,26 @@ cut-or-misplaced (d ∷ ds) = go (ℕ-discrete d (byteOf "=")) (cut-or-misplaced
     go (yes e) c (inl r) = inl (record { characters = []; padding = suc (r .0); are = same-cons e (r .1); no-pad = none })
     go (yes e) c (inr o) = inr (subst⁻¹ (λ (x : ℕ). Misplaced (x ∷ ds)) e (Bad.Misplaced.now o))
 
--- the last of them
-last-stands : (c : ℕ) (cs : List ℕ) → (us : List ℕ) × (l : ℕ) × (c ∷ cs ≡ us ++ (l ∷ [])) × (lastFrom 0 (c ∷ cs) ≡ sextet l)
-last-stands c [] = ([], c, refl, refl)
-last-stands c (d ∷ cs) = let r = last-stands d cs in (c ∷ r .0, r .1, ap (λ (l : List ℕ). c ∷ l) (r .2), r .3)
-
 fit-or-bad : (ds : List ℕ) → Every (In base64) ds → Fit ds ⊎ BadBase64 ds
 fit-or-bad ds i = go (cut-or-misplaced ds)
   where
     left-over : (k : ℕ) (cs : List ℕ) → k ≤ 2 → ds ≡ padded cs k → Every NoPad cs → (lastFrom 0 cs % 4 ^ k ≡ 0 → ⊥) → LeftOver ds
     left-over k [] h e n f = absurd (f (mod-eq-of-lt (one-le-pow k 4 (omega arith))))
-    left-over k (c ∷ cs) h e n f = last (last-stands c cs)
+    left-over k (c ∷ cs) h e n f = last (last-of (c ∷ cs) (omega arith))
       where
-        last : (us : List ℕ) × (l : ℕ) × (c ∷ cs ≡ us ++ (l ∷ [])) × (lastFrom 0 (c ∷ cs) ≡ sextet l) → LeftOver ds
-        last (us, l, g, v) =
-            let p = every-first (every-parts us (subst (Every NoPad) g n) .1) in
-            let j = every-first (every-parts us (subst (Every (In base64)) g (every-parts (c ∷ cs) (subst (Every (In base64)) e i) .0)) .1) in
+        last : Last (c ∷ cs) → LeftOver ds
+        last l =
+            let us = l .front in
+            let p = every-first (every-parts us (subst (Every NoPad) (l .are) n) .1) in
+            let j = every-first (every-parts us (subst (Every (In base64)) (l .are) (every-parts (c ∷ cs) (subst (Every (In base64)) e i) .0)) .1) in
             record {
               before = us;
-              last = sextet l;
+              last = sextet (l .last);
               six-bits = sextet-small j p;
               padding = k;
-              characters-are = e ∙ ap (λ (x : List ℕ). padded x k) g ∙ append-assoc us (l ∷ []) (replicate k (byteOf "="))
+              characters-are = e ∙ ap (λ (x : List ℕ). padded x k) (l .are) ∙ append-assoc us (l .last ∷ []) (replicate k (byteOf "="))
                   ∙ ap (λ (x : ℕ). us ++ (x ∷ replicate k (byteOf "="))) (sym (character-sextet j p));
-              not-zero = λ z. f (ap (λ (m : ℕ). lastFrom 0 (c ∷ cs) % m) (power k h) ∙ ap (λ (x : ℕ). x % 2 ^ (2 * k)) v ∙ zero-low (2 * k) (sextet l) z);
+              not-zero = λ z. f (ap (λ (m : ℕ). lastFrom 0 (c ∷ cs) % m) (power k h) ∙ ap (λ (x : ℕ). x % 2 ^ (2 * k)) (last-value l) ∙ zero-low (2 * k) (sextet (l .last)) z);
             }
 
     small : (c : Cut ds) → Dec (c .padding ≤ 2) → Fit ds ⊎ BadBase64 ds

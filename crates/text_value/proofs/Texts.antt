@@ -9,11 +9,10 @@ use lib.ListN.{length}
 use Rattle.rules.specs.Test.{Says}
 use Rattle.rules.specs.Rule.{Rule, Takes, left, right, Longest, Fails}
 use Rattle.rules.proofs.Tests.{refuted}
-use Rattle.lexicon.specs.declared.Encoding.{Encoding}
 use Rattle.lexicon.specs.Limited.{limit}
 use Rattle.lexicon.proofs.Answers.{shorter}
 use Rattle.lexicon.specs.Literals.{quoted, word, codePoint}
-use Rattle.lexicon.specs.Utf8.{WellFormed, Encoded}
+use Rattle.lexicon.specs.Utf8.{WellFormed}
 use Rattle.lexicon.specs.Values.{quotes, bare, coded}
 use Rattle.lexicon.specs.Bad.{Scalar}
 use Rattle.reading.specs.declared.Answer.{Answer}
@@ -77,9 +76,6 @@ module _ (piece : List ℕ) where
 
   pub judged-as : {v w : Verdict} → v ≡ w → Judged piece v → Judged piece w
   judged-as e x = subst (λ (y : Verdict). Judged piece y) e x
-
-  pub encoded-as : {v w : Encoding} → v ≡ w → Encoded piece v → Encoded piece w
-  encoded-as e x = subst (λ (y : Encoding). Encoded piece y) e x
 
   pub answered : {lent t : List ℕ} {a b : Answer} → a ≡ b → TextAnswers base piece lent b t → TextAnswers base piece lent a t
   answered {lent} {t} e x = subst (λ (y : Answer). TextAnswers base piece lent y t) (sym e) x

@@ -2,10 +2,11 @@
 -- second buffer at the end, a refusal writes nothing, and what is accepted are the bytes. Assumes nothing.
 use mathlib.Core.Path.{_≡_, refl, sym, ap, subst}
 use mathlib.Core.Logic.{_⊎_}
-use mathlib.Core.List.{List, [], _∷_, _++_}
+use mathlib.Core.List.{List, _++_}
 use Prim.Native.Nat.{ℕ}
 use native.Mathlib.Omega.{arith}
 use lib.ListN.{length, take, drop}
+use lib.Seq.{take-append-seam, drop-append-seam}
 use Rattle.lexicon.proofs.Determined.{formed-or-bad, one-bad}
 use Rattle.reading.specs.declared.Answer.{Answer}
 use Rattle.reading.specs.Answers.{answer}
@@ -24,14 +25,6 @@ pub record Settled (call : Call) : Type 0 where
   pub determined : (piece : List ℕ) → (BadPiece call piece → ⊥) → {bs cs : List ℕ} →
       PieceBytes call piece bs → PieceBytes call piece cs → bs ≡ cs
   pub bad-or-good : (piece : List ℕ) → Exactly (call .literal) piece → BadPiece call piece ⊎ Good call piece
-
-take-front : (b t : List ℕ) → take (length b) (b ++ t) ≡ b
-take-front [] t = refl
-take-front (x ∷ b) t = ap (λ (l : List ℕ). x ∷ l) (take-front b t)
-
-drop-front : (b t : List ℕ) → drop (length b) (b ++ t) ≡ t
-drop-front [] t = refl
-drop-front (x ∷ b) t = drop-front b t
 
 module _ (call : Call) (rules : Rules) (piece lent : List ℕ) where
   abbrev Gives : Answer → List ℕ → Type 0
@@ -53,7 +46,7 @@ module _ (call : Call) (rules : Rules) (piece lent : List ℕ) where
   accepted-bytes (noRoom h w x g t l) e = absurd (omega (arith, e))
   accepted-bytes (accepted {bs} h w x g t l) e =
       let rest = drop (length bs) lent in
-      record { good = g; bytes = subst (PieceBytes call piece) (sym (take-front bs rest)) t; kept = drop-front bs rest }
+      record { good = g; bytes = subst (PieceBytes call piece) (sym (take-append-seam bs rest)) t; kept = drop-append-seam bs rest }
 
   pub refused-keeps : {a : Answer} {t : List ℕ} → Gives a t → (a .number ≡ 0 → ⊥) → t ≡ lent
   refused-keeps (tooLong h) n = refl

@@ -2,7 +2,7 @@
 use mathlib.Core.Path.{_≡_, refl, sym, ap, subst, _∙_}
 use mathlib.Core.Bool.{Bool, true, false, cond}
 use mathlib.Core.List.{List, [], _∷_, _++_}
-use Prim.Native.Nat.{ℕ, zero, suc, _+_, _-_, _*_, _≤_, _<_}
+use Prim.Native.Nat.{ℕ, _+_, _-_, _*_, _≤_, _<_}
 use native.Mathlib.Omega.{arith}
 use lib.Dec.{leb, ltb, eqb}
 use lib.ListN.{length, getD, length-append}
@@ -19,6 +19,7 @@ use Rattle.lexicon.specs.Space.{Skips}
 use Rattle.lexicon.specs.Values.{read, digit, value, Letter, CodeOf}
 use Rattle.lexicon.proofs.Spaces.{byte-single, skips-same}
 use Rattle.lexicon.proofs.Formed.{ascii}
+use Rattle.lexicon.proofs.Groups.{read-length}
 use Rattle.lexicon.proofs.Marks.{marked, mark-long, first-digit, angle-same}
 use Rattle.lexicon.specs.Encode.{two, three, four, encode}
 use Rattle.values.specs.QuotedBytes.{quote, backslash, notQuote, other, Angled, Item, itself, letter, number, Unescapes, closed, Copies}
@@ -216,13 +217,9 @@ module _ (piece : List ℕ) where
   rest-short (Bytes.next {bs = bs} {cs = cs} t u) =
       let x = item-short t in let y = rest-short u in (omega (arith, x .0, y .0, length-append bs cs), y .1)
 
-  pub read-length : (i n : ℕ) → length (read piece i n) ≡ n
-  read-length i zero = refl
-  read-length i (suc n) = ap suc (read-length (i + 1) n)
-
   pub copies-short : {i j : ℕ} {bs : List ℕ} → Copies piece i j bs → (i + length bs ≤ j) × (j ≤ length piece)
   copies-short {i} c =
-      (omega (arith, forward (c .content), c .behind, ap length (c .bytes-are), read-length i (c .end - i)), omega (arith, c .behind, c .close .0))
+      (omega (arith, forward (c .content), c .behind, ap length (c .bytes-are), read-length piece i (c .end - i)), omega (arith, c .behind, c .close .0))
 
   pub segment-short : {i j : ℕ} {bs : List ℕ} → SegmentBytes piece i j bs → (i + length bs ≤ j) × (j ≤ length piece) × (i < j)
   segment-short (plain q n c) = let x = copies-short c in (omega (arith, x .0), x .1, omega (arith, x .0))

@@ -11,6 +11,7 @@ use Rattle.lexicon.specs.Utf8.{WellFormed}
 use Rattle.lexicon.specs.Encode.{encode, encoded}
 use Rattle.lexicon.specs.Values.{CodeOf, Quoted, TextOf, quotes, bare, coded}
 use Rattle.lexicon.specs.Bad.{Scalar, BadCode, BadQuoted}
+use Rattle.lexicon.proofs.Groups.{read-length}
 use Rattle.decisions.proofs.Tests.{either, settled}
 use Rattle.decisions.proofs.Codes.{bad-code}
 use Rattle.decisions.proofs.Quoted.{bad-quoted}
@@ -19,7 +20,7 @@ use Rattle.reading.specs.declared.Rules.{Rules}
 use Rattle.values.specs.Exactly.{Exactly}
 use Rattle.values.specs.Text.{textLiteral, textCall, BadText, TextAnswers}
 use Rattle.values.proofs.Shapes.{no-word, no-code, word-code, code-takes}
-use Rattle.values.proofs.Spelled.{code-same, quoted-same, code-short, quoted-short, read-length}
+use Rattle.values.proofs.Spelled.{code-same, quoted-same, code-short, quoted-short}
 use Rattle.values.proofs.Characters.{Scalars, quoted-bytes, word-same}
 use Rattle.values.proofs.Values.{scalar-or, code-of, quoted-of, quoted-takes, quoted-scalars}
 use Rattle.values.proofs.Formed.{encoded-formed}

@@ -1,7 +1,8 @@
 -- `blob_value::value::value` meets its contract. Assumes nothing.
+use Rattle.lexicon.proofs.Answers.{encoded-as}
 use Rattle.reading.specs.Sizes.{base}
 use Rattle.values.specs.Bytes.{tooLong, notUtf8}
-use Rattle.blob_value.proofs.Judges.{encoded-as, judged-as, answered, other-answer, bad-answer, sound-of, fitted}
+use Rattle.blob_value.proofs.Judges.{judged-as, answered, other-answer, bad-answer, sound-of, fitted}
 use borrow.Author.Needs.{needs}
 use Rattle.blob_value.proofs.value.value.Statement.{statement}
 use Rattle.blob_value.proofs.value.value.Tie as tie

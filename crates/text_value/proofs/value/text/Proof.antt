@@ -1,7 +1,8 @@
 -- `text_value::value::text` meets its contract. Assumes nothing.
 use borrow.Author.Needs.{needs}
+use Rattle.lexicon.proofs.Answers.{encoded-as}
 use Rattle.values.specs.Bytes.{tooLong, notUtf8, notTheLiteral, bad}
-use Rattle.text_value.proofs.Texts.{encoded-as, judged-as, answered}
+use Rattle.text_value.proofs.Texts.{judged-as, answered}
 use Rattle.text_value.proofs.value.text.Statement.{statement}
 use Rattle.text_value.proofs.value.text.Tie as tie
 
