@@ -10,7 +10,6 @@ use lib.ListN.{length, length-map}
 use Rattle.rules.specs.Class.{Class, In, codes}
 use Rattle.rules.specs.Every.{Every, none}
 use Rattle.rules.specs.Rule.{_then_, opt, lit, Takes, nothing, both, left, right}
-use Rattle.rules.proofs.Every.{every-map}
 use Rattle.rules.proofs.Classes.{apart, apartSpan}
 use Rattle.rules.proofs.Matches.{forward, starting, ending, row-end}
 use Rattle.rules.proofs.Ways.{differ, differ-no}
@@ -19,10 +18,10 @@ use Rattle.lexicon.specs.Bytes.{binary, octal, hexadecimal, base64}
 use Rattle.lexicon.specs.Space.{sp, Skips}
 use Rattle.lexicon.specs.Expansion.{expand}
 use Rattle.lexicon.specs.Base64.{Encodes}
-use Rattle.lexicon.specs.Literals.{maybe, bits, blob}
+use Rattle.lexicon.specs.Literals.{maybe, bits}
 use Rattle.lexicon.specs.Values.{digit, Octets, Digits, Behind, markAlone, markDigits, BitsOf, BlobOf}
 use Rattle.lexicon.proofs.Spaces.{skips-same, landed}
-use Rattle.lexicon.proofs.Groups.{Clear, digits-at, digits-same, digits-forward, digits-in, digits-whole, digits-short, to-row, of-row}
+use Rattle.lexicon.proofs.Groups.{Clear, digits-at, digits-same, digits-forward, digits-in, digits-whole, digits-short, to-row}
 use Rattle.lexicon.proofs.Numbers.{clear, clear-base64}
 use Rattle.lexicon.proofs.Fit.{Fit}
 use Rattle.lexicon.proofs.Expansions.{expand-length, expand-bits, expand-same, RowOf, rows}
@@ -38,10 +37,6 @@ module _ {text : List ℕ} (mark : String) (n : ℕ) (c : Class) where
   pub has-digits : {i j : ℕ} → Takes text (lit mark then maybe n c) i j → (ds : List ℕ) × Behind text mark n c i j ds
   has-digits (both t (left (both s g))) = let r = to-row text n c g in (r .0, markDigits (both t s) (r .1))
   has-digits (both t (right (nothing e))) = ([], markAlone (ending e t))
-
-  pub behind-taken : {i j : ℕ} {ds : List ℕ} → Behind text mark n c i j ds → Takes text (lit mark then maybe n c) i j
-  behind-taken (markAlone t) = both t (right (nothing refl))
-  behind-taken (markDigits (both t s) d) = both t (left (both s (of-row text n c d)))
 
   pub behind-in : {i j : ℕ} {ds : List ℕ} → Behind text mark n c i j ds → Every (In c) ds
   behind-in (markAlone t) = none
@@ -85,11 +80,6 @@ module _ (text : List ℕ) where
   has-bits (right (left t)) = (_, BitsOf.inOctal (has-digits "0bo" 1 octal t .1))
   has-bits (right (right t)) = (_, BitsOf.inHexadecimal (has-digits "0bx" 1 hexadecimal t .1))
 
-  pub bits-taken : {i j : ℕ} {bs : List ℕ} → BitsOf text i j bs → Takes text bits i j
-  bits-taken (BitsOf.inBinary x) = left (behind-taken "0bb" 1 binary x)
-  bits-taken (BitsOf.inOctal x) = right (left (behind-taken "0bo" 1 octal x))
-  bits-taken (BitsOf.inHexadecimal x) = right (right (behind-taken "0bx" 1 hexadecimal x))
-
   binary-octal : {i j : ℕ} {ds es : List ℕ} → Behind text "0bb" 1 binary i j ds → Behind text "0bo" 1 octal i j es → ⊥
   unfolding differ apart apartSpan
   binary-octal = marks-apart "0bb" "0bo" refl refl
@@ -118,9 +108,6 @@ module _ (text : List ℕ) where
   bits-zero-one (BitsOf.inBinary {ds = ds} x) = expand-bits 1 (map digit ds)
   bits-zero-one (BitsOf.inOctal {ds = ds} x) = expand-bits 3 (map digit ds)
   bits-zero-one (BitsOf.inHexadecimal {ds = ds} x) = expand-bits 4 (map digit ds)
-
-  pub bits-octets : {i j : ℕ} {bs : List ℕ} → BitsOf text i j bs → Octets bs
-  bits-octets x = every-map (λ b h. omega (arith, h)) (bits-zero-one x)
 
   -- four bits for a byte of the literal at most
   pub bits-short : {i j : ℕ} {bs : List ℕ} → BitsOf text i j bs → length bs ≤ 4 * (j - i)
@@ -176,11 +163,6 @@ module _ (text : List ℕ) where
 
   pub blob-fit : {i j : ℕ} {ds bs : List ℕ} → Behind text "0xy" 4 base64 i j ds → BlobOf text i j bs → Fit ds
   blob-fit y b = encodes-fit (blob-encodes y b)
-
-  pub blob-taken : {i j : ℕ} {bs : List ℕ} → BlobOf text i j bs → Takes text blob i j
-  blob-taken (BlobOf.inBinary x o e) = left (behind-taken "0xb" 8 binary x)
-  blob-taken (BlobOf.inHexadecimal x o e) = right (left (behind-taken "0xx" 2 hexadecimal x))
-  blob-taken (BlobOf.inBase64 x o n) = right (right (behind-taken "0xy" 4 base64 x))
 
   pub blob-octets : {i j : ℕ} {bs : List ℕ} → BlobOf text i j bs → Octets bs
   blob-octets (BlobOf.inBinary x o e) = o

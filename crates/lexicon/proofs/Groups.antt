@@ -92,22 +92,6 @@ module _ {text : List ℕ} {n : ℕ} {c : Class} where
   digits-forward (lastUnit u) = omega (arith, unit-end n c u)
   digits-forward (nextUnit u s d) = let x = unit-end n c u in let y = forward s in let z = digits-forward d in omega arith
 
--- a row of units is one of single bytes
-module _ {text : List ℕ} {c : Class} where
-  single-unit : (n : ℕ) {i j : ℕ} → Takes text (unit (suc n) c) i j → Digits text 1 c i j (read text i (suc n))
-  single-unit zero u = lastUnit u
-  single-unit (suc n) (both (byte a e) u) =
-      nextUnit (both (byte a refl) (nothing refl)) (right (nothing refl)) (single-unit n (starting e u))
-
-  single-next : (n : ℕ) {i m k j : ℕ} {ds : List ℕ} → Takes text (unit (suc n) c) i m → Takes text (opt joint) m k → Digits text 1 c k j ds → Digits text 1 c i j (read text i (suc n) ++ ds)
-  single-next zero u t d = nextUnit u t d
-  single-next (suc n) (both (byte a e) u) t d =
-      nextUnit (both (byte a refl) (nothing refl)) (right (nothing refl)) (single-next n (starting e u) t d)
-
-  pub digits-single : (n : ℕ) {i j : ℕ} {ds : List ℕ} → Digits text (suc n) c i j ds → Digits text 1 c i j ds
-  digits-single n (lastUnit u) = single-unit n u
-  digits-single n (nextUnit u t d) = single-next n u t (digits-single n d)
-
 -- ---- the bytes of a row
 
 pub read-length : (text : List ℕ) (i n : ℕ) → length (read text i n) ≡ n

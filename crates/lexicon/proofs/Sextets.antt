@@ -37,22 +37,19 @@ all-below p (suc n) e {v} h = go (ℕ-discrete v n) (λ l. all-below p n (and-ri
 -- ---- from the value to the character
 
 abbrev sound : ℕ → Bool
-sound v = eqb (sextet (character v)) v && has base64 (character v) && not (eqb (character v) (byteOf "="))
+sound v = eqb (sextet (character v)) v && not (eqb (character v) (byteOf "="))
 
 all-sound : {v : ℕ} → v < 64 → sound v ≡ true
-unfolding below has character sextet
+unfolding below character sextet
 all-sound = all-below sound 64 refl
 
 pub sextet-character : {v : ℕ} → v < 64 → sextet (character v) ≡ v
-sextet-character {v} h = eqb-true (sextet (character v)) v (and-left (eqb (sextet (character v)) v) _ (and-left (eqb (sextet (character v)) v && has base64 (character v)) _ (all-sound h)))
-
-pub character-in : {v : ℕ} → v < 64 → In base64 (character v)
-character-in {v} h = and-right (eqb (sextet (character v)) v) _ (and-left (eqb (sextet (character v)) v && has base64 (character v)) _ (all-sound h))
+sextet-character {v} h = eqb-true (sextet (character v)) v (and-left (eqb (sextet (character v)) v) _ (all-sound h))
 
 pub character-no-pad : {v : ℕ} → v < 64 → character v ≡ byteOf "=" → ⊥
 character-no-pad {v} h =
     eqb-false (character v) (byteOf "=")
-    (not-true (eqb (character v) (byteOf "=")) (and-right (eqb (sextet (character v)) v && has base64 (character v)) _ (all-sound h)))
+    (not-true (eqb (character v) (byteOf "=")) (and-right (eqb (sextet (character v)) v) _ (all-sound h)))
 
 -- ---- from the character to the value
 
