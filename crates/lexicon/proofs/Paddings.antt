@@ -24,16 +24,16 @@ use Rattle.lexicon.proofs.Fit.{FitFrom, Fit, lastFrom}
 unfoldable pub opened : ℕ → ℕ
 opened v = cond (eqb (v % 16) 0) 1 (cond (eqb (v % 4) 0) 2 3)
 
--- a `=` more
+-- the state behind a `=` more
 unfoldable pub pad : ℕ → ℕ
 pad s = cond (leb 5 s) (opened (sextet (s - 5))) (cond (leb s 2) (s + 1) s)
 
--- a character more
-unfoldable pub padded : ℕ → ℕ → ℕ
-padded s b = cond (eqb b (byteOf "=")) (pad s) (cond (leb 5 s) (b + 5) (cond (eqb s 0) (b + 5) 4))
+-- the state behind a character more
+unfoldable pub nextState : ℕ → ℕ → ℕ
+nextState s b = cond (eqb b (byteOf "=")) (pad s) (cond (leb 5 s) (b + 5) (cond (eqb s 0) (b + 5) 4))
 
 abbrev pub run : ℕ → List ℕ → ℕ
-run s ds = foldl padded s ds
+run s ds = foldl nextState s ds
 
 -- what a state tells: another character stands behind a `=`; the characters so far encode no bytes
 abbrev pub misplaced : ℕ → Bool
@@ -80,21 +80,21 @@ module _ (s : ℕ) where
   pad-stays h l = rw (lt-leb 5 s h, lt-leb s 2 l) refl
 
   module _ (b : ℕ) where
-    pub padded-pad : (r : ℕ) → b ≡ 0x3D → r ≡ pad s → r ≡ padded s b
-    unfolding padded
-    padded-pad r e f = rw (eq-eqb b 0x3D e) f
+    pub state-pad : (r : ℕ) → b ≡ 0x3D → r ≡ pad s → r ≡ nextState s b
+    unfolding nextState
+    state-pad r e f = rw (eq-eqb b 0x3D e) f
 
-    pub padded-character : (b ≡ 0x3D → ⊥) → 5 ≤ s → b + 5 ≡ padded s b
-    unfolding padded
-    padded-character n h = rw (ne-eqb b 0x3D n, le-leb 5 s h) refl
+    pub state-character : (b ≡ 0x3D → ⊥) → 5 ≤ s → b + 5 ≡ nextState s b
+    unfolding nextState
+    state-character n h = rw (ne-eqb b 0x3D n, le-leb 5 s h) refl
 
-    pub padded-first : (b ≡ 0x3D → ⊥) → s ≡ 0 → b + 5 ≡ padded s b
-    unfolding padded
-    padded-first n e = rw (ne-eqb b 0x3D n, e) refl
+    pub state-first : (b ≡ 0x3D → ⊥) → s ≡ 0 → b + 5 ≡ nextState s b
+    unfolding nextState
+    state-first n e = rw (ne-eqb b 0x3D n, e) refl
 
-    pub padded-other : (b ≡ 0x3D → ⊥) → s < 5 → (s ≡ 0 → ⊥) → 4 ≡ padded s b
-    unfolding padded
-    padded-other n h m = rw (ne-eqb b 0x3D n, lt-leb 5 s h, ne-eqb s 0 m) refl
+    pub state-other : (b ≡ 0x3D → ⊥) → s < 5 → (s ≡ 0 → ⊥) → 4 ≡ nextState s b
+    unfolding nextState
+    state-other n h m = rw (ne-eqb b 0x3D n, lt-leb 5 s h, ne-eqb s 0 m) refl
 
   pub unfit-three : s ≡ 3 → eqb s 3 ≡ unfit s
   unfit-three e = rw (eq-eqb s 3 e) refl
@@ -115,38 +115,38 @@ last s = cond (leb 5 s) (sextet (s - 5)) 0
 last-is : (d : ℕ) → last (d + 5) ≡ sextet d
 last-is d = rw (le-leb 5 (d + 5) (omega arith)) (ap sextet (omega arith))
 
-first-pad : (s : ℕ) → Before s → padded s 0x3D ≡ opened (last s)
-unfolding padded pad opened
+first-pad : (s : ℕ) → Before s → nextState s 0x3D ≡ opened (last s)
+unfolding nextState pad opened
 first-pad s (inl e) = rw e refl
 first-pad s (inr h) = rw (le-leb 5 s h) refl
 
-next-pad : (s : ℕ) → s ≤ 2 → padded s 0x3D ≡ s + 1
-next-pad s h = sym (padded-pad s 0x3D (s + 1) refl (pad-next s (omega arith)))
+next-pad : (s : ℕ) → s ≤ 2 → nextState s 0x3D ≡ s + 1
+next-pad s h = sym (state-pad s 0x3D (s + 1) refl (pad-next s (omega arith)))
 
-last-pad : (s : ℕ) → 3 ≤ s → s ≤ 4 → padded s 0x3D ≡ s
-last-pad s l h = sym (padded-pad s 0x3D s refl (pad-stays s (omega arith) l))
+last-pad : (s : ℕ) → 3 ≤ s → s ≤ 4 → nextState s 0x3D ≡ s
+last-pad s l h = sym (state-pad s 0x3D s refl (pad-stays s (omega arith) l))
 
-character : (s b : ℕ) → (b ≡ 0x3D → ⊥) → Before s → padded s b ≡ b + 5
-character s b n (inl e) = sym (padded-first s b n e)
-character s b n (inr h) = sym (padded-character s b n h)
+character : (s b : ℕ) → (b ≡ 0x3D → ⊥) → Before s → nextState s b ≡ b + 5
+character s b n (inl e) = sym (state-first s b n e)
+character s b n (inr h) = sym (state-character s b n h)
 
-other-behind : (s b : ℕ) → (b ≡ 0x3D → ⊥) → 1 ≤ s → s ≤ 4 → padded s b ≡ 4
-other-behind s b n l h = sym (padded-other s b n (omega arith) (λ e. omega (arith, e)))
+other-behind : (s b : ℕ) → (b ≡ 0x3D → ⊥) → 1 ≤ s → s ≤ 4 → nextState s b ≡ 4
+other-behind s b n l h = sym (state-other s b n (omega arith) (λ e. omega (arith, e)))
 
 -- ---- another character behind a `=`
 
-step : (s d : ℕ) (ds : List ℕ) {t : ℕ} → padded s d ≡ t → run s (d ∷ ds) ≡ run t ds
+step : (s d : ℕ) (ds : List ℕ) {t : ℕ} → nextState s d ≡ t → run s (d ∷ ds) ≡ run t ds
 step s d ds e = ap (λ (x : ℕ). run x ds) e
 
-padded-by : (s : ℕ) {d t : ℕ} → d ≡ 0x3D → padded s 0x3D ≡ t → padded s d ≡ t
-padded-by s e f = ap (padded s) e ∙ f
+state-by : (s : ℕ) {d t : ℕ} → d ≡ 0x3D → nextState s 0x3D ≡ t → nextState s d ≡ t
+state-by s e f = ap (nextState s) e ∙ f
 
 stays : (ds : List ℕ) → run 4 ds ≡ 4
 stays [] = refl
 stays (d ∷ ds) = by (ℕ-discrete d 0x3D) (stays ds)
   where
     by : Dec (d ≡ 0x3D) → run 4 ds ≡ 4 → run 4 (d ∷ ds) ≡ 4
-    by (yes e) h = step 4 d ds (padded-by 4 e (last-pad 4 (omega arith) (omega arith))) ∙ h
+    by (yes e) h = step 4 d ds (state-by 4 e (last-pad 4 (omega arith) (omega arith))) ∙ h
     by (no n) h = step 4 d ds (other-behind 4 d n (omega arith) (omega arith)) ∙ h
 
 same-test : {a b : ℕ} (P : Type 0) → a ≡ b → Says (misplaced b) P → Says (misplaced a) P
@@ -157,10 +157,10 @@ skipped e (Bad.Other.now f) = absurd (f e)
 skipped e (Bad.Other.later o) = o
 
 -- behind one, two, three
-behind-pad : (t : ℕ) → 1 ≤ t → t ≤ 3 → (u : ℕ) × (1 ≤ u) × (u ≤ 3) × (padded t 0x3D ≡ u)
+behind-pad : (t : ℕ) → 1 ≤ t → t ≤ 3 → (u : ℕ) × (1 ≤ u) × (u ≤ 3) × (nextState t 0x3D ≡ u)
 behind-pad t l h = by (decLe t 2)
   where
-    by : Dec (t ≤ 2) → (u : ℕ) × (1 ≤ u) × (u ≤ 3) × (padded t 0x3D ≡ u)
+    by : Dec (t ≤ 2) → (u : ℕ) × (1 ≤ u) × (u ≤ 3) × (nextState t 0x3D ≡ u)
     by (yes m) = (t + 1, omega arith, omega (arith, m), next-pad t m)
     by (no m) = (t, l, h, last-pad t (omega (arith, m)) (omega (arith, h)))
 
@@ -168,10 +168,10 @@ other-says : (t : ℕ) (ds : List ℕ) → 1 ≤ t → t ≤ 3 → Says (misplac
 other-says t [] l h = record { true-holds = λ e. absurd (omega (arith, eqb-true t 4 e, h)); holds-true = λ o. elim o [ ] }
 other-says t (d ∷ ds) l h = by (ℕ-discrete d 0x3D) (behind-pad t l h) (λ u x y. other-says u ds x y)
   where
-    by : Dec (d ≡ 0x3D) → (u : ℕ) × (1 ≤ u) × (u ≤ 3) × (padded t 0x3D ≡ u) → ((u : ℕ) → 1 ≤ u → u ≤ 3 → Says (misplaced (run u ds)) (Other ds)) → Says (misplaced (run t (d ∷ ds))) (Other (d ∷ ds))
+    by : Dec (d ≡ 0x3D) → (u : ℕ) × (1 ≤ u) × (u ≤ 3) × (nextState t 0x3D ≡ u) → ((u : ℕ) → 1 ≤ u → u ≤ 3 → Says (misplaced (run u ds)) (Other ds)) → Says (misplaced (run t (d ∷ ds))) (Other (d ∷ ds))
     by (yes e) p r =
         let s = r (p .0) (p .1) (p .2) in
-        same-test (Other (d ∷ ds)) (step t d ds (padded-by t e (p .3)))
+        same-test (Other (d ∷ ds)) (step t d ds (state-by t e (p .3)))
         (record { true-holds = λ x. Bad.Other.later (s .true-holds x); holds-true = λ o. s .holds-true (skipped e o) })
     by (no n) p r =
         same-test (Other (d ∷ ds)) (step t d ds (other-behind t d n l (omega (arith, h))) ∙ stays ds) (record { true-holds = λ x. Bad.Other.now n; holds-true = λ o. refl })
@@ -202,7 +202,7 @@ misplaced-from s (d ∷ ds) b = by (ℕ-discrete d 0x3D) (misplaced-from (d + 5)
     by : Dec (d ≡ 0x3D) → Says (misplaced (run (d + 5) ds)) (Misplaced ds) → Says (misplaced (run s (d ∷ ds))) (Misplaced (d ∷ ds))
     by (yes e) h =
         let o = other-says (opened (last s)) ds (opened-range (last s) .0) (opened-range (last s) .1) in
-        same-test (Misplaced (d ∷ ds)) (step s d ds (padded-by s e (first-pad s b)))
+        same-test (Misplaced (d ∷ ds)) (step s d ds (state-by s e (first-pad s b)))
         (record { true-holds = λ x. at-first e (o .true-holds x); holds-true = λ m. o .holds-true (rest m) })
     by (no n) h =
         same-test (Misplaced (d ∷ ds)) (step s d ds (character s d n b))
@@ -222,7 +222,7 @@ unfit-stays s [] u = u
 unfit-stays s (d ∷ ds) u = by (ℕ-discrete d 0x3D) (λ t v. unfit-stays t ds v)
   where
     by : Dec (d ≡ 0x3D) → ((t : ℕ) → Unfit t → Unfit (run t ds)) → Unfit (run s (d ∷ ds))
-    by (yes e) r = subst⁻¹ Unfit (step s d ds (padded-by s e (last-pad s (u .0) (u .1)))) (r s u)
+    by (yes e) r = subst⁻¹ Unfit (step s d ds (state-by s e (last-pad s (u .0) (u .1)))) (r s u)
     by (no n) r = subst⁻¹ Unfit (step s d ds (other-behind s d n (omega (arith, u .0)) (u .1))) (r 4 (omega arith, omega arith))
 
 -- behind the first: nothing but `=`, and few
@@ -243,11 +243,11 @@ good-pads t (d ∷ ds) l h g = by (ℕ-discrete d 0x3D) (decLe t 2) (λ x y. goo
     by (no n) m r =
         absurd (g (subst⁻¹ Unfit (step t d ds (other-behind t d n l (omega (arith, h)))) (unfit-stays 4 ds (omega arith, omega arith))))
     by (yes e) (yes m) r =
-        let p = r (omega arith) (omega (arith, m)) (λ x. g (subst⁻¹ Unfit (step t d ds (padded-by t e (next-pad t m))) x)) in
+        let p = r (omega arith) (omega (arith, m)) (λ x. g (subst⁻¹ Unfit (step t d ds (state-by t e (next-pad t m))) x)) in
         record { count = suc (p .count); are = ap (λ (x : ℕ). x ∷ ds) e ∙ ap (λ (l : List ℕ). 0x3D ∷ l) (p .are); few = omega (arith, p .few) }
     by (yes e) (no m) r =
         let x : 3 ≤ t = omega (arith, m) in
-        absurd (g (subst⁻¹ Unfit (step t d ds (padded-by t e (last-pad t x (omega (arith, h))))) (unfit-stays t ds (x, omega (arith, h)))))
+        absurd (g (subst⁻¹ Unfit (step t d ds (state-by t e (last-pad t x (omega (arith, h))))) (unfit-stays t ds (x, omega (arith, h)))))
 
 -- the same of rows of `=`
 pads-good : (t n : ℕ) → t + n ≤ 2 → run t (replicate n 0x3D) ≡ t + n
@@ -285,7 +285,7 @@ good-fit s (d ∷ ds) b g = by (ℕ-discrete d 0x3D) (good-fit (d + 5) ds (inr (
   where
     by : Dec (d ≡ 0x3D) → ((Unfit (run (d + 5) ds) → ⊥) → FitFrom (last (d + 5)) ds) → FitFrom (last s) (d ∷ ds)
     by (yes e) r =
-        let p = good-pads (opened (last s)) ds (opened-range (last s) .0) (opened-range (last s) .1) (λ x. g (subst⁻¹ Unfit (step s d ds (padded-by s e (first-pad s b))) x)) in
+        let p = good-pads (opened (last s)) ds (opened-range (last s) .0) (opened-range (last s) .1) (λ x. g (subst⁻¹ Unfit (step s d ds (state-by s e (first-pad s b))) x)) in
         record {
           characters = [];
           padding = suc (p .count);

@@ -31,6 +31,8 @@ use Rattle.lexicon.proofs.Contents.{behind-same, has-base64, blob-fit}
 use Rattle.lexicon.proofs.Unfit.{binary-bytes, hexadecimal-bytes, padding-no-bytes}
 use Rattle.lexicon.proofs.Paddings.{misplaced, unfit, misplaced-says, unfit-says}
 use Rattle.number.specs.Tally.{tallyOf, tallies}
+use Rattle.number.specs.declared.blob.FoundBlob.{FoundBlob}
+use Rattle.number.specs.declared.blob.FoundBlob.the-variants as FoundBlob
 use Rattle.number.specs.declared.groups.Groups.{Groups}
 use Rattle.number.specs.declared.groups.Groups.the-variants as Groups
 use Rattle.number.specs.Groups.{Grouped}
@@ -144,9 +146,9 @@ module _ (text : List ℕ) where
   good : {i j : ℕ} → (NoBytes text i j → ⊥) → Judged i j 0
   good n = (says-no (λ b. n (padding-no-bytes text b)), says-no n)
 
-  padded : {i j s : ℕ} {ds : List ℕ} → Behind text "0xy" 4 base64 i j ds → s ≡ tallies 0 0 ds → Judged i j s
+  judged : {i j s : ℕ} {ds : List ℕ} → Behind text "0xy" 4 base64 i j ds → s ≡ tallies 0 0 ds → Judged i j s
   unfolding tallies tallyOf
-  padded {i} {j} {ds = ds} x e =
+  judged {i} {j} {ds = ds} x e =
       subst⁻¹ (λ (k : ℕ). Judged i j k) e (padding-says x (misplaced-says ds), bytes-says x (unfit-says ds))
 
 -- ---- the marks
@@ -210,23 +212,23 @@ module _ (text : List ℕ) where
   unfolding covers apart apartSpan
   bits-hexadecimal t d = third-of text (part 0x62 0x62 1 Binary) (part 0x62 0x6F 1 Octal) (part 0x62 0x78 1 Hexadecimal) refl refl (whole 0x62 0x78 0 Hexadecimal (clear Sixteen) t d)
 
-  pub blob-binary : {i j s : ℕ} → Mark 0x78 0x62 i → TailOf text Binary 8 (i + 3) j s → BlobAt text i (Groups.At j 0)
+  pub blob-binary : {i j s : ℕ} → Mark 0x78 0x62 i → TailOf text Binary 8 (i + 3) j s → BlobAt text i (FoundBlob.At j 0)
   unfolding covers apart apartSpan
   blob-binary t d =
       let g = good text (λ n. binary-bytes (tail-behind text "0xb" 8 Binary t d .1) n) in
       (first-of text (part 0x78 0x62 8 Binary) (part 0x78 0x78 2 Hexadecimal) (part 0x78 0x79 4 Base64) refl refl (whole 0x78 0x62 7 Binary (clear Two) t d), g .0, g .1)
 
-  pub blob-hexadecimal : {i j s : ℕ} → Mark 0x78 0x78 i → TailOf text Hexadecimal 2 (i + 3) j s → BlobAt text i (Groups.At j 0)
+  pub blob-hexadecimal : {i j s : ℕ} → Mark 0x78 0x78 i → TailOf text Hexadecimal 2 (i + 3) j s → BlobAt text i (FoundBlob.At j 0)
   unfolding covers apart apartSpan
   blob-hexadecimal t d =
       let g = good text (λ n. hexadecimal-bytes (tail-behind text "0xx" 2 Hexadecimal t d .1) n) in
       (second-of text (part 0x78 0x62 8 Binary) (part 0x78 0x78 2 Hexadecimal) (part 0x78 0x79 4 Base64) refl refl (whole 0x78 0x78 1 Hexadecimal (clear Sixteen) t d), g .0, g .1)
 
-  pub blob-base64 : {i j s : ℕ} → Mark 0x78 0x79 i → TailOf text Base64 4 (i + 3) j s → BlobAt text i (Groups.At j s)
+  pub blob-base64 : {i j s : ℕ} → Mark 0x78 0x79 i → TailOf text Base64 4 (i + 3) j s → BlobAt text i (FoundBlob.At j s)
   unfolding covers apart apartSpan
   blob-base64 t d =
       let x = tail-behind text "0xy" 4 Base64 t d in
-      let g = padded text (x .1) (x .2) in
+      let g = judged text (x .1) (x .2) in
       (third-of text (part 0x78 0x62 8 Binary) (part 0x78 0x78 2 Hexadecimal) (part 0x78 0x79 4 Base64) refl refl (whole 0x78 0x79 3 Base64 clear-base64 t d), g .0, g .1)
 
   pub bits-none : {i : ℕ} (o p q : Bool) → Says o (Mark 0x62 0x62 i) → o ≡ false → Says p (Mark 0x62 0x6F i) → p ≡ false → Says q (Mark 0x62 0x78 i) → q ≡ false → Fails text bits i
@@ -245,14 +247,14 @@ module _ (text : List ℕ) where
 
   -- what the search for a Blob answered
 
-  pub no-blob : {i : ℕ} (r : Groups) → BlobAt text i r → r ≡ Groups.Nothing → Fails text blob i
-  no-blob {i} r b e = subst (λ (x : Groups). BlobAt text i x) e b
+  pub no-blob : {i : ℕ} (r : FoundBlob) → BlobAt text i r → r ≡ FoundBlob.Nothing → Fails text blob i
+  no-blob {i} r b e = subst (λ (x : FoundBlob). BlobAt text i x) e b
 
-  found : {i j s : ℕ} (r : Groups) → BlobAt text i r → r ≡ Groups.At j s → BlobAt text i (Groups.At j s)
-  found {i} r b e = subst (λ (x : Groups). BlobAt text i x) e b
+  found : {i j s : ℕ} (r : FoundBlob) → BlobAt text i r → r ≡ FoundBlob.At j s → BlobAt text i (FoundBlob.At j s)
+  found {i} r b e = subst (λ (x : FoundBlob). BlobAt text i x) e b
 
-  pub loose : {i j s : ℕ} (r : Groups) → BlobAt text i r → r ≡ Groups.At j s → Longest text blob i j × Says (misplaced s) (BadPadding text i j)
+  pub loose : {i j s : ℕ} (r : FoundBlob) → BlobAt text i r → r ≡ FoundBlob.At j s → Longest text blob i j × Says (misplaced s) (BadPadding text i j)
   loose r b e = let f = found r b e in (f .0, f .1)
 
-  pub strict : {i j s : ℕ} (r : Groups) (o : Bool) → BlobAt text i r → r ≡ Groups.At j s → o ≡ unfit s → Longest text blob i j × Says o (NoBytes text i j)
+  pub strict : {i j s : ℕ} (r : FoundBlob) (o : Bool) → BlobAt text i r → r ≡ FoundBlob.At j s → o ≡ unfit s → Longest text blob i j × Says o (NoBytes text i j)
   strict {i} {j} r o b e f = let g = found r b e in (g .0, subst⁻¹ (λ (x : Bool). Says x (NoBytes text i j)) f (g .2))

@@ -11,7 +11,7 @@ use lib.ListN.{getD}
 use Rattle.lexicon.specs.Values.{read}
 use Rattle.lexicon.specs.Limited.{limit, limited}
 use Rattle.lexicon.proofs.Limits.{read-more}
-use Rattle.lexicon.proofs.Paddings.{padded, run}
+use Rattle.lexicon.proofs.Paddings.{nextState, run}
 use Rattle.number.specs.Tally.{tallyOf, tallies}
 
 -- ---- a run of bytes
@@ -49,7 +49,7 @@ module _ (radix : ℕ) where
   module _ (sum r : ℕ) (bs : List ℕ) where
     pub tallies-run : radix ≡ 0 → r ≡ run sum bs → r ≡ tallies radix sum bs
     unfolding tallyOf
-    tallies-run z g = g ∙ sym (same padded (λ s b. rw (eq-eqb radix 0 z) refl) sum bs)
+    tallies-run z g = g ∙ sym (same nextState (λ s b. rw (eq-eqb radix 0 z) refl) sum bs)
 
     pub tallies-limited : (radix ≡ 0 → ⊥) → r ≡ foldl (limited radix) sum bs → r ≡ tallies radix sum bs
     unfolding tallyOf

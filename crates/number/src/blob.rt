@@ -3,6 +3,7 @@
 use crate::groups::Groups;
 use crate::groups::longest_row;
 use crate::padding::MISPLACED;
+use crate::padding::START;
 use crate::padding::unfit;
 use lexicon::Found;
 use lexicon::Literal;
@@ -24,6 +25,12 @@ ghost use Rattle.number.specs.Blob.{TailOf, BlobAt};
 pub struct Tail {
     pub end: usize,
     pub sum: u32,
+}
+
+// The end of a Blob, and the state of the padding among its base-64 characters.
+pub enum FoundBlob {
+    At { end: usize, padding: u32 },
+    Nothing,
 }
 
 // Whether `0` and two letters stand at a place.
@@ -70,44 +77,44 @@ pub fn bits(text: &[u8], at: usize) -> Found
     Found::Nothing
 }
 
-// The Blob literal at a place: its end, and the state of the padding among its base-64 characters.
-fn blob_at(text: &[u8], at: usize) -> Groups
+// The Blob literal at a place. One in base 2 or 16 has no padding.
+fn blob_at(text: &[u8], at: usize) -> FoundBlob
     ensures { λ r. ⌜ BlobAt (now (text .entry)) at r ⌝ }
 {
     if marked(text, at, b'x', b'b') {
         let found = tail_at(text, at + 3, Set::Binary, 8);
-        return Groups::At {
+        return FoundBlob::At {
             end: found.end,
-            sum: 0,
+            padding: START,
         };
     }
     if marked(text, at, b'x', b'x') {
         let found = tail_at(text, at + 3, Set::Hexadecimal, 2);
-        return Groups::At {
+        return FoundBlob::At {
             end: found.end,
-            sum: 0,
+            padding: START,
         };
     }
     if marked(text, at, b'x', b'y') {
         let found = tail_at(text, at + 3, Set::Base64, 4);
-        return Groups::At {
+        return FoundBlob::At {
             end: found.end,
-            sum: found.sum,
+            padding: found.sum,
         };
     }
-    Groups::Nothing
+    FoundBlob::Nothing
 }
 
 // The Blob literal at a place; one in base 64 with a character behind a `=` is bad.
 pub fn blob(text: &[u8], at: usize) -> Literal
     ensures { λ r. ⌜ Judges (now (text .entry)) blobOf (BadPadding (now (text .entry))) at r ⌝ }
 {
-    let Groups::At { end, sum } = blob_at(text, at) else {
+    let FoundBlob::At { end, padding } = blob_at(text, at) else {
         return Literal::Nothing;
     };
     Literal::At {
         end,
-        bad: sum == MISPLACED,
+        bad: padding == MISPLACED,
     }
 }
 
@@ -115,11 +122,11 @@ pub fn blob(text: &[u8], at: usize) -> Literal
 pub fn strict_blob(text: &[u8], at: usize) -> Literal
     ensures { λ r. ⌜ Judges (now (text .entry)) blobOf (NoBytes (now (text .entry))) at r ⌝ }
 {
-    let Groups::At { end, sum } = blob_at(text, at) else {
+    let FoundBlob::At { end, padding } = blob_at(text, at) else {
         return Literal::Nothing;
     };
     Literal::At {
         end,
-        bad: unfit(sum),
+        bad: unfit(padding),
     }
 }

@@ -1,6 +1,6 @@
 // What a literal's digits add up to, as far as the tokens need it: of a number its value, up to the limit; of base-64 characters,
 // the state of their padding. `tally_run` is this crate's own, and its caller has found the run.
-use crate::padding::padded_run;
+use crate::padding::padding_run;
 use text::digit::LIMIT;
 use text::digit::limited;
 ghost use mathlib.Core.Path.{_≡_};
@@ -15,7 +15,7 @@ pub(crate) fn tally_run(text: &[u8], from: usize, count: usize, radix: u32, sum:
     ensures { λ r. ⌜ r ≡ tallies radix sum (read (now (text .entry)) from count) ⌝ }
 {
     if radix == 0 {
-        return padded_run(text, from, count, sum);
+        return padding_run(text, from, count, sum);
     }
     let mut total = sum;
     let mut k = 0;

@@ -16,8 +16,8 @@ Inv-loop text from count radix sum total₀ k₀ total k = (k ≤ count) × (tot
 abbrev μ-loop : tie.MeasureT-loop
 μ-loop text from count radix sum total₀ k₀ total k = count - k
 
-padded-run-requires : tie.Need-padded-run-requires Inv-loop μ-loop
-padded-run-requires c κs = search needs
+padding-run-requires : tie.Need-padding-run-requires Inv-loop μ-loop
+padding-run-requires c κs = search needs
 
 returns : tie.Need-returns Inv-loop μ-loop
 returns c = search (tallies-run, needs)
@@ -67,7 +67,7 @@ tally-run-spec =
     (tie.spec
     Inv-loop
     μ-loop
-    padded-run-requires
+    padding-run-requires
     returns
     loop-holds
     returns-2

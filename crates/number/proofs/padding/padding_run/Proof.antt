@@ -1,13 +1,13 @@
--- `number::padding::padded_run` meets its contract. Assumes nothing.
+-- `number::padding::padding_run` meets its contract. Assumes nothing.
 use borrow.Author.Needs.{needs}
 use mathlib.Core.Path.{_≡_, ap, _∙_}
 use Prim.Native.Nat.{ℕ, _≤_, _-_}
 use native.Mathlib.Nat.{le-antisymm}
 use Rattle.lexicon.specs.Values.{read}
-use Rattle.lexicon.proofs.Paddings.{padded, run}
+use Rattle.lexicon.proofs.Paddings.{nextState, run}
 use Rattle.number.proofs.Sums.{run-next}
-use Rattle.number.proofs.padding.padded_run.Statement.{statement}
-use Rattle.number.proofs.padding.padded_run.Tie as tie
+use Rattle.number.proofs.padding.padding_run.Statement.{statement}
+use Rattle.number.proofs.padding.padding_run.Tie as tie
 
 abbrev Inv-loop : tie.InvT-loop
 Inv-loop text from count state last₀ k₀ last k = (k ≤ count) × (last ≡ run state (read text from k))
@@ -18,14 +18,14 @@ abbrev μ-loop : tie.MeasureT-loop
 loop-holds : tie.Need-loop-holds Inv-loop μ-loop
 loop-holds c = search needs
 
-add-padded : tie.Need-add-padded Inv-loop μ-loop
-add-padded c = search needs
+add-next-state : tie.Need-add-next-state Inv-loop μ-loop
+add-next-state c = search needs
 
-shared-slice-read-padded : tie.Need-shared-slice-read-padded Inv-loop μ-loop
-shared-slice-read-padded c = search needs
+shared-slice-read-next-state : tie.Need-shared-slice-read-next-state Inv-loop μ-loop
+shared-slice-read-next-state c = search needs
 
-padded-requires : tie.Need-padded-requires Inv-loop μ-loop
-padded-requires c κs = search needs
+next-state-requires : tie.Need-next-state-requires Inv-loop μ-loop
+next-state-requires c κs = search needs
 
 add-k : tie.Need-add-k Inv-loop μ-loop
 add-k c = search needs
@@ -37,7 +37,7 @@ loop-again : tie.Need-loop-again Inv-loop μ-loop
 loop-again c =
     let a = c .before .before .before .before .before .args in
     let l = c .before .before .before .loop in
-    (search needs, run-next padded (a .text .now) (a .state) (a .from) (l .k) _ _ (l .inv .1) (c .padded .ensures))
+    (search needs, run-next nextState (a .text .now) (a .state) (a .from) (l .k) _ _ (l .inv .1) (c .next-state .ensures))
 
 returns : tie.Need-returns Inv-loop μ-loop
 returns c =
@@ -45,16 +45,16 @@ returns c =
     let l = c .before .loop in
     l .inv .1 ∙ ap (λ (k : ℕ). run (a .state) (read (a .text .now) (a .from) k)) (le-antisymm (l .inv .0) (c .loop-test .left))
 
-pub padded-run-spec : {M : Type 1} → statement M
-padded-run-spec =
+pub padding-run-spec : {M : Type 1} → statement M
+padding-run-spec =
     tie.close
     (tie.spec
     Inv-loop
     μ-loop
     loop-holds
-    add-padded
-    shared-slice-read-padded
-    padded-requires
+    add-next-state
+    shared-slice-read-next-state
+    next-state-requires
     add-k
     loop-less
     loop-again
