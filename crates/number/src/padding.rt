@@ -59,7 +59,11 @@ fn next_state(state: u32, b: u8) -> u32
     if b == b'=' {
         return pad(state);
     }
-    if state >= CHARACTER || state == START {
+    // Two tests: `||` makes a flag of them, three instructions more for each character.
+    if state >= CHARACTER {
+        return b as u32 + CHARACTER;
+    }
+    if state == START {
         return b as u32 + CHARACTER;
     }
     MISPLACED
