@@ -35,7 +35,7 @@ extern "C" {
 
 /* The stack that a call needs at most, in bytes, whatever the input. Behind it: the frames of muon_read times the open brackets that
    there may be come to 28,456 bytes in the archive as built today, those of muon_integer to 584, those of muon_text to 864 and those of
-   muon_blob and of muon_bits to 568 each; the most that was measured, over the deepest texts and the longest ways through a literal, is
+   muon_blob and of muon_bits to 648 each; the most that was measured, over the deepest texts and the longest ways through a literal, is
    28,024 for muon_read and for the others what their frames come to (tests/stack prints them and fails if one exceeds the number here).
    No call takes memory from anywhere else. */
 #define MUON_STACK_MAX 32768
