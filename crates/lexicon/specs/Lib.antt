@@ -2,6 +2,7 @@
 -- of source document 003, symbols, the bits of digits, the values of literals and the bad ones, the token at a place.
 pub mod Bytes
 pub mod Utf8
+pub mod Steps
 pub mod Encode
 pub mod Space
 pub mod Front

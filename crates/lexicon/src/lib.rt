@@ -30,6 +30,12 @@ pub enum Encoding {
     BadAt(usize),
 }
 
+// The same, and the steps that the test took up to its place.
+pub struct Tested {
+    pub encoding: Encoding,
+    pub steps: usize,
+}
+
 // The numeric bases of Integer, Fraction and code point literals.
 pub enum Base {
     Two,

@@ -1,5 +1,6 @@
 -- The answers of the value calls; and the bytes that a quoted text stands for, by which the Text call is proved.
 pub mod Exactly
+pub mod Utf8
 pub mod Integer
 pub mod Bytes
 pub mod Text
