@@ -34,7 +34,7 @@ abbrev made : Kind → ℕ → ℕ → Bool → Token.Token
 made k i j b = record { kind = k; first = i; end = j; bad = b }
 
 -- from each place there is one well-formed sequence at most
-sequence-single : (text : List ℕ) → Single text sequence
+pub sequence-single : (text : List ℕ) → Single text sequence
 unfolding covers apart apartSpan
 sequence-single text = single 5 refl
 

@@ -50,6 +50,13 @@ module _ {text : List ℕ} where
   unit-byte (suc n) c i (both (byte a e) u) (suc k) h =
       subst (λ (x : ℕ). At text c x) (omega arith) (unit-byte n c (i + 1) (starting e u) k (le-of-suc-le-suc h))
 
+  -- and so many bytes of the class are one
+  pub byte-unit : (n : ℕ) (c : Class) (i : ℕ) {j : ℕ} → j ≡ i + n → ((k : ℕ) → k < n → At text c (i + k)) → Takes text (unit n c) i j
+  byte-unit zero c i e a = nothing (sym (e ∙ add-zero i))
+  byte-unit (suc n) c i {j} e a =
+      both (byte (subst (λ (x : ℕ). At text c x) (add-zero i) (a 0 (omega arith))) refl)
+      (byte-unit n c (i + 1) {j = j} (omega (arith, e)) (λ k h. subst (λ (x : ℕ). At text c x) (omega arith) (a (suc k) (omega (arith, h)))))
+
   -- two joints from one place, each followed by a digit, end in one place
   joint-same : {c : Class} → Clear c → {m k l : ℕ} → Takes text (opt joint) m k → At text c k → Takes text (opt joint) m l → At text c l → k ≡ l
   joint-same cl (right (nothing e)) a (right (nothing f)) b = sym e ∙ f

@@ -12,6 +12,7 @@ pub mod Powers
 pub mod Tokens
 pub mod Unique
 pub mod Determined
+pub mod Steps
 pub mod Fit
 pub mod Expansions
 pub mod Sextets

@@ -1,5 +1,9 @@
 -- Laws of properties that every element has. Assumes nothing.
 use mathlib.Core.List.{List, _∷_, _++_}
+use Prim.Native.Nat.{ℕ, zero, suc, _<_}
+use native.Mathlib.Nat.{not-suc-le-zero}
+use native.Mathlib.Omega.{arith}
+use lib.ListN.{length, getD}
 use Rattle.rules.specs.Every.{Every, none, also}
 
 module _ {A : Type 0} {P : A → Type 0} where
@@ -16,3 +20,9 @@ module _ {A : Type 0} {P : A → Type 0} where
 pub every-map : {A : Type 0} {P Q : A → Type 0} → ((x : A) → P x → Q x) → {xs : List A} → Every P xs → Every Q xs
 every-map f none = none
 every-map f (also {x = x} p e) = also (f x p) (every-map f e)
+
+-- the one at a place
+pub every-at : {P : ℕ → Type 0} {xs : List ℕ} → Every P xs → (i : ℕ) → i < length xs → P (getD xs i 0)
+every-at none i h = absurd (not-suc-le-zero h)
+every-at (also p e) zero h = p
+every-at (also p e) (suc i) h = every-at e i (omega (arith, h))
