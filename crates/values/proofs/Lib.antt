@@ -1,4 +1,5 @@
 -- The laws of the value calls' answers.
+pub mod Utf8
 pub mod IntegerDetermined
 pub mod IntegerExists
 pub mod Shapes
