@@ -1,13 +1,15 @@
 -- Demand 2: what the answers accept, token by token, are exactly the texts that have a derivation, sound literals and the sizes.
 -- Assumes nothing.
 use mathlib.Core.Path.{_≡_, refl, sym, ap, subst, _∙_}
-use mathlib.Core.Bool.{true}
+use mathlib.Core.Bool.{true, false}
 use mathlib.Core.Logic.{_⊎_, inl, inr, _↔_}
 use mathlib.Core.List.{List, [], _∷_, _++_, append-assoc, append-nil}
 use mathlib.Core.Option.{Option, some}
 use Prim.Native.Nat.{ℕ, _≤_, _<_}
 use native.Mathlib.Omega.{arith}
+use lib.Dec.{eqb}
 use lib.ListN.{length, length-append}
+use Rattle.rules.proofs.Bools.{or-false-right, clash}
 use Rattle.lexicon.specs.declared.Token as Token
 use Rattle.lexicon.specs.declared.Next.the-variants as Next
 use Rattle.lexicon.specs.Utf8.{WellFormed}
@@ -20,6 +22,7 @@ use Rattle.grammar.specs.Level.{Level, keeps}
 use Rattle.grammar.specs.Place.{Begins, Wrong}
 use Rattle.grammar.specs.Nodes.{table}
 use Rattle.grammar.proofs.NewerForms.{newerBegins}
+use Rattle.decisions.proofs.Places.{member}
 use Rattle.reading.specs.declared.Answer.{Answer}
 use Rattle.reading.specs.declared.Limits.{Limits}
 use Rattle.reading.specs.declared.Rules.{Rules}
@@ -28,7 +31,7 @@ use Rattle.reading.specs.Tokens.{seen, Follow, nothing, next, opened}
 use Rattle.reading.specs.Faults.{NewerAt, TooDeep, tests, Fault, noToken, wrongEnd, atToken, Passed, begun, passed, AllPassed}
 use Rattle.reading.specs.Answers.{LevelOf, Accepted, Reading, Answers, noLevel, tooLong, notUtf8, faulty, noRoom, accepted}
 use Rattle.reading.specs.Tests.{First}
-use Rattle.reading.proofs.Tests.{None, all-fail, no-number}
+use Rattle.reading.proofs.Tests.{None, all-fail, has, no-number}
 use Rattle.reading.proofs.Rows.{Order, equal, less, more, order, pick, no-end, append, one-row}
 use Rattle.reading.proofs.First.{follows, start, went}
 use Rattle.reading.proofs.Decide.{faultless}
@@ -170,15 +173,17 @@ no-pass : {n : ℕ} → (n ≡ 0 → ⊥) → (n ≡ 8 → ⊥) → Passes n →
 no-pass f g (inl e) = f e
 no-pass f g (inr e) = g e
 
-module _ (rules : Rules) (bytes lent : List ℕ) where
-  -- no fault has one of them
-  fault-number : {l : Level} {ts : List Tok} {p n q : ℕ} → Fault (rules .limits) l bytes ts p n q → Passes n → ⊥
-  fault-number (noToken c) = no-pass (λ e. omega (arith, e)) (λ e. omega (arith, e))
-  fault-number (wrongEnd c w) = no-pass (λ e. omega (arith, e)) (λ e. omega (arith, e))
-  fault-number {l} {ts} {n = n} (atToken {t = t} c x) =
-      let T = tests (rules .limits) l bytes ts t in
-      no-pass (λ i. no-number T 0 refl (subst (First T) i x)) (λ i. no-number T 8 refl (subst (First T) i x))
+-- the numbers of faults, and that no fault has another
+abbrev faults : List ℕ
+faults = 4 ∷ 7 ∷ 6 ∷ 5 ∷ 11 ∷ []
 
+pub fault-number : (limits : Limits) (bytes : List ℕ) {l : Level} {ts : List Tok} {p n q : ℕ} (m : ℕ) → member m faults ≡ false → Fault limits l bytes ts p n q → n ≡ m → ⊥
+fault-number limits bytes m e (noToken c) i = clash (subst (λ (k : ℕ). member k faults ≡ true) i refl) e
+fault-number limits bytes m e (wrongEnd c w) i = clash (subst (λ (k : ℕ). member k faults ≡ true) i refl) e
+fault-number limits bytes {l} {ts} m e (atToken {t = t} c x) i =
+    let T = tests limits l bytes ts t in no-number T m (or-false-right (eqb m 4) (has T m) e) (subst (First T) i x)
+
+module _ (rules : Rules) (bytes lent : List ℕ) where
   module _ (number : ℕ) where
     -- what stands behind an answer with one of them
     record Found (r : Answer) : Type 0 where
@@ -195,7 +200,7 @@ module _ (rules : Rules) (bytes lent : List ℕ) where
     found (noLevel f) e = absurd (no-pass (λ e. omega (arith, e)) (λ e. omega (arith, e)) e)
     found (tooLong l h) e = absurd (no-pass (λ e. omega (arith, e)) (λ e. omega (arith, e)) e)
     found (notUtf8 l h b) e = absurd (no-pass (λ e. omega (arith, e)) (λ e. omega (arith, e)) e)
-    found (faulty l h w f) e = absurd (fault-number (f .fault) e)
+    found (faulty l h w f) e = absurd (no-pass (fault-number (rules .limits) bytes 0 refl (f .fault)) (fault-number (rules .limits) bytes 8 refl (f .fault)) e)
     found (noRoom {l = l} {v = v} o h w a m) e =
         record {
           level = l;

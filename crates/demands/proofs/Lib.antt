@@ -1,5 +1,6 @@
--- That the answers meet the demands.
+-- That the answers meet the demands, and what later requests promise.
 pub mod Derived
 pub mod Exists
 pub mod Pieces
 pub mod Demands
+pub mod Requests
