@@ -4,3 +4,4 @@ pub mod Reading
 pub mod Starred
 pub mod Values
 pub mod Contents
+pub mod Steps

@@ -1,4 +1,6 @@
--- The texts that document 01 marks with a star, texts with bad values, and pieces of the Blob and Bits calls.
+-- The texts that document 01 marks with a star, texts with bad values, pieces of the Blob and Bits calls, and
+-- texts with the steps of the UTF-8 test.
 pub mod Starred
 pub mod Values
 pub mod Contents
+pub mod Steps
