@@ -21,11 +21,11 @@ use Rattle.lexicon.specs.Parts.{sextet}
 
 -- ---- a test of all numbers below n
 
-below : (ℕ → Bool) → ℕ → Bool
+unfoldable pub below : (ℕ → Bool) → ℕ → Bool
 below p zero = true
 below p (suc n) = p n && below p n
 
-all-below : (p : ℕ → Bool) (n : ℕ) → below p n ≡ true → {v : ℕ} → v < n → p v ≡ true
+pub all-below : (p : ℕ → Bool) (n : ℕ) → below p n ≡ true → {v : ℕ} → v < n → p v ≡ true
 unfolding below
 all-below p zero e h = absurd (not-suc-le-zero h)
 all-below p (suc n) e {v} h = go (ℕ-discrete v n) (λ l. all-below p n (and-right (p n) (below p n) e) l)

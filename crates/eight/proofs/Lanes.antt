@@ -1,0 +1,157 @@
+-- What is computed of a byte is computed of all bytes of a number at once, as long as no result needs more than a byte: no carry
+-- goes from one to the next. So a comparison of the whole says what the byte's comparison says of each. Assumes nothing.
+use mathlib.Core.Path.{_≡_, refl, sym, ap₂, subst⁻¹, _∙_}
+use mathlib.Core.Bool.{Bool, true, false, _&&_, not}
+use mathlib.Core.List.{List}
+use Prim.Native.Nat.{ℕ, zero, suc, _+_, _*_, _≤_, _<_}
+use native.Mathlib.Omega.{arith}
+use native.Mathlib.Nat.{add-zero}
+use lib.Bits.{bitAnd, bitOr, bitXor, and-block, or-block, xor-block}
+use lib.Dec.{eqb, leb}
+use lib.ListN.{length, getD}
+use borrow.Author.Tests.{eqb-true, eq-eqb, leb-true}
+use Rattle.rules.specs.Test.{Says}
+use Rattle.rules.specs.Class.{Class, In, has}
+use Rattle.rules.specs.Rule.{Takes, nothing, byte, both}
+use Rattle.rules.proofs.Bools.{and-left, and-right}
+use Rattle.rules.proofs.Tests.{says-no}
+use Rattle.rules.proofs.Matches.{starting, ending}
+use Rattle.lexicon.specs.Literals.{unit}
+use Rattle.lexicon.proofs.Groups.{unit-at, unit-byte}
+use Rattle.lexicon.proofs.Sextets.{below, all-below}
+use Rattle.eight.specs.Joined.{joined, Joins}
+
+pub data Operation : Type 0 where
+  and : Operation
+  or : Operation
+  xor : Operation
+  plus : Operation
+
+abbrev pub of : Operation → ℕ → ℕ → ℕ
+of and = bitAnd
+of or = bitOr
+of xor = bitXor
+of plus = _+_
+
+-- what is computed of a byte: itself, a constant, or an operation's result
+pub data Lane : Type 0 where
+  it : Lane
+  always : ℕ → Lane
+  result : Operation → Lane → Lane → Lane
+
+-- of one byte
+abbrev alone : Lane → ℕ → ℕ
+alone it b = b
+alone (always k) b = k
+alone (result o x y) b = of o (alone x b) (alone y b)
+
+-- the byte k, n times
+abbrev pub repeated : ℕ → ℕ → ℕ
+repeated zero k = 0
+repeated (suc n) k = repeated n k * 256 + k
+
+-- of n bytes in a number
+abbrev pub together : ℕ → Lane → ℕ → ℕ
+together n it w = w
+together n (always k) w = repeated n k
+together n (result o x y) w = of o (together n x w) (together n y w)
+
+-- no result needs more than a byte
+abbrev fits : Lane → ℕ → Bool
+fits it b = leb b 255
+fits (always k) b = leb k 255
+fits (result o x y) b = leb (of o (alone x b) (alone y b)) 255 && (fits x b && fits y b)
+
+small : (l : Lane) (b : ℕ) → fits l b ≡ true → alone l b < 256
+small it b e = omega (arith, leb-true b 255 e)
+small (always k) b e = omega (arith, leb-true k 255 e)
+small (result o x y) b e =
+    omega (arith, leb-true (of o (alone x b) (alone y b)) 255 (and-left (leb (of o (alone x b) (alone y b)) 255) (fits x b && fits y b) e))
+
+-- an operation works on the last byte and on the others apart
+apart : (o : Operation) (a b r s : ℕ) → r < 256 → s < 256 → of o (a * 256 + r) (b * 256 + s) ≡ of o a b * 256 + of o r s
+apart and a b r s h k = and-block 8 a b r s h k
+apart or a b r s h k = or-block 8 a b r s h k
+apart xor a b r s h k = xor-block 8 a b r s h k
+apart plus a b r s h k = omega arith
+
+next : (n : ℕ) (l : Lane) (w b : ℕ) → fits l b ≡ true → together (suc n) l (w * 256 + b) ≡ together n l w * 256 + alone l b
+next n it w b e = refl
+next n (always k) w b e = refl
+next n (result o x y) w b e =
+    let f = and-right (leb (of o (alone x b) (alone y b)) 255) (fits x b && fits y b) e in
+    let p = and-left (fits x b) (fits y b) f in
+    let q = and-right (fits x b) (fits y b) f in
+    ap₂ (of o) (next n x w b p) (next n y w b q)
+    ∙ apart o (together n x w) (together n y w) (alone x b) (alone y b) (small x b p) (small y b q)
+
+of-zero : (o : Operation) → of o 0 0 ≡ 0
+of-zero and = refl
+of-zero or = refl
+of-zero xor = refl
+of-zero plus = refl
+
+together-none : (l : Lane) → together 0 l 0 ≡ 0
+together-none it = refl
+together-none (always k) = refl
+together-none (result o x y) = ap₂ (of o) (together-none x) (together-none y) ∙ of-zero o
+
+-- ---- comparisons
+
+abbrev same : Bool → Bool → Bool
+same true b = b
+same false b = not b
+
+same-equal : (a b : Bool) → same a b ≡ true → a ≡ b
+same-equal true b e = sym e
+same-equal false true e = e
+same-equal false false e = refl
+
+-- the two results are equal exactly for the bytes of the class
+unfoldable pub tells : Lane → Lane → Class → ℕ → Bool
+tells x y c b = (fits x b && fits y b) && same (eqb (alone x b) (alone y b)) (has c b)
+
+unit-rest : {text : List ℕ} {c : Class} (n : ℕ) {i j : ℕ} → Takes text (unit (suc n) c) i j → Takes text (unit n c) (i + 1) j
+unit-rest n (both (byte a e) u) = starting e u
+
+module _ (x y : Lane) (c : Class) (t : below (tells x y c) 256 ≡ true) (text : List ℕ) where
+  says : (n i : ℕ) → i + n ≤ length text → ((k : ℕ) → getD text k 0 < 256) →
+      Says (eqb (together n x (joined text i n)) (together n y (joined text i n))) (Takes text (unit n c) i (i + n))
+  unfolding tells
+  says zero i h f =
+      record {
+        true-holds = λ e. nothing (sym (add-zero i));
+        holds-true = λ u. eq-eqb (together 0 x 0) (together 0 y 0) (together-none x ∙ sym (together-none y));
+      }
+  says (suc n) i h f =
+      let b : ℕ = getD text i 0 in
+      let w : ℕ = joined text (i + 1) n in
+      let a = all-below (tells x y c) 256 t (f i) in
+      let g = and-left (fits x b && fits y b) (same (eqb (alone x b) (alone y b)) (has c b)) a in
+      let p = and-left (fits x b) (fits y b) g in
+      let q = and-right (fits x b) (fits y b) g in
+      let s = same-equal (eqb (alone x b) (alone y b)) (has c b) (and-right (fits x b && fits y b) (same (eqb (alone x b) (alone y b)) (has c b)) a) in
+      let again = says n (i + 1) (omega arith) f in
+      let e : i + 1 + n ≡ i + suc n = omega arith in
+      let l = next n x w b p in
+      let m = next n y w b q in
+      let u = small x b p in
+      let v = small y b q in
+      record {
+        true-holds = λ o.
+            let z = eqb-true (together (suc n) x (w * 256 + b)) (together (suc n) y (w * 256 + b)) o in
+            both
+            (byte {i = i} (omega arith, sym s ∙ eq-eqb (alone x b) (alone y b) (omega (arith, l, m, u, v, z))) refl)
+            (ending e (again .true-holds (eq-eqb (together n x w) (together n y w) (omega (arith, l, m, u, v, z)))));
+        holds-true = λ r.
+            let z = eqb-true (together n x w) (together n y w) (again .holds-true (ending (sym e) (unit-rest n r))) in
+            let o = eqb-true (alone x b) (alone y b) (s ∙ unit-at n r .1) in
+            eq-eqb (together (suc n) x (w * 256 + b)) (together (suc n) y (w * 256 + b)) (omega (arith, l, m, z, o));
+      }
+
+  pub lanes-say : {at w : ℕ} → at + 8 ≤ length text → Joins text at 8 w → Says (eqb (together 8 x w) (together 8 y w)) (Takes text (unit 8 c) at (at + 8))
+  lanes-say {at} h j =
+      subst⁻¹ (λ (w : ℕ). Says (eqb (together 8 x w) (together 8 y w)) (Takes text (unit 8 c) at (at + 8))) (j .number-is) (says 8 at h (j .bytes))
+
+pub too-short : {text : List ℕ} (c : Class) {at : ℕ} → length text < at + 8 → Says false (Takes text (unit 8 c) at (at + 8))
+too-short c {at} h = says-no (λ u. omega (arith, h, unit-byte 8 c at u 7 (omega arith) .0))

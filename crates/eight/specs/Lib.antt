@@ -1,0 +1,2 @@
+-- The definitions that the contracts name.
+pub mod Joined
