@@ -1,10 +1,13 @@
 // UTF-8, by the Unicode Standard's table of well-formed byte sequences.
+use eight::ascii;
 use lexicon::Encoding;
 use lexicon::Found;
+use lexicon::Tested;
 use text::byte::within;
-ghost use Rattle.rules.specs.Rule.{_then_};
+ghost use Rattle.rules.specs.Rule.{_then_, many, Longest};
 ghost use Rattle.lexicon.specs.Found.{Finds};
 ghost use Rattle.lexicon.specs.Utf8 as Utf8;
+ghost use Rattle.lexicon.specs.Steps.{TestedAs};
 
 // The last byte of a sequence.
 fn last(text: &[u8], at: usize) -> Found
@@ -58,21 +61,59 @@ pub fn sequence(text: &[u8], at: usize) -> Found
     }
 }
 
-// Whether the text is well-formed sequences from the front; if not, where the first bad one begins.
+// Where the bytes of plain ASCII at `at` end.
+fn plain(text: &[u8], at: usize) -> usize
+    ensures { λ r. ⌜ Longest (now (text .entry)) (many (Utf8.range 0x00 0x7F)) at r ⌝ }
+{
+    let mut i = at;
+    while i < text.len() {
+        if text[i] >= 0x80 {
+            return i;
+        }
+        i += 1;
+    }
+    i
+}
+
+// Whether the text is well-formed sequences from the front; if not, where the first bad one begins; and the steps up to there. A
+// step takes eight bytes of plain ASCII wherever eight come next, else one sequence.
+pub fn tested(text: &[u8]) -> Tested
+    ensures { λ r. ⌜ TestedAs (now (text .entry)) r ⌝ }
+{
+    let mut at = 0;
+    let mut steps = 0;
+    while at < text.len() {
+        if ascii(text, at) {
+            at += 8;
+            steps += 1;
+            continue;
+        }
+        // Fewer than eight come next, so each is a step of its own, and eight come again behind a longer sequence at the soonest.
+        let end = plain(text, at);
+        steps += end - at;
+        at = end;
+        if at == text.len() {
+            break;
+        }
+        let Found::At(next) = sequence(text, at) else {
+            return Tested {
+                encoding: Encoding::BadAt(at),
+                steps,
+            };
+        };
+        at = next;
+        steps += 1;
+    }
+    Tested {
+        encoding: Encoding::WellFormed,
+        steps,
+    }
+}
+
+// The answer without the steps.
 pub fn utf8(text: &[u8]) -> Encoding
     ensures { λ r. ⌜ Utf8.Encoded (now (text .entry)) r ⌝ }
 {
-    let mut at = 0;
-    while at < text.len() {
-        // Most bytes of most texts are sequences by themselves: no call for one.
-        if text[at] < 0x80 {
-            at += 1;
-            continue;
-        }
-        let Found::At(end) = sequence(text, at) else {
-            return Encoding::BadAt(at);
-        };
-        at = end;
-    }
-    Encoding::WellFormed
+    let answer = tested(text);
+    answer.encoding
 }
