@@ -1,6 +1,8 @@
 // The library for C: lent memory is a pointer and a length, and no two lent parts overlap.
+use lexicon::Encoding;
 ghost use Rattle.reading.specs.Sizes.{base};
 ghost use Rattle.reading.specs.Answers.{answer, Answers};
+ghost use Rattle.values.specs.Utf8.{Utf8Answers};
 ghost use Rattle.values.specs.Integer.{IntegerAnswers};
 ghost use Rattle.values.specs.Text.{TextAnswers};
 ghost use Rattle.values.specs.Blob.{BlobAnswers};
@@ -22,6 +24,27 @@ pub extern "C" fn muon_read(
     *place = answer.place;
     *count = answer.count;
     answer.number
+}
+
+// uint32_t muon_utf8(const uint8_t *text, size_t text_len, size_t *place, size_t *steps);
+// Whether a text of any length is UTF-8, where it is not, and the steps of the test up to there.
+#[no_mangle]
+pub extern "C" fn muon_utf8(text: &[u8], place: &mut usize, steps: &mut usize) -> u32
+    ensures { λ r. ⌜ Utf8Answers (now (text .entry)) r (now (place .exit)) (now (steps .exit)) ⌝ }
+{
+    let tested = utf8::tested(text);
+    *steps = tested.steps;
+    let encoding = tested.encoding;
+    match encoding {
+        Encoding::WellFormed => {
+            *place = text.len();
+            0
+        }
+        Encoding::BadAt(bad) => {
+            *place = bad;
+            3
+        }
+    }
 }
 
 // uint32_t muon_integer(const uint8_t *piece, size_t piece_len, int64_t *value, size_t *place, size_t *count);
