@@ -1,10 +1,10 @@
 -- Bytes joined to one number. Assumes nothing.
 use mathlib.Core.Path.{_≡_, sym, ap, ap₂, _∙_}
 use mathlib.Core.List.{List}
-use Prim.Native.Nat.{ℕ, zero, suc, _+_, _*_, _^_, _<_}
+use Prim.Native.Nat.{ℕ, zero, suc, _+_, _*_, _^_, _≤_, _<_}
 use native.Mathlib.Omega.{arith}
 use native.Mathlib.Nat.{add-zero, zero-add, suc-add, mul-assoc, mul-one, pow-suc}
-use lib.ListN.{getD}
+use lib.ListN.{length, getD}
 use Rattle.eight.specs.Joined.{joined, Joins}
 
 module _ (text : List ℕ) where
@@ -28,12 +28,14 @@ module _ {text : List ℕ} where
   pub joins-small : (n : ℕ) {i w : ℕ} → Joins text i n w → w < 256 ^ n
   joins-small n {i} j = omega (arith, j .number-is, small text n i (j .bytes))
 
-  pub joins-two : (i : ℕ) → ((k : ℕ) → getD text k 0 < 256) → Joins text i 2 (getD text i 0 + getD text (i + 1) 0 * 256)
-  joins-two i f = record { number-is = omega arith; bytes = f }
+  pub joins-two : (i : ℕ) → i + 2 ≤ length text → ((k : ℕ) → getD text k 0 < 256) →
+      Joins text i 2 (getD text i 0 + getD text (i + 1) 0 * 256)
+  joins-two i h f = record { within = h; number-is = omega arith; bytes = f }
 
   pub joins-more : (n m : ℕ) {i a b : ℕ} → Joins text i n a → Joins text (i + n) m b → Joins text i (n + m) (a + b * 256 ^ n)
   joins-more n m {i} {a} {b} j k =
       record {
+        within = omega (arith, k .within);
         number-is = ap₂ (λ (x y : ℕ). x + y * 256 ^ n) (j .number-is) (k .number-is) ∙ sym (add text n m i);
         bytes = j .bytes;
       }

@@ -11,33 +11,48 @@ use lib.Dec.{eqb, leb}
 use lib.ListN.{length, getD}
 use borrow.Author.Tests.{eqb-true, eq-eqb, leb-true}
 use Rattle.rules.specs.Test.{Says}
-use Rattle.rules.specs.Class.{Class, In, has}
+use Rattle.rules.specs.Class.{Class, has}
 use Rattle.rules.specs.Rule.{Takes, nothing, byte, both}
-use Rattle.rules.proofs.Bools.{and-left, and-right}
-use Rattle.rules.proofs.Tests.{says-no}
+use Rattle.rules.proofs.Bools.{and-left, and-right, not-true, below, all-below}
+use Rattle.rules.proofs.Tests.{says-no, refuted}
 use Rattle.rules.proofs.Matches.{starting, ending}
 use Rattle.lexicon.specs.Literals.{unit}
 use Rattle.lexicon.proofs.Groups.{unit-at, unit-byte}
-use Rattle.lexicon.proofs.Sextets.{below, all-below}
 use Rattle.eight.specs.Joined.{joined, Joins}
 
 pub data Operation : Type 0 where
-  and : Operation
-  or : Operation
-  xor : Operation
-  plus : Operation
+  And : Operation
+  Or : Operation
+  Xor : Operation
+  Plus : Operation
 
 abbrev pub of : Operation → ℕ → ℕ → ℕ
-of and = bitAnd
-of or = bitOr
-of xor = bitXor
-of plus = _+_
+of And = bitAnd
+of Or = bitOr
+of Xor = bitXor
+of Plus = _+_
 
 -- what is computed of a byte: itself, a constant, or an operation's result
 pub data Lane : Type 0 where
   it : Lane
   always : ℕ → Lane
   result : Operation → Lane → Lane → Lane
+
+infixl 30 _or_
+infixl 35 _xor_
+infixl 40 _and_
+infixl 50 _plus_
+abbrev pub _and_ : Lane → Lane → Lane
+x and y = result And x y
+
+abbrev pub _or_ : Lane → Lane → Lane
+x or y = result Or x y
+
+abbrev pub _xor_ : Lane → Lane → Lane
+x xor y = result Xor x y
+
+abbrev pub _plus_ : Lane → Lane → Lane
+x plus y = result Plus x y
 
 -- of one byte
 abbrev alone : Lane → ℕ → ℕ
@@ -70,10 +85,10 @@ small (result o x y) b e =
 
 -- an operation works on the last byte and on the others apart
 apart : (o : Operation) (a b r s : ℕ) → r < 256 → s < 256 → of o (a * 256 + r) (b * 256 + s) ≡ of o a b * 256 + of o r s
-apart and a b r s h k = and-block 8 a b r s h k
-apart or a b r s h k = or-block 8 a b r s h k
-apart xor a b r s h k = xor-block 8 a b r s h k
-apart plus a b r s h k = omega arith
+apart And a b r s h k = and-block 8 a b r s h k
+apart Or a b r s h k = or-block 8 a b r s h k
+apart Xor a b r s h k = xor-block 8 a b r s h k
+apart Plus a b r s h k = omega arith
 
 next : (n : ℕ) (l : Lane) (w b : ℕ) → fits l b ≡ true → together (suc n) l (w * 256 + b) ≡ together n l w * 256 + alone l b
 next n it w b e = refl
@@ -86,10 +101,10 @@ next n (result o x y) w b e =
     ∙ apart o (together n x w) (together n y w) (alone x b) (alone y b) (small x b p) (small y b q)
 
 of-zero : (o : Operation) → of o 0 0 ≡ 0
-of-zero and = refl
-of-zero or = refl
-of-zero xor = refl
-of-zero plus = refl
+of-zero And = refl
+of-zero Or = refl
+of-zero Xor = refl
+of-zero Plus = refl
 
 together-none : (l : Lane) → together 0 l 0 ≡ 0
 together-none it = refl
@@ -109,7 +124,7 @@ same-equal false false e = refl
 
 -- the two results are equal exactly for the bytes of the class
 unfoldable pub tells : Lane → Lane → Class → ℕ → Bool
-tells x y c b = (fits x b && fits y b) && same (eqb (alone x b) (alone y b)) (has c b)
+tells x y c b = same (eqb (alone x b) (alone y b)) (has c b) && (fits x b && fits y b)
 
 unit-rest : {text : List ℕ} {c : Class} (n : ℕ) {i j : ℕ} → Takes text (unit (suc n) c) i j → Takes text (unit n c) (i + 1) j
 unit-rest n (both (byte a e) u) = starting e u
@@ -127,19 +142,19 @@ module _ (x y : Lane) (c : Class) (t : below (tells x y c) 256 ≡ true) (text :
       let b : ℕ = getD text i 0 in
       let w : ℕ = joined text (i + 1) n in
       let a = all-below (tells x y c) 256 t (f i) in
-      let g = and-left (fits x b && fits y b) (same (eqb (alone x b) (alone y b)) (has c b)) a in
+      let s = same-equal (eqb (alone x b) (alone y b)) (has c b) (and-left (same (eqb (alone x b) (alone y b)) (has c b)) (fits x b && fits y b) a) in
+      let g = and-right (same (eqb (alone x b) (alone y b)) (has c b)) (fits x b && fits y b) a in
       let p = and-left (fits x b) (fits y b) g in
       let q = and-right (fits x b) (fits y b) g in
-      let s = same-equal (eqb (alone x b) (alone y b)) (has c b) (and-right (fits x b && fits y b) (same (eqb (alone x b) (alone y b)) (has c b)) a) in
-      let again = says n (i + 1) (omega arith) f in
-      let e : i + 1 + n ≡ i + suc n = omega arith in
       let l = next n x w b p in
       let m = next n y w b q in
-      let u = small x b p in
-      let v = small y b q in
+      let e : i + 1 + n ≡ i + suc n = omega arith in
+      let again = says n (i + 1) (omega arith) f in
       record {
         true-holds = λ o.
             let z = eqb-true (together (suc n) x (w * 256 + b)) (together (suc n) y (w * 256 + b)) o in
+            let u = small x b p in
+            let v = small y b q in
             both
             (byte {i = i} (omega arith, sym s ∙ eq-eqb (alone x b) (alone y b) (omega (arith, l, m, u, v, z))) refl)
             (ending e (again .true-holds (eq-eqb (together n x w) (together n y w) (omega (arith, l, m, u, v, z)))));
@@ -149,9 +164,11 @@ module _ (x y : Lane) (c : Class) (t : below (tells x y c) 256 ≡ true) (text :
             eq-eqb (together (suc n) x (w * 256 + b)) (together (suc n) y (w * 256 + b)) (omega (arith, l, m, z, o));
       }
 
-  pub lanes-say : {at w : ℕ} → at + 8 ≤ length text → Joins text at 8 w → Says (eqb (together 8 x w) (together 8 y w)) (Takes text (unit 8 c) at (at + 8))
-  lanes-say {at} h j =
-      subst⁻¹ (λ (w : ℕ). Says (eqb (together 8 x w) (together 8 y w)) (Takes text (unit 8 c) at (at + 8))) (j .number-is) (says 8 at h (j .bytes))
+  -- the comparison of eight bytes at once says whether all are of the class
+  pub lanes-say : {at w : ℕ} → Joins text at 8 w → Says (eqb (together 8 x w) (together 8 y w)) (Takes text (unit 8 c) at (at + 8))
+  lanes-say {at} j =
+      subst⁻¹ (λ (w : ℕ). Says (eqb (together 8 x w) (together 8 y w)) (Takes text (unit 8 c) at (at + 8))) (j .number-is) (says 8 at (j .within) (j .bytes))
 
-pub too-short : {text : List ℕ} (c : Class) {at : ℕ} → length text < at + 8 → Says false (Takes text (unit 8 c) at (at + 8))
-too-short c {at} h = says-no (λ u. omega (arith, h, unit-byte 8 c at u 7 (omega arith) .0))
+-- no eight bytes are left
+pub none-left : {text : List ℕ} (c : Class) {at : ℕ} {o : Bool} → Says o (at + 8 ≤ length text) → not o ≡ true → Says false (Takes text (unit 8 c) at (at + 8))
+none-left c {at} {o} s e = says-no (λ u. refuted s (not-true o e) (omega (arith, unit-byte 8 c at u 7 (omega arith) .0)))

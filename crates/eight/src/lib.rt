@@ -1,15 +1,58 @@
-// Eight bytes of a text at one step: read as one number they are tested all at once.
+// Eight bytes of a text at one step: read as one number they are tested all at once. What is computed of the number is computed
+// of each byte, since no sum of a byte reaches the next, and the answer stands in the bytes' high bits.
 ghost use Prim.Native.Nat.{_+_, _≤_};
 ghost use lib.ListN.{length};
 ghost use Rattle.rules.specs.Test.{Says};
 ghost use Rattle.rules.specs.Rule.{Takes};
+ghost use Rattle.lexicon.specs.Bytes.{wordRest};
+ghost use Rattle.lexicon.specs.Space.{notGrave};
+ghost use Rattle.lexicon.specs.Literals.{unit, plainByte};
 ghost use Rattle.lexicon.specs.Steps as Steps;
 ghost use Rattle.eight.specs.Joined.{Joins};
 
-// The high bit of each byte.
-const HIGH: u64 = 0x8080_8080_8080_8080;
+// Times a byte, that byte eight times.
+const EACH: u64 = 0x0101_0101_0101_0101;
 
-// The two bytes from `at` on as one number, the first the least. Bytes put together by twos are one load to the compiler.
+// The high bit of each byte, and the others.
+const HIGH: u64 = 0x80 * EACH;
+
+const LOW: u64 = 0x7F * EACH;
+
+// The bytes that are not plain; and the bit that only the case of a letter differs in.
+const QUOTE: u64 = 0x22 * EACH;
+
+const BACKSLASH: u64 = 0x5C * EACH;
+
+const GRAVE: u64 = 0x60 * EACH;
+
+const CASE: u64 = 0x20 * EACH;
+
+// Added to bytes below 0x80, each sets the high bit of those from a certain one on: from a byte or from behind it.
+const FROM_SPACE: u64 = (0x80 - 0x20) * EACH;
+
+const FROM_0: u64 = (0x80 - 0x30) * EACH;
+
+const BEHIND_9: u64 = (0x80 - 0x3A) * EACH;
+
+const FROM_LOW_LINE: u64 = (0x80 - 0x5F) * EACH;
+
+const BEHIND_LOW_LINE: u64 = (0x80 - 0x60) * EACH;
+
+const FROM_A: u64 = (0x80 - 0x61) * EACH;
+
+const BEHIND_Z: u64 = (0x80 - 0x7B) * EACH;
+
+// Whether eight bytes stand from `at` on.
+fn left(text: &[u8], at: usize) -> bool
+    ensures { λ r. ⌜ Says r (at + 8 ≤ length (now (text .entry))) ⌝ }
+{
+    if text.len() < 8 {
+        return false;
+    }
+    at <= text.len() - 8
+}
+
+// The two bytes from `at` on as one number, the first the least. By twos, so that the compiler makes one load of eight.
 fn two(text: &[u8], at: usize) -> u64
     requires { ⌜ at + 2 ≤ length (now text) ⌝ }
     ensures { λ r. ⌜ Joins (now (text .entry)) at 2 r ⌝ }
@@ -35,11 +78,48 @@ fn eight(text: &[u8], at: usize) -> u64
 pub fn ascii(text: &[u8], at: usize) -> bool
     ensures { λ r. ⌜ Says r (Takes (now (text .entry)) Steps.eight at (at + 8)) ⌝ }
 {
-    if text.len() < 8 {
-        return false;
-    }
-    if at > text.len() - 8 {
+    if !left(text, at) {
         return false;
     }
     eight(text, at) & HIGH == 0
+}
+
+// Whether eight bytes but the grave accent stand from `at` on: where the low bits differ from its, a sum sets the high bit.
+pub fn no_grave(text: &[u8], at: usize) -> bool
+    ensures { λ r. ⌜ Says r (Takes (now (text .entry)) (unit 8 notGrave) at (at + 8)) ⌝ }
+{
+    if !left(text, at) {
+        return false;
+    }
+    let x = eight(text, at) ^ GRAVE;
+    ((x & LOW) + LOW | x) & HIGH == HIGH
+}
+
+// Whether eight plain bytes of a quoted text stand from `at` on: ASCII from the space on, but three.
+pub fn plain(text: &[u8], at: usize) -> bool
+    ensures { λ r. ⌜ Says r (Takes (now (text .entry)) (unit 8 plainByte) at (at + 8)) ⌝ }
+{
+    if !left(text, at) {
+        return false;
+    }
+    let w = eight(text, at);
+    let v = w & LOW;
+    let others = (v ^ QUOTE) + LOW & (v ^ BACKSLASH) + LOW & (v ^ GRAVE) + LOW;
+    v + FROM_SPACE & others & (w ^ HIGH) & HIGH == HIGH
+}
+
+// Whether eight bytes that continue a word stand from `at` on: letters, digits and the low line.
+pub fn word_rest(text: &[u8], at: usize) -> bool
+    ensures { λ r. ⌜ Says r (Takes (now (text .entry)) (unit 8 wordRest) at (at + 8)) ⌝ }
+{
+    if !left(text, at) {
+        return false;
+    }
+    let w = eight(text, at);
+    let v = w & LOW;
+    let u = v | CASE;
+    let letter = u + FROM_A ^ u + BEHIND_Z;
+    let digit = v + FROM_0 ^ v + BEHIND_9;
+    let low_line = v + FROM_LOW_LINE ^ v + BEHIND_LOW_LINE;
+    (letter | digit | low_line) & (w ^ HIGH) & HIGH == HIGH
 }

@@ -1,16 +1,14 @@
 -- The values of digits: a base-64 character's is its place in the alphabet, and a digit's is below its base. Assumes nothing.
-use mathlib.Core.Path.{_≡_, refl, sym, subst}
+use mathlib.Core.Path.{_≡_, refl}
 use mathlib.Core.Logic.{⊎-elim}
 use mathlib.Core.Bool.{Bool, true, _&&_, _||_, not}
 use mathlib.Core.List.{[], _∷_}
-use Prim.Native.Nat.{ℕ, zero, suc, _<_}
-use native.Mathlib.Decide.{ℕ-discrete}
-use native.Mathlib.Nat.{not-suc-le-zero}
+use Prim.Native.Nat.{ℕ, _<_}
 use native.Mathlib.Omega.{arith}
 use lib.Dec.{eqb, ltb}
 use borrow.Author.Tests.{eqb-true, eqb-false, ltb-true}
 use Rattle.rules.specs.Class.{byteOf, _upto_, has, In}
-use Rattle.rules.proofs.Bools.{and-left, and-right, or-cases, not-true, not-both}
+use Rattle.rules.proofs.Bools.{and-left, and-right, or-cases, not-true, not-both, below, all-below}
 use Rattle.rules.proofs.Classes.{includes, inSome, includes-in, in-high}
 use Rattle.lexicon.specs.declared.Base.{Base}
 use Rattle.lexicon.specs.declared.Base.the-variants.{Two, Eight, Ten, Sixteen}
@@ -18,21 +16,6 @@ use Rattle.lexicon.specs.Bytes.{base64, digits, radix}
 use Rattle.lexicon.specs.Base64.{character}
 use Rattle.lexicon.specs.Values.{digit}
 use Rattle.lexicon.specs.Parts.{sextet}
-
--- ---- a test of all numbers below n
-
-unfoldable pub below : (ℕ → Bool) → ℕ → Bool
-below p zero = true
-below p (suc n) = p n && below p n
-
-pub all-below : (p : ℕ → Bool) (n : ℕ) → below p n ≡ true → {v : ℕ} → v < n → p v ≡ true
-unfolding below
-all-below p zero e h = absurd (not-suc-le-zero h)
-all-below p (suc n) e {v} h = go (ℕ-discrete v n) (λ l. all-below p n (and-right (p n) (below p n) e) l)
-  where
-    go : Dec (v ≡ n) → (v < n → p v ≡ true) → p v ≡ true
-    go (yes f) again = subst (λ (x : ℕ). p x ≡ true) (sym f) (and-left (p n) (below p n) e)
-    go (no f) again = again (omega (arith, h, f))
 
 -- ---- from the value to the character
 

@@ -1,7 +1,11 @@
 -- What a computed test tells. Assumes nothing.
-use mathlib.Core.Path.{_≡_, refl, sym, _∙_}
+use mathlib.Core.Path.{_≡_, refl, sym, subst, _∙_}
 use mathlib.Core.Logic.{_⊎_, inl, inr}
 use mathlib.Core.Bool.{Bool, true, false, not, _&&_, _||_, true≢false, false≢true}
+use Prim.Native.Nat.{ℕ, zero, suc, _<_}
+use native.Mathlib.Decide.{ℕ-discrete}
+use native.Mathlib.Nat.{not-suc-le-zero}
+use native.Mathlib.Omega.{arith}
 
 pub and-left : (a b : Bool) → (a && b) ≡ true → a ≡ true
 and-left true b e = refl
@@ -51,3 +55,17 @@ not-both false p q = false≢true p
 pub not-true : (b : Bool) → not b ≡ true → b ≡ false
 not-true true e = sym e
 not-true false e = refl
+
+-- a test of all numbers below n
+unfoldable pub below : (ℕ → Bool) → ℕ → Bool
+below p zero = true
+below p (suc n) = p n && below p n
+
+pub all-below : (p : ℕ → Bool) (n : ℕ) → below p n ≡ true → {v : ℕ} → v < n → p v ≡ true
+unfolding below
+all-below p zero e h = absurd (not-suc-le-zero h)
+all-below p (suc n) e {v} h = go (ℕ-discrete v n) (λ l. all-below p n (and-right (p n) (below p n) e) l)
+  where
+    go : Dec (v ≡ n) → (v < n → p v ≡ true) → p v ≡ true
+    go (yes f) again = subst (λ (x : ℕ). p x ≡ true) (sym f) (and-left (p n) (below p n) e)
+    go (no f) again = again (omega (arith, h, f))

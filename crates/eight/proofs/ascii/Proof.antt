@@ -2,28 +2,25 @@
 use borrow.Author.Needs.{needs}
 use mathlib.Core.Path.{refl}
 use mathlib.Core.List.{[], _∷_}
-use native.Mathlib.Omega.{arith}
 use Rattle.rules.specs.Class.{_upto_, has}
-use Rattle.lexicon.proofs.Sextets.{below}
-use Rattle.eight.proofs.Lanes.{it, always, result, and, tells, lanes-say, too-short}
+use Rattle.rules.proofs.Bools.{below}
+use Rattle.rules.proofs.Tests.{shown}
+use Rattle.eight.proofs.Lanes.{it, always, _and_, tells, lanes-say, none-left}
 use Rattle.eight.proofs.ascii.Statement.{statement}
 use Rattle.eight.proofs.ascii.Tie as tie
 
+left-requires : tie.Need-left-requires
+left-requires c κs = search needs
+
 returns : tie.Need-returns
-returns c = too-short (0x00 upto 0x7F ∷ []) (omega arith)
-
-sub-if2 : tie.Need-sub-if2
-sub-if2 c = search needs
-
-returns-2 : tie.Need-returns-2
-returns-2 c = too-short (0x00 upto 0x7F ∷ []) (omega arith)
+returns c = none-left (0x00 upto 0x7F ∷ []) (c .before .left .ensures) (c .if1 .taken)
 
 eight-requires : tie.Need-eight-requires
-eight-requires c κs = search needs
+eight-requires c κs = shown (c .before .left .ensures) (c .if1 .left)
 
-returns-3 : tie.Need-returns-3
+returns-2 : tie.Need-returns-2
 unfolding has below tells
-returns-3 c = lanes-say (result and it (always 0x80)) (always 0) (0x00 upto 0x7F ∷ []) refl _ (omega arith) (c .eight .ensures)
+returns-2 c = lanes-say (it and always 0x80) (always 0) (0x00 upto 0x7F ∷ []) refl _ (c .eight .ensures)
 
 pub ascii-spec : {M : Type 1} → statement M
-ascii-spec = tie.close (tie.spec returns sub-if2 returns-2 eight-requires returns-3)
+ascii-spec = tie.close (tie.spec left-requires returns eight-requires returns-2)

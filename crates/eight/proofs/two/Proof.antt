@@ -29,7 +29,7 @@ add-result-2 c =
     omega (arith, c .shared-slice-known2 .given (c .before .before .args .at), c .shared-slice-known2 .given (c .before .before .args .at + 1))
 
 returns : tie.Need-returns
-returns c = joins-two (c .before .before .args .at) (λ k. c .shared-slice-known2 .given k .fits)
+returns c = joins-two (c .before .before .args .at) (omega arith) (λ k. c .shared-slice-known2 .given k .fits)
 
 pub two-spec : {M : Type 1} → statement M
 two-spec =
