@@ -18,7 +18,7 @@ const HIGH: u64 = 0x80 * EACH;
 
 const LOW: u64 = 0x7F * EACH;
 
-// The bytes that are not plain; and the bit that only the case of a letter differs in.
+// Bytes of ASCII that are not plain, and the bit in which a letter's two cases differ.
 const QUOTE: u64 = 0x22 * EACH;
 
 const BACKSLASH: u64 = 0x5C * EACH;
@@ -84,7 +84,7 @@ pub fn ascii(text: &[u8], at: usize) -> bool
     eight(text, at) & HIGH == 0
 }
 
-// Whether eight bytes but the grave accent stand from `at` on: where the low bits differ from its, a sum sets the high bit.
+// Whether eight bytes stand from `at` on, none of them the grave accent: a byte of `x` is 0 for that one only.
 pub fn no_grave(text: &[u8], at: usize) -> bool
     ensures { λ r. ⌜ Says r (Takes (now (text .entry)) (unit 8 notGrave) at (at + 8)) ⌝ }
 {
@@ -95,7 +95,7 @@ pub fn no_grave(text: &[u8], at: usize) -> bool
     ((x & LOW) + LOW | x) & HIGH == HIGH
 }
 
-// Whether eight plain bytes of a quoted text stand from `at` on: ASCII from the space on, but three.
+// Whether eight bytes stand from `at` on that mean themselves in a quoted text: ASCII from the space on, but three.
 pub fn plain(text: &[u8], at: usize) -> bool
     ensures { λ r. ⌜ Says r (Takes (now (text .entry)) (unit 8 plainByte) at (at + 8)) ⌝ }
 {

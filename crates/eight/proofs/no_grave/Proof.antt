@@ -2,15 +2,15 @@
 use borrow.Author.Needs.{needs}
 use mathlib.Core.Path.{refl}
 use Rattle.rules.specs.Class.{has}
-use Rattle.lexicon.specs.Space.{notGrave}
 use Rattle.rules.proofs.Bools.{below}
 use Rattle.rules.proofs.Tests.{shown}
+use Rattle.lexicon.specs.Space.{notGrave}
 use Rattle.eight.proofs.Lanes.{Lane, it, always, _and_, _or_, _xor_, _plus_, tells, lanes-say, none-left}
 use Rattle.eight.proofs.Sums.{sums}
 use Rattle.eight.proofs.no_grave.Statement.{statement}
 use Rattle.eight.proofs.no_grave.Tie as tie
 
--- what differs from it
+-- 0 for the grave accent, and the sum whose high bit says that the low bits are not 0
 abbrev x : Lane
 x = it xor always 0x60
 

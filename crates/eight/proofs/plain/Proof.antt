@@ -3,9 +3,9 @@ use borrow.Author.Needs.{needs}
 use mathlib.Core.Path.{refl}
 use Prim.Native.Nat.{ℕ}
 use Rattle.rules.specs.Class.{has}
-use Rattle.lexicon.specs.Literals.{plainByte}
 use Rattle.rules.proofs.Bools.{below}
 use Rattle.rules.proofs.Tests.{shown}
+use Rattle.lexicon.specs.Literals.{plainByte}
 use Rattle.eight.proofs.Lanes.{Lane, it, always, _and_, _xor_, _plus_, tells, lanes-say, none-left}
 use Rattle.eight.proofs.Sums.{sums}
 use Rattle.eight.proofs.plain.Statement.{statement}

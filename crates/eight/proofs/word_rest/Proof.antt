@@ -3,9 +3,9 @@ use borrow.Author.Needs.{needs}
 use mathlib.Core.Path.{refl}
 use Prim.Native.Nat.{ℕ, _-_}
 use Rattle.rules.specs.Class.{has}
-use Rattle.lexicon.specs.Bytes.{wordRest}
 use Rattle.rules.proofs.Bools.{below}
 use Rattle.rules.proofs.Tests.{shown}
+use Rattle.lexicon.specs.Bytes.{wordRest}
 use Rattle.eight.proofs.Lanes.{Lane, it, always, _and_, _or_, _xor_, _plus_, tells, lanes-say, none-left}
 use Rattle.eight.proofs.Sums.{sums}
 use Rattle.eight.proofs.word_rest.Statement.{statement}
