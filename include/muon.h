@@ -1,5 +1,5 @@
 /* A proved reader of MUON plain text (Muldis Object Notation 0.300.0) at the levels 1 and 2: muon_read gives the nodes
-   of a text, muon_integer, muon_text, muon_blob and muon_bits give the value of one literal.
+   of a text, muon_integer, muon_text, muon_blob and muon_bits give the value of one literal, and muon_utf8 tests bytes for UTF-8 alone.
 
    The archive is target/staticlib/libcapi.a, written by `rt staticlib capi` (x86-64); it needs no other library. Linking:
 
@@ -42,7 +42,7 @@ extern "C" {
 
 /* ---- The answer ------------------------------------------------------------------------------------------------------------- */
 
-/* A call returns the answer's number, and writes its place and its count, in every case.
+/* A call returns the answer's number, and writes its place and its count, muon_utf8 its steps in place of a count, in every case.
 
    Accepted is 0: the place is the length of the text or piece, and the count is the number of nodes written by muon_read, of bytes
    written by muon_text, muon_blob and muon_bits, and 0 for muon_integer.
@@ -54,7 +54,7 @@ extern "C" {
 
 /* The level is not 1 or 2. Place 0. */
 #define MUON_REFUSED_LEVEL 1
-/* The text or piece is longer than MUON_TEXT_MAX. Place 0. */
+/* The text or piece is longer than MUON_TEXT_MAX. Place 0. muon_utf8 takes any length. */
 #define MUON_REFUSED_TOO_LONG 2
 /* Not UTF-8. The first byte at which, reading well-formed sequences from the front, none begins. */
 #define MUON_REFUSED_NOT_UTF8 3
@@ -85,7 +85,8 @@ extern "C" {
    muon_integer: 2, 3, 9, 10 in this order, and no other.
    muon_text, muon_blob: 2, 3, 9, 5, 8 in this order, and no other. A piece that gets 8 is accepted with a buffer of count bytes
    (proved; `told-room` in `crates/values/proofs/Fits.antt`).
-   muon_bits: the same without 5. */
+   muon_bits: the same without 5.
+   muon_utf8: 3, and no other. */
 
 /* ---- The nodes -------------------------------------------------------------------------------------------------------------- */
 
@@ -158,7 +159,7 @@ extern "C" {
 /* Memory, for every call: all of it stays the caller's. Nothing is kept when the call returns, nothing is allocated, and there is no
    global state, so calls may run in several threads, each with memory of its own to be written; what is only read may be shared.
    The caller sees to it that what is lent is of the lengths told, aligned as C has it for its type, does not overlap, and is not changed
-   by another thread during the call. value, place and count must not be NULL. With length 0 text, table, piece or buffer is not
+   by another thread during the call. value, place, count and steps must not be NULL. With length 0 text, table, piece or buffer is not
    followed and may be NULL. */
 
 /* Reads a text at a level, and writes its nodes to a lent table.
@@ -233,6 +234,20 @@ uint32_t muon_blob(const uint8_t *piece, size_t piece_len, uint8_t *buffer, size
    4 * piece_len bytes are room enough for every piece, and so MUON_BITS_MAX are for any (proved; `bits-bounded` in
    `crates/values/proofs/BitsAndBlobs.antt` with `enough-room` in `crates/values/proofs/Fits.antt`). */
 uint32_t muon_bits(const uint8_t *piece, size_t piece_len, uint8_t *buffer, size_t buffer_len, size_t *place, size_t *count);
+
+/* The UTF-8 test alone: MUON_ACCEPTED, with the length for the place, or MUON_REFUSED_NOT_UTF8, with the first byte at which, reading
+   well-formed sequences from the front, none begins. It is the test that every other call makes before it gives that refusal, with the
+   same place, so a text that is not UTF-8 gets 3 from muon_read unless it gets 1 or 2; but here a text of any length is taken.
+
+   The steps are those of the test up to the place. Eight plain ASCII bytes, 00 to 7F, are one step wherever eight come next, at any
+   address; else one well-formed sequence is, so n bytes of plain ASCII take n / 8 + n % 8 steps. The look that finds no sequence at the
+   place is no step. `seventeen letters` has 3 steps. With \xFF for that byte, in the UTF-8 call `aaaaaaa\xC3\xA9bbbbbbbbb\xFF` is 3@18
+   after 10 steps: seven letters, a character of two bytes, eight letters and one.
+
+   text       text_len bytes, read only, of any number; need not end in 0
+   place      one size_t, written in every case
+   steps      one size_t, written in every case */
+uint32_t muon_utf8(const uint8_t *text, size_t text_len, size_t *place, size_t *steps);
 
 #ifdef __cplusplus
 }

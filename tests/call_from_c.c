@@ -47,6 +47,11 @@ static void bits_of_it(void) {
     call.number = muon_bits((const uint8_t *)call.text, call.length, buffer, call.bytes, &call.place, &call.count);
 }
 
+/* the steps as the count */
+static void utf8_of_it(void) {
+    call.number = muon_utf8((const uint8_t *)call.text, call.length, &call.place, &call.count);
+}
+
 static void read_nothing(void) {}
 
 /* Runs on a stack of its own, painted before; the bytes of it that were touched. */
@@ -242,6 +247,30 @@ static void bits(void) {
     if (room[0] != 1 || room[count - 1] != 1 || room[count] != 0) exit(1);
 }
 
+static void expect_utf8(const char *text, uint32_t number, size_t place, size_t steps) {
+    call.text = text;
+    call.length = strlen(text);
+    utf8_of_it();
+    if (call.number == number && call.place == place && call.count == steps) return;
+    printf("UTF-8 of %s: %u %zu %zu\n", text, (unsigned)call.number, call.place, call.count);
+    exit(1);
+}
+
+static void utf8(void) {
+    expect_utf8("", MUON_ACCEPTED, 0, 0);
+    expect_utf8("seventeen letters", MUON_ACCEPTED, 17, 3);
+    expect_utf8("aaaaaaa\xC3\xA9" "bbbbbbbbb\xFF", MUON_REFUSED_NOT_UTF8, 18, 10);
+    expect_utf8("\xFF", MUON_REFUSED_NOT_UTF8, 0, 0);
+    expect_utf8("12345678\xE2\x82", MUON_REFUSED_NOT_UTF8, 8, 1);
+    /* nothing lent */
+    size_t place = 1, steps = 1;
+    if (muon_utf8(NULL, 0, &place, &steps) != MUON_ACCEPTED || place != 0 || steps != 0) exit(1);
+    /* longer than a text that is read */
+    static uint8_t zeros[MUON_TEXT_MAX + 9];
+    if (muon_utf8(zeros, sizeof zeros, &place, &steps) != MUON_ACCEPTED || place != sizeof zeros) exit(1);
+    if (steps != sizeof zeros / 8 + sizeof zeros % 8) exit(1);
+}
+
 /* The longest ways through a literal. */
 static const char *const literals[] = {
     "",    "5",     "-0x F_F `c` 0", "1 2.3 4*0b1 0^- 0x F F", "-1/2_0*3 0^+4_0", "1/0*1^2", "0bx F_F", "0xyAAAA_AAAA AA==", "0xxFF FF",
@@ -311,10 +340,12 @@ int main(void) {
     texts();
     blobs();
     bits();
+    utf8();
     printf("muon_read %zu\n", most_touched_by_a_reading());
     printf("muon_integer %zu\n", most_touched_by(integer_of_it));
     printf("muon_text %zu\n", most_touched_by(text_of_it));
     printf("muon_blob %zu\n", most_touched_by(blob_of_it));
     printf("muon_bits %zu\n", most_touched_by(bits_of_it));
+    printf("muon_utf8 %zu\n", most_touched_by(utf8_of_it));
     return 0;
 }
