@@ -79,6 +79,40 @@ impl IntegerAnswer {
     }
 }
 
+/// The answer of [`utf8`](crate::utf8).
+#[derive(Clone, Copy, Debug, PartialEq, Eq, Hash)]
+pub struct Utf8Answer {
+    /// 0 for accepted, else 3, the number of [`Refusal::NotUtf8`].
+    pub number: u32,
+    /// The text's length if accepted, else the first byte at which no
+    /// well-formed sequence begins.
+    pub place: usize,
+    /// The steps up to the place.
+    pub steps: usize,
+}
+
+impl Utf8Answer {
+    /// Whether the text is well-formed.
+    pub fn is_accepted(&self) -> bool {
+        self.number == 0
+    }
+
+    /// [`Refusal::NotUtf8`], if the text isn't.
+    pub fn refusal(&self) -> Option<Refusal> {
+        Refusal::from_number(self.number)
+    }
+
+    /// The steps if accepted, else the refusal, for use with `?`.
+    ///
+    /// ```
+    /// assert_eq!(muon::utf8(b"frost night").accepted(), Ok(4));
+    /// assert_eq!(muon::utf8(b"\xFF").accepted(), Err(muon::Refusal::NotUtf8));
+    /// ```
+    pub fn accepted(&self) -> Result<usize, Refusal> {
+        self.refusal().map_or(Ok(self.steps), Err)
+    }
+}
+
 /// The refusals, with their numbers.
 #[derive(Clone, Copy, Debug, PartialEq, Eq, Hash)]
 #[repr(u32)]

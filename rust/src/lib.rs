@@ -46,6 +46,14 @@
 //! # Ok::<(), muon::Refusal>(())
 //! ```
 //!
+//! [`utf8`] is the UTF-8 test alone, for a text of any length; it tells its
+//! steps, too:
+//!
+//! ```
+//! let answer = muon::utf8("café".as_bytes());
+//! assert_eq!(answer.accepted(), Ok(4));
+//! ```
+//!
 //! Every input has an answer: no text, level, table, piece or buffer makes a
 //! call fail in another way.  The proofs stand in the repository's crates;
 //! this package adds the `unsafe` calls, whose pointers and lengths are
@@ -62,9 +70,11 @@ mod answer;
 mod node;
 mod raw;
 mod reading;
+mod utf8;
 mod value;
 
-pub use answer::{Answer, IntegerAnswer, Refusal};
+pub use answer::{Answer, IntegerAnswer, Refusal, Utf8Answer};
 pub use node::{detail, kind, nodes, role, Node, Nodes};
 pub use reading::{read, DEPTH_MAX, NODES_MAX, NODE_WORDS, STACK_MAX, TABLE_MAX, TEXT_MAX};
+pub use utf8::utf8;
 pub use value::{bits, blob, integer, text, BITS_MAX};

@@ -45,4 +45,7 @@ extern "C" {
         place: *mut usize,
         count: *mut usize,
     ) -> u32;
+
+    pub fn muon_utf8(text: *const u8, text_len: usize, place: *mut usize, steps: *mut usize)
+        -> u32;
 }
