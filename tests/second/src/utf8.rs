@@ -1,4 +1,6 @@
-//! UTF-8 as the Unicode Standard defines it.
+//! UTF-8 as the Unicode Standard defines it, and the test of request 2.
+
+use crate::answer::NOT_UTF8;
 
 /// The character that begins at `at` and the place behind it, if a
 /// well-formed sequence begins there.
@@ -33,6 +35,42 @@ pub fn first_bad(text: &[u8]) -> usize {
         at = end;
     }
     at
+}
+
+/// So many plain ASCII bytes are one step.
+const EIGHT: usize = 8;
+
+/// What the test answers: 0 and the text's length, or 3 and the first byte at
+/// which no well-formed sequence begins; and the steps up to that place.
+#[derive(Clone, Copy, Debug, PartialEq, Eq)]
+pub struct Tested {
+    pub number: u32,
+    pub place: usize,
+    pub steps: usize,
+}
+
+/// The test of a text of any length, in steps as request 2 has them.
+pub fn test(text: &[u8]) -> Tested {
+    let (mut place, mut steps) = (0, 0);
+    while let Some(end) = stride(text, place) {
+        place = end;
+        steps += 1;
+    }
+    let number = if place == text.len() { 0 } else { NOT_UTF8 };
+    Tested {
+        number,
+        place,
+        steps,
+    }
+}
+
+/// The place behind one step: eight plain ASCII bytes wherever eight come
+/// next, else one sequence.
+fn stride(text: &[u8], at: usize) -> Option<usize> {
+    match text.get(at..at + EIGHT) {
+        Some(eight) if eight.is_ascii() => Some(at + EIGHT),
+        _ => step(text, at).map(|(_, end)| end),
+    }
 }
 
 /// The bytes of a character; `code` must be one.
@@ -84,6 +122,76 @@ mod tests {
                     }
                 }
             }
+        }
+    }
+
+    fn tested(number: u32, place: usize, steps: usize) -> Tested {
+        Tested {
+            number,
+            place,
+            steps,
+        }
+    }
+
+    #[test]
+    fn the_readings_of_request_2() {
+        for (text, want) in [
+            (&b"aaaaaaaaaaaaaaaaa"[..], tested(0, 17, 3)),
+            (b"aaaaaaa\xC3\xA9bbbbbbbbb\xFF", tested(NOT_UTF8, 18, 10)),
+            (b"\xFF", tested(NOT_UTF8, 0, 0)),
+            (b"", tested(0, 0, 0)),
+        ] {
+            assert_eq!(test(text), want, "{}", text.escape_ascii());
+        }
+    }
+
+    /// 'For n bytes, all plain ASCII, n / 8 rounded down plus the remainder.'
+    #[test]
+    fn plain_ascii() {
+        for byte in 0..=0x7F {
+            for n in 0..100 {
+                assert_eq!(test(&vec![byte; n]), tested(0, n, n / 8 + n % 8));
+            }
+        }
+    }
+
+    /// Eight are one step at any place, but not with a longer sequence or the
+    /// end among them.
+    #[test]
+    fn eight_come_next_anywhere() {
+        for (text, want) in [
+            ("\u{e9}aaaaaaaa", tested(0, 10, 2)),
+            ("aaaaaaaa\u{e9}", tested(0, 10, 2)),
+            ("aaaaaaa\u{e9}", tested(0, 9, 8)),
+            ("aaaa\u{20AC}aaaaaaaa", tested(0, 15, 6)),
+            ("aaaaaaa\u{1F600}aaaaaaaaa", tested(0, 20, 10)),
+            ("\u{e9}\u{20AC}\u{1F600}", tested(0, 9, 3)),
+        ] {
+            assert_eq!(test(text.as_bytes()), want, "{text}");
+        }
+        for (text, want) in [
+            (&b"aaaaaaaa\x80"[..], tested(NOT_UTF8, 8, 1)),
+            (b"aaaaaaa\x80", tested(NOT_UTF8, 7, 7)),
+            (b"aaaaaaaaa\xC3", tested(NOT_UTF8, 9, 2)),
+            (b"aaaaaaaaa\xC3aaaaaaaa", tested(NOT_UTF8, 9, 2)),
+            (b"\xE2\x82aaaaaaaaa", tested(NOT_UTF8, 0, 0)),
+        ] {
+            assert_eq!(test(text), want, "{}", text.escape_ascii());
+        }
+    }
+
+    /// The steps counted another way: between longer sequences, rows of plain
+    /// ASCII as in `plain_ascii`. The place is that of one sequence at a time.
+    #[test]
+    fn by_rows() {
+        for text in crate::generate::encoded_texts(7, 20_000) {
+            let place = first_bad(&text);
+            let sound = std::str::from_utf8(&text[..place]).expect("well-formed to there");
+            let longer = sound.chars().filter(|c| !c.is_ascii()).count();
+            let rows = sound.split(|c: char| !c.is_ascii());
+            let plain: usize = rows.map(|row| row.len() / 8 + row.len() % 8).sum();
+            let number = if place < text.len() { NOT_UTF8 } else { 0 };
+            assert_eq!(test(&text), tested(number, place, longer + plain));
         }
     }
 

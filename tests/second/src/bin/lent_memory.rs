@@ -1,12 +1,13 @@
-//! Reads a sample of texts, and asks for the values of a sample of pieces,
-//! through the C interface out of and into memory of exactly the size lent,
-//! to be run under valgrind: a read or write outside of it is an error there,
-//! and so is an answer that depends on what the table or buffer held, since
-//! nothing is written to it before.
+//! Reads a sample of texts, asks for the values of a sample of pieces and
+//! tests a sample of UTF-8, through the C interface out of and into memory of
+//! exactly the size lent, to be run under valgrind: a read or write outside of
+//! it is an error there, and so is an answer that depends on what the table or
+//! buffer held, since nothing is written to it before.
 //!
 //! Exits with 1 if an answer, a written word or byte, the text or the piece is
 //! not as it should be.  `lent_memory overstated` tells one byte more than there is, which
-//! valgrind must report: so it is known to look.
+//! valgrind must report: so it is known to look.  So does `lent_memory overstated-word`, where
+//! that byte is the last of eight that the UTF-8 test may read at once.
 
 // links the archive
 use muon as _;
@@ -14,9 +15,10 @@ use muon as _;
 use second::answer::{Answer, DEPTH_MAX, NODES_MAX, NODE_WORDS, TEXT_MAX};
 use second::compare::{finish, same, Compared};
 use second::generate::{
-    flipped, long_packed_pieces, long_texts, packed_pieces, pieces, random_bytes,
-    random_packed_pieces, sample_pieces, texts, Random,
+    around, encoded_texts, flipped, long_packed_pieces, long_texts, packed_pieces, pieces,
+    random_bytes, random_packed_pieces, sample_pieces, texts, Random, RUN_MAX,
 };
+use second::utf8::{self, Tested};
 use second::{samples, tree, value};
 use std::alloc::{alloc, dealloc, handle_alloc_error, Layout};
 use std::process::ExitCode;
@@ -30,6 +32,8 @@ const RANDOM_BYTES: usize = 60_000;
 const SPARSELY: usize = 40;
 /// Of the long ones.
 const LONG_SPARSELY: usize = 4;
+/// The bytes of a word, which may be read at once.
+const WORD: usize = 8;
 const LEVELS: [u32; 6] = [1, 2, 0, 3, 257, u32::MAX];
 
 extern "C" {
@@ -66,6 +70,7 @@ extern "C" {
         place: *mut usize,
         count: *mut usize,
     ) -> u32;
+    fn muon_utf8(text: *const u8, text_len: usize, place: *mut usize, steps: *mut usize) -> u32;
 }
 
 /// A call of the archive that writes to a buffer, and this package's.
@@ -101,10 +106,16 @@ impl<T: Copy> Lent<T> {
     }
 
     fn holding(items: &[T]) -> Lent<T> {
-        let lent = Lent::new(items.len());
+        Lent::holding_behind(0, items)
+    }
+
+    /// Ends with the items; so many in front of them are not written.
+    fn holding_behind(front: usize, items: &[T]) -> Lent<T> {
+        let lent = Lent::new(front + items.len());
         // SAFETY: there is memory for as many.
         unsafe {
             lent.start
+                .add(front)
                 .copy_from(NonNull::from(items).cast(), items.len())
         };
         lent
@@ -162,6 +173,34 @@ fn overstated() {
     let text = b"0123456789";
     let lent = Lent::holding(text);
     proved(2, &lent, text.len() + 1, &Lent::new(NODE_WORDS));
+}
+
+/// The same of the UTF-8 test, and eight bytes that end behind the text.
+fn overstated_word() {
+    let text = b"0123456789abcde";
+    proved_utf8(&Lent::holding(text), 0, text.len() + 1);
+}
+
+/// What the archive's test answers for so many bytes, some behind the start.
+fn proved_utf8(memory: &Lent<u8>, front: usize, told: usize) -> Tested {
+    // SAFETY: the memory is as long, except by `overstated_word`.
+    let answer = answered(|place, steps| unsafe {
+        muon_utf8(memory.start.as_ptr().add(front), told, place, steps)
+    });
+    Tested {
+        number: answer.number,
+        place: answer.place,
+        steps: answer.count,
+    }
+}
+
+/// The test of a text which ends where its memory does, so many bytes behind
+/// the start of it, held against the second program's.
+fn compare_utf8(text: &[u8], front: usize) -> Compared {
+    let memory = Lent::holding_behind(front, text);
+    let theirs = proved_utf8(&memory, front, text.len());
+    let what = format!("utf8 test behind {front} bytes");
+    same(&what, text, utf8::test(text), theirs)
 }
 
 /// One reading, held against the second program's.
@@ -287,6 +326,40 @@ fn all_values(values: &mut usize) -> Compared {
         .try_for_each(|made| piece(made, values))
 }
 
+/// Rows of ASCII, alone and with a longer sequence, one that is none or one
+/// that is broken off at every place, behind up to seven bytes: so each end
+/// is met with each number of bytes before it that are no whole word.
+fn all_tests(tests: &mut usize) -> Compared {
+    let mut test = |text: &[u8], front: usize| {
+        *tests += 1;
+        compare_utf8(text, front)
+    };
+    for row in around(&[], RUN_MAX) {
+        for front in 0..WORD {
+            test(&row, front)?;
+            for last in [
+                &b"\xC3\xA9"[..],
+                b"\xF0\x9F\x98",
+                b"\xE2\x82",
+                b"\xC3",
+                b"\xFF",
+            ] {
+                test(&[&row, last].concat(), front)?;
+            }
+        }
+    }
+    for piece in [&b"\xC3\xA9"[..], b"\xE2\x82\xAC", b"\x80"] {
+        let rows = around(&[piece], RUN_MAX);
+        for (index, row) in rows.iter().enumerate() {
+            test(row, index % WORD)?;
+        }
+    }
+    for (index, text) in encoded_texts(SEED, GENERATED).iter().enumerate() {
+        test(text, index % WORD)?;
+    }
+    Ok(())
+}
+
 fn all_readings(readings: &mut usize) -> Compared {
     let mut random = Random::new(SEED);
     for sample in samples::all() {
@@ -322,12 +395,21 @@ fn all_readings(readings: &mut usize) -> Compared {
 }
 
 fn main() -> ExitCode {
-    if std::env::args().nth(1).as_deref() == Some("overstated") {
-        overstated();
-        return ExitCode::SUCCESS;
+    match std::env::args().nth(1).as_deref() {
+        Some("overstated") => {
+            overstated();
+            return ExitCode::SUCCESS;
+        }
+        Some("overstated-word") => {
+            overstated_word();
+            return ExitCode::SUCCESS;
+        }
+        _ => {}
     }
-    let (mut readings, mut values) = (0, 0);
-    let outcome = all_readings(&mut readings).and_then(|()| all_values(&mut values));
-    let compared = format!("{readings} readings, {values} values");
+    let (mut readings, mut values, mut tests) = (0, 0, 0);
+    let outcome = all_readings(&mut readings)
+        .and_then(|()| all_values(&mut values))
+        .and_then(|()| all_tests(&mut tests));
+    let compared = format!("{readings} readings, {values} values, {tests} UTF-8 tests");
     finish("lent_memory", &compared, outcome)
 }

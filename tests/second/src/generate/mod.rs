@@ -2,6 +2,7 @@
 
 mod bytes;
 mod damage;
+mod encoded;
 mod flip;
 mod grammar;
 mod long;
@@ -11,6 +12,7 @@ mod pieces;
 mod random;
 
 pub use bytes::random_bytes;
+pub use encoded::{around, encoded_texts, BAD, LONGER, RUN_MAX};
 pub use flip::flipped;
 pub use grammar::Made;
 pub use long::{long_shapes, long_texts, Shape};
