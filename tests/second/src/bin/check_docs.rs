@@ -47,6 +47,11 @@ impl Library for Proved {
         written(muon::bits, piece)
     }
 
+    fn utf8(&self, text: &[u8]) -> (u32, usize, usize) {
+        let answer = muon::utf8(text);
+        (answer.number, answer.place, answer.steps)
+    }
+
     fn tokens(&self, text: &[u8]) -> (Vec<(usize, usize)>, Option<usize>) {
         let mut spans = Vec::new();
         let mut at = archive::begin(text);
@@ -201,6 +206,7 @@ fn self_test(repository: &Repository, root: &Path) -> Result<(), String> {
         "`5` is 6@0",
         "`29 56` has the value 29",
         "`0xxA705` has the bytes A7 50",
+        "`seventeen letters` has 4 steps",
         "`1..10` has the tokens `1.`, `.10`",
         "    $ printf '5' | target/bin/muon\n    ok 2 2\n",
     ];
@@ -209,6 +215,7 @@ fn self_test(repository: &Repository, root: &Path) -> Result<(), String> {
         "[a](docs/MAP.md), `(5:y,)` is 6@4, `29 56` has the value 2956",
         "`1..10` has the tokens `1`, `..`, `10`",
         "`0xxA705` has the bytes A7 05, `0bo17` has the bits 0 0 1 1 1 1",
+        "`seventeen letters` has 3 steps, in the UTF-8 call `a\\xFF` is 3@1",
         "    $ printf '5' | target/bin/muon\n    ok 2 1\n    3 0 1 0 0 0\n",
     ];
     if let Some(text) = wrong.iter().find(|text| findings(text) == 0) {

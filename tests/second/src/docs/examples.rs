@@ -9,7 +9,9 @@
 //!   OTHER" or "TEXT has no characters", by the Text call; "TEXT has the bytes
 //!   A7 05" or "TEXT has no bytes", by the Blob call; "TEXT has the bits 0 1 1"
 //!   or "TEXT has no bits", by the Bits call; where the sentence names a call
-//!   before, "TEXT is 9@0" is that call's.
+//!   before, "TEXT is 9@0" is that call's;
+//! * "TEXT has 3 steps" and, where the sentence names it, "TEXT is 3@8 after 1
+//!   step", by the UTF-8 call. There `\xFF` in a text is that byte.
 //!
 //! In a table with the columns "text", "old reader" and "new reader" or "both
 //! readers": an answer, nodes, a number of nodes, or "the same" as before.
@@ -19,7 +21,7 @@ use super::markup::{one_spaced, Block, Part, Passage};
 use super::{Document, Finding};
 use crate::answer::{Answer, NODES_MAX, NODE_WORDS, NO_TOKEN};
 use crate::token::Lexed;
-use crate::{front, token, tree, value};
+use crate::{front, token, tree, utf8, value};
 
 #[derive(Clone, Debug, PartialEq, Eq)]
 pub enum Call {
@@ -29,6 +31,7 @@ pub enum Call {
     Text,
     Blob,
     Bits,
+    Utf8,
     /// The text is a command.
     Shell,
 }
@@ -49,6 +52,8 @@ pub enum Want {
     Characters(String),
     /// Of a Blob, or 0 and 1 of Bits.
     Bytes(Vec<u8>),
+    /// Of the UTF-8 test.
+    Steps(usize),
     Writes(String),
 }
 
@@ -70,6 +75,7 @@ enum Asked {
     Text,
     Blob,
     Bits,
+    Utf8,
 }
 
 impl Asked {
@@ -81,6 +87,7 @@ impl Asked {
             Asked::Text => vec![Call::Text],
             Asked::Blob => vec![Call::Blob],
             Asked::Bits => vec![Call::Bits],
+            Asked::Utf8 => vec![Call::Utf8],
         }
     }
 }
@@ -217,13 +224,35 @@ fn leading_value(text: &str) -> Option<(Call, Vec<u8>)> {
     None
 }
 
-/// "3 nodes" or "1 node".
-fn leading_count(text: &str) -> Option<usize> {
+/// "3 nodes" or "1 node"; so of steps.
+fn leading_count(text: &str, noun: &str) -> Option<usize> {
     let (_, behind) = text.split_once(' ')?;
     behind
-        .starts_with("node")
+        .starts_with(noun)
         .then(|| leading_number(text))
         .flatten()
+}
+
+/// The bytes of a text, in which `\xFF` is that byte.
+fn unescaped(text: &str) -> Vec<u8> {
+    let mut bytes = Vec::new();
+    let mut rest = text;
+    while let Some((before, behind)) = rest.split_once("\\x") {
+        bytes.extend(before.bytes());
+        let digits = behind.get(..2);
+        match digits.and_then(|digits| u8::from_str_radix(digits, 16).ok()) {
+            Some(byte) => {
+                bytes.push(byte);
+                rest = &behind[2..];
+            }
+            None => {
+                bytes.extend(b"\\x");
+                rest = behind;
+            }
+        }
+    }
+    bytes.extend(rest.bytes());
+    bytes
 }
 
 /// What a sentence asks, after what stood before and this prose of it.
@@ -240,6 +269,7 @@ fn asked(before: Asked, prose: &str) -> Asked {
         ("Text call", Asked::Text),
         ("Blob call", Asked::Blob),
         ("Bits call", Asked::Bits),
+        ("UTF-8 call", Asked::Utf8),
     ];
     for (phrase, call) in phrases {
         if sentence.contains(phrase) {
@@ -309,10 +339,14 @@ impl Reader<'_> {
         };
         let said = one_spaced(prose);
         if let Some(rest) = said.strip_prefix(" is ") {
-            let Some(((number, place), _)) = leading_answer(rest) else {
+            let Some(((number, place), end)) = leading_answer(rest) else {
                 return false;
             };
             self.add(line, text, &context.calls(), &Want::Refused(number, place));
+            let after = rest[end..].strip_prefix(" after ");
+            if let Some(steps) = after.and_then(|rest| leading_count(rest, "step")) {
+                self.add(line, text, &[Call::Utf8], &Want::Steps(steps));
+            }
             return true;
         }
         let Some(rest) = said.strip_prefix(" has ") else {
@@ -332,8 +366,10 @@ impl Reader<'_> {
                 .take_while(|code| is_node(code))
                 .collect();
             self.add(line, text, &context.calls(), &Want::Nodes(nodes));
-        } else if let Some(count) = leading_count(rest) {
+        } else if let Some(count) = leading_count(rest, "node") {
             self.add(line, text, &context.calls(), &Want::Count(count));
+        } else if let Some(steps) = leading_count(rest, "step") {
+            self.add(line, text, &[Call::Utf8], &Want::Steps(steps));
         } else if let Some(value) = rest.strip_prefix("the value ").and_then(leading_number) {
             self.add(line, text, &[Call::Integer], &Want::Value(value));
         } else if rest.starts_with("no characters") {
@@ -369,7 +405,7 @@ impl Reader<'_> {
                 Want::Same
             } else if !nodes.is_empty() {
                 Want::Nodes(nodes)
-            } else if let Some(count) = leading_count(prose) {
+            } else if let Some(count) = leading_count(prose, "node") {
                 Want::Count(count)
             } else {
                 self.fail(cell.line, &format!("no answer that can be run: {prose}"));
@@ -429,6 +465,8 @@ pub trait Library {
     fn text(&self, piece: &[u8]) -> (u32, usize, Vec<u8>);
     fn blob(&self, piece: &[u8]) -> (u32, usize, Vec<u8>);
     fn bits(&self, piece: &[u8]) -> (u32, usize, Vec<u8>);
+    /// Number, place and steps.
+    fn utf8(&self, text: &[u8]) -> (u32, usize, usize);
     /// Spans of the tokens, and the place where none starts.
     fn tokens(&self, text: &[u8]) -> (Vec<(usize, usize)>, Option<usize>);
 }
@@ -461,6 +499,11 @@ impl Library for Second {
         written(value::bits, piece)
     }
 
+    fn utf8(&self, text: &[u8]) -> (u32, usize, usize) {
+        let tested = utf8::test(text);
+        (tested.number, tested.place, tested.steps)
+    }
+
     fn tokens(&self, text: &[u8]) -> (Vec<(usize, usize)>, Option<usize>) {
         let mut spans = Vec::new();
         for found in token::list(text, front::begin(text)) {
@@ -491,6 +534,7 @@ pub fn run(example: &Example, library: &dyn Library) -> Result<(), String> {
         Call::Text => characters(&example.want, library.text(text)),
         Call::Blob => bytes(library.blob(text)),
         Call::Bits => bytes(library.bits(text)),
+        Call::Utf8 => steps(&example.want, library.utf8(&unescaped(&example.text))),
         Call::Shell => return Ok(()),
     };
     if found == example.want {
@@ -553,6 +597,14 @@ fn bytes((number, place, bytes): (u32, usize, Vec<u8>)) -> Want {
     }
 }
 
+/// The steps are told of a refused text too, if they are wanted.
+fn steps(want: &Want, (number, place, steps): (u32, usize, usize)) -> Want {
+    match (number, want) {
+        (0, _) | (_, Want::Steps(_)) => Want::Steps(steps),
+        _ => Want::Refused(number, place),
+    }
+}
+
 #[cfg(test)]
 mod tests {
     use super::*;
@@ -577,9 +629,10 @@ mod tests {
             `29 56` has the value 2956. `\"a\\n\"` has the characters `a\\n`, `\"\"` has no characters. \
             The Integer call: ` 5` is 9@0. `5` has the nodes `3 0 1 0 0 0`. \
             `0xxA705` has the bytes A7 05, `0xy` has no bytes, and `0bo17` has the bits 0 0 1 1 1 1. \
-            `0bb` has no bits. The Blob call: `0xy====` is 5@0. The Bits call: `0xx` is 9@0.";
+            `0bb` has no bits. The Blob call: `0xy====` is 5@0. The Bits call: `0xx` is 9@0. \
+            `seventeen letters` has 3 steps. The UTF-8 call: `aaaaaaaa\\xC3\\x41` is 3@8 after 1 step, and `a\\xFF` has 1 step.";
         let found = of(text);
-        assert_eq!(found.examples.len(), 18);
+        assert_eq!(found.examples.len(), 22);
         assert_eq!(wrong(text), 0);
     }
 
@@ -594,6 +647,13 @@ mod tests {
         assert_eq!(wrong("`0xxA705` has no bytes"), 1);
         assert_eq!(wrong("`0bo17` has the bits 0 0 1 1 1"), 1);
         assert_eq!(wrong("The Blob call: `0xy` is 5@0"), 1);
+        assert_eq!(wrong("`seventeen letters` has 4 steps"), 1);
+        assert_eq!(wrong("The UTF-8 call: `aaaaaaaa\\xC3` is 3@9"), 1);
+        assert_eq!(
+            wrong("The UTF-8 call: `aaaaaaaa\\xC3` is 3@8 after 8 steps"),
+            1
+        );
+        assert_eq!(wrong("The UTF-8 call: `aaaaaaaa\\xC3\\xA9` is 3@8"), 1);
         assert_eq!(wrong("an answer, 6@4, without a text"), 1);
     }
 
