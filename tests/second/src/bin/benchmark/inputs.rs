@@ -5,15 +5,22 @@ use std::iter;
 
 pub const SIZES: [usize; 3] = [1_024, 8_192, 32_768];
 
-/// A text of so many bytes.
+/// A text of so many bytes, or of fewer.
 pub type Shape = fn(usize) -> Vec<u8>;
 
-pub const SHAPES: [(&str, Shape); 8] = [
+pub const SHAPES: [(&str, Shape); 15] = [
     ("settings", settings),
-    ("comment", comment),
+    ("bare-settings", bare_settings),
+    ("comment", |size| comment(PLAIN, size)),
+    ("foreign-comment", |size| comment(FOREIGN, size)),
+    ("short-comments", short_comments),
     ("nesting", nesting),
     ("groups", groups),
+    ("quoted", |size| quoted(PLAIN, size)),
+    ("quoted-accents", |size| quoted(ACCENTED, size)),
     ("segments", segments),
+    ("word", word),
+    ("short-words", short_words),
     ("integer", integer),
     ("digits", digits),
     ("grouped-integer", grouped_integer),
@@ -31,6 +38,20 @@ pub const BITS_SHAPES: [(&str, Shape); 3] = [
     ("bits-base-8", |size| literal("0bo", "37", size)),
     ("bits-base-16", |size| literal("0bx", "F3", size)),
 ];
+
+pub const UTF8_SHAPES: [(&str, Shape); 4] = [
+    ("utf8-plain", |size| filled(PLAIN, size).into_bytes()),
+    ("utf8-accents", |size| filled(ACCENTED, size).into_bytes()),
+    ("utf8-foreign", |size| filled(FOREIGN, size).into_bytes()),
+    ("utf8-threes", |size| filled("霜の夜", size).into_bytes()),
+];
+
+/// Plain ASCII.
+const PLAIN: &str = "A page of the manual, pasted whole. ";
+/// A character of two bytes to some ten letters.
+const ACCENTED: &str = "Une page de la notice coll\u{e9}e enti\u{e8}re. ";
+/// The same in a language with characters of one, two and three bytes.
+const FOREIGN: &str = "Một trang của sách hướng dẫn, dán nguyên vào. ";
 
 /// A word so long that 32 KB of them have fewer than 1,024 nodes.
 const WORD: &str = "a_setting_with_a_name_of_33_bytes";
@@ -71,10 +92,48 @@ fn settings(size: usize) -> Vec<u8> {
     padded(text + ")\n", size)
 }
 
-fn comment(size: usize) -> Vec<u8> {
-    let words = "A page of the manual, pasted whole. ";
-    let inside: String = words.chars().cycle().take(size - 3).collect();
-    format!("`{inside}`5").into_bytes()
+/// The same without comments, and so a shorter text.
+fn bare_settings(size: usize) -> Vec<u8> {
+    let text = String::from_utf8(settings(size)).expect("settings are UTF-8");
+    let bare = text
+        .lines()
+        .map(|line| line.split('`').next().unwrap_or(line).trim_end());
+    let lines = bare.filter(|line| !line.is_empty());
+    lines
+        .flat_map(|line| [line, "\n"])
+        .collect::<String>()
+        .into()
+}
+
+/// The words again and again, and space for what no character fills.
+fn filled(words: &str, size: usize) -> String {
+    let mut text = words.repeat(size / words.len() + 1);
+    let end = (0..=size).rev().find(|at| text.is_char_boundary(*at));
+    text.truncate(end.unwrap_or(0));
+    text += &" ".repeat(size - text.len());
+    text
+}
+
+fn comment(words: &str, size: usize) -> Vec<u8> {
+    format!("`{}`5", filled(words, size - 3)).into_bytes()
+}
+
+fn short_comments(size: usize) -> Vec<u8> {
+    padded("`ab` ".repeat(size / 5 - 1) + "5", size)
+}
+
+/// One Text of one segment.
+fn quoted(words: &str, size: usize) -> Vec<u8> {
+    format!("\"{}\"", filled(words, size - 2)).into_bytes()
+}
+
+fn word(size: usize) -> Vec<u8> {
+    filled(WORD, size).into_bytes()
+}
+
+/// As a Nesting, whose names make no nodes.
+fn short_words(size: usize) -> Vec<u8> {
+    padded("::ab".repeat(size / 4), size)
 }
 
 /// Words with commas behind them, so many bytes or a little less.

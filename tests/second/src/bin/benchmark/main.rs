@@ -7,10 +7,10 @@
 
 mod inputs;
 
-use inputs::{grouped, Shape, BITS_SHAPES, BLOB_SHAPES, SHAPES, SIZES};
+use inputs::{grouped, Shape, BITS_SHAPES, BLOB_SHAPES, SHAPES, SIZES, UTF8_SHAPES};
 use second::answer::DEPTH_MAX;
 use second::generate::long_shapes;
-use second::{tree, value};
+use second::{tree, utf8, value};
 use std::hint::black_box;
 use std::process::ExitCode;
 use std::time::{Duration, Instant};
@@ -64,6 +64,10 @@ const BITS: Calls = [
         value::bits(piece, &mut lent.buffer).number
     }),
 ];
+const UTF8: Calls = [
+    ("proved", |text, _| muon::utf8(text).number),
+    ("second", |text, _| utf8::test(text).number),
+];
 
 /// Every shape that is accepted, and what it is given to.
 fn shapes() -> Vec<(&'static str, Shape, Calls)> {
@@ -75,6 +79,7 @@ fn shapes() -> Vec<(&'static str, Shape, Calls)> {
         with(&SHAPES, READ),
         with(&BLOB_SHAPES, BLOB),
         with(&BITS_SHAPES, BITS),
+        with(&UTF8_SHAPES, UTF8),
     ]
     .concat()
 }
@@ -99,7 +104,7 @@ fn times() {
         for size in SIZES {
             let text = shape(size);
             let [proved, second] = calls.map(|(_, call)| bytes_per_second(call, &text) / 1e6);
-            println!("{name} {size} {proved:.1} {second:.1}");
+            println!("{name} {} {proved:.1} {second:.1}", text.len());
         }
     }
 }
@@ -120,7 +125,7 @@ fn readings() {
             for (who, call) in calls {
                 let number = counted(call, &text, &mut lent);
                 assert_eq!(number, 0, "{name} of {size} bytes");
-                println!("{name} {size} {who}");
+                println!("{name} {} {who}", text.len());
             }
         }
     }
