@@ -1,14 +1,14 @@
 /* Lists the tokens of standard input, as the proved library finds them: a line each with kind, first byte, byte after the last,
    detail and bad. The kinds and details are those of crates/token_c/specs/Numbers.antt. */
-#include <stdint.h>
+#include "muon.h"
+
 #include <stdio.h>
 
-size_t muon_utf8(const uint8_t *text, size_t text_len);
 size_t muon_front(const uint8_t *text, size_t text_len);
 void muon_token(const uint8_t *text, size_t text_len, size_t at, uint64_t out[5]);
 
 /* One byte more than a text may have. */
-static uint8_t text[32769];
+static uint8_t text[MUON_TEXT_MAX + 1];
 
 static const char *const kinds[] = {"end",  "Ignorance", "Boolean", "Integer", "Fraction", "Bits",
                                     "Blob", "Text",      "later",   "symbol",  "no token"};
@@ -19,9 +19,9 @@ int main(void) {
         puts("text too long");
         return 1;
     }
-    size_t bad = muon_utf8(text, len);
-    if (bad < len) {
-        printf("not UTF-8 at %zu\n", bad);
+    size_t place, steps;
+    if (muon_utf8(text, len, &place, &steps) != MUON_ACCEPTED) {
+        printf("not UTF-8 at %zu\n", place);
         return 1;
     }
     size_t at = muon_front(text, len);

@@ -1,17 +1,12 @@
--- The words of an answer, and the place of the UTF-8 test. Assumes nothing.
-use mathlib.Core.Path.{_≡_, refl, sym, subst, ap, _∙_}
-use mathlib.Core.Logic.{inl, inr}
+-- The words of an answer. Assumes nothing.
+use mathlib.Core.Path.{_≡_, sym, ap, _∙_}
 use mathlib.Core.List.{List, [], _∷_}
 use Prim.Native.Nat.{ℕ}
-use lib.ListN.{length}
-use Rattle.lexicon.specs.declared.Encoding.{Encoding}
-use Rattle.lexicon.specs.declared.Encoding.the-variants as Encoding
 use Rattle.lexicon.specs.declared.Token.{Token}
 use Rattle.lexicon.specs.declared.Next.{Next}
 use Rattle.lexicon.specs.declared.Next.the-variants as Next
-use Rattle.lexicon.specs.Utf8.{Encoded}
 use Rattle.lexicon.specs.Bytes.{bit}
-use Rattle.token_c.specs.Numbers.{kindNumber, detailNumber, wordsOf, PlaceOf}
+use Rattle.token_c.specs.Numbers.{kindNumber, detailNumber, wordsOf}
 
 pub token-words : (t : Token) (a : Next) (k d b : ℕ) → a ≡ Next.Token t → k ≡ kindNumber (t .kind) → d ≡ detailNumber (t .kind) → b ≡ bit (t .bad) → (k ∷ t .first ∷ t .end ∷ d ∷ b ∷ []) ≡ wordsOf a
 token-words t a k d b e p q r =
@@ -22,9 +17,3 @@ end-words p a e = sym (ap wordsOf e)
 
 pub none-words : (p : ℕ) (a : Next) → a ≡ Next.NoToken p → (10 ∷ p ∷ p ∷ 0 ∷ 0 ∷ []) ≡ wordsOf a
 none-words p a e = sym (ap wordsOf e)
-
-pub well-formed : (text : List ℕ) (r : Encoding) → Encoded text r → r ≡ Encoding.WellFormed → PlaceOf text (length text)
-well-formed text r d e = inl (subst (Encoded text) e d, refl)
-
-pub bad-at : (text : List ℕ) (p : ℕ) (r : Encoding) → Encoded text r → r ≡ Encoding.BadAt p → PlaceOf text p
-bad-at text p r d e = inr (subst (Encoded text) e d)

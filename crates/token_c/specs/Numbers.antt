@@ -1,9 +1,7 @@
 -- The numbers by which C sees tokens. Assumes nothing.
 use mathlib.Core.Path.{_≡_}
-use mathlib.Core.Logic.{_⊎_}
 use mathlib.Core.List.{List, [], _∷_}
 use Prim.Native.Nat.{ℕ}
-use lib.ListN.{length}
 use Rattle.lexicon.specs.declared.Bound.{Bound}
 use Rattle.lexicon.specs.declared.Bound.the-variants.{Open, Less, LessEqual}
 use Rattle.lexicon.specs.declared.Sign.{Sign}
@@ -20,7 +18,6 @@ use Rattle.lexicon.specs.declared.Kind.the-variants.{Symbol, Colon, TwoColons}
 use Rattle.lexicon.specs.declared.Next.{Next}
 use Rattle.lexicon.specs.declared.Next.the-variants.{Token, End, NoToken}
 use Rattle.lexicon.specs.Bytes.{bit}
-use Rattle.lexicon.specs.Utf8.{WellFormed, BadAt}
 use Rattle.lexicon.specs.Token.{Comes}
 
 abbrev pub starNumber : Bound → Bound → ℕ
@@ -101,10 +98,6 @@ wordsOf (End p) = 0 ∷ p ∷ p ∷ 0 ∷ 0 ∷ []
 wordsOf (NoToken p) = 10 ∷ p ∷ p ∷ 0 ∷ 0 ∷ []
 
 module _ (text : List ℕ) where
-  -- the first byte at which no well-formed sequence begins, or the text length
-  abbrev pub PlaceOf : ℕ → Type 0
-  PlaceOf place = (WellFormed text × (place ≡ length text)) ⊎ BadAt text place
-
   -- the words of what comes next
   pub record TokenWords (at : ℕ) (words : List ℕ) : Type 0 where
     pub answer : Next

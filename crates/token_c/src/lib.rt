@@ -1,6 +1,5 @@
 // The tokens for C, as numbers: what the comparison with the second program calls.
 use lexicon::Bound;
-use lexicon::Encoding;
 use lexicon::Form;
 use lexicon::Head;
 use lexicon::Kind;
@@ -9,19 +8,7 @@ use lexicon::Sign;
 ghost use mathlib.Core.Path.{_≡_};
 ghost use Rattle.lexicon.specs.Bytes.{bit};
 ghost use Rattle.lexicon.specs.Front.{Front};
-ghost use Rattle.token_c.specs.Numbers.{starNumber, signNumber, headNumber, formNumber, kindNumber, detailNumber, wordsOf, PlaceOf, TokenWords};
-
-// The place of the first byte at which no well-formed sequence begins, or the text length.
-#[no_mangle]
-pub extern "C" fn muon_utf8(text: &[u8]) -> usize
-    ensures { λ r. ⌜ PlaceOf (now (text .entry)) r ⌝ }
-{
-    let answer = utf8::utf8(text);
-    match answer {
-        Encoding::WellFormed => text.len(),
-        Encoding::BadAt(place) => place,
-    }
-}
+ghost use Rattle.token_c.specs.Numbers.{starNumber, signNumber, headNumber, formNumber, kindNumber, detailNumber, wordsOf, TokenWords};
 
 // The place behind the byte-order mark and the first line.
 #[no_mangle]

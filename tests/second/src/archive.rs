@@ -3,19 +3,13 @@
 
 mod raw {
     extern "C" {
-        pub fn muon_utf8(text: *const u8, text_len: usize) -> usize;
         pub fn muon_front(text: *const u8, text_len: usize) -> usize;
         pub fn muon_token(text: *const u8, text_len: usize, at: usize, out: *mut u64);
     }
 }
 
-pub fn first_bad(text: &[u8]) -> usize {
-    // SAFETY: pointer and length are those of one live slice.
-    unsafe { raw::muon_utf8(text.as_ptr(), text.len()) }
-}
-
 pub fn begin(text: &[u8]) -> usize {
-    // SAFETY: as above.
+    // SAFETY: pointer and length are those of one live slice.
     unsafe { raw::muon_front(text.as_ptr(), text.len()) }
 }
 

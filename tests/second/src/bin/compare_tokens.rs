@@ -7,7 +7,7 @@ use second::archive;
 use second::compare::{finish, same, Compared, Difference};
 use second::generate::{long_texts, texts};
 use second::token::{self, Lexed};
-use second::{front, samples, utf8};
+use second::{front, samples};
 use std::process::ExitCode;
 use std::time::{Duration, Instant};
 
@@ -48,8 +48,6 @@ impl Counts {
 
     fn text(&mut self, text: &[u8]) -> Compared {
         self.texts += 1;
-        let bad = utf8::first_bad(text);
-        same("utf8", text, bad, archive::first_bad(text))?;
         let begin = front::begin(text);
         same("front", text, begin, archive::begin(text))?;
         self.sequence(text, begin)?;
