@@ -2,8 +2,8 @@
 -- Assumes nothing.
 use mathlib.Core.Path.{_≡_, refl, subst, sym, _∙_}
 use mathlib.Core.List.{List}
-use Prim.Native.Nat.{ℕ}
-use Rattle.rules.specs.Rule.{Rule, many, plus, opt, Takes, nothing, both, left, right, stop, more, Fails, Longest}
+use Prim.Native.Nat.{ℕ, zero, suc}
+use Rattle.rules.specs.Rule.{Rule, many, plus, opt, times, Takes, nothing, both, left, right, stop, more, Fails, Longest}
 use Rattle.rules.proofs.Matches.{forward}
 
 module _ {text : List ℕ} {r : Rule} where
@@ -17,6 +17,11 @@ module _ {text : List ℕ} {r : Rule} where
   pub snoc : {i j k : ℕ} → Takes text (many r) i j → Takes text r j k → Takes text (many r) i k
   snoc c s = join c (more s (stop refl))
 
+  -- so many in a row are a row
+  pub many-of-times : (n : ℕ) {i j : ℕ} → Takes text (times n r) i j → Takes text (many r) i j
+  many-of-times zero (nothing e) = stop e
+  many-of-times (suc n) (both s t) = more s (many-of-times n t)
+
   -- `[r+]?` is `r*`
   pub many-of-opt : {i j : ℕ} → Takes text (opt (plus r)) i j → Takes text (many r) i j
   many-of-opt (left (both t u)) = more t u
@@ -25,6 +30,11 @@ module _ {text : List ℕ} {r : Rule} where
   pub opt-of-many : {i j : ℕ} → Takes text (many r) i j → Takes text (opt (plus r)) i j
   opt-of-many (stop e) = right (nothing e)
   opt-of-many (more t u) = left (both t u)
+
+-- what takes each match of a rule takes a row of them
+pub each : {text : List ℕ} {r s : Rule} → ((i j : ℕ) → Takes text r i j → Takes text s i j) → {i j : ℕ} → Takes text (many r) i j → Takes text (many s) i j
+each f (stop e) = stop e
+each f (more t c) = more (f _ _ t) (each f c)
 
 -- the rule has at most one match from each place
 pub record Single (text : List ℕ) (r : Rule) : Type 0 where
