@@ -2,6 +2,7 @@
 pub mod front;
 pub mod joint;
 
+use eight::no_grave;
 ghost use Rattle.lexicon.specs.Space.{Skips};
 
 const GRAVE: u8 = b'`';
@@ -24,6 +25,10 @@ pub fn space(text: &[u8], at: usize) -> usize
             }
         }
         let mut i = end + 1;
+        // By eights first, since a comment may be long.
+        while no_grave(text, i) {
+            i += 8;
+        }
         loop {
             // A grave accent without a partner is no space.
             if i == text.len() {
