@@ -67,3 +67,8 @@ module _ (text : List ℕ) (r : Rule) (P : ℕ → ℕ → Type 0) (single : Sin
         true-holds = λ e. ⊎-elim (λ x. kept (u .true-holds x) s) (λ x. found t s (v .true-holds x)) (or-cases b c e);
         holds-true = λ a. ⊎-elim (λ x. or-left b c (u .holds-true x)) (λ x. or-right b c (v .holds-true x)) (which t s a);
       }
+
+  -- which a match without the property does not change
+  pub said-on : {i j k : ℕ} {b : Bool} → Takes text (many r) i j → Takes text r j k → Says b (Among text r P i j) → (P j k → ⊥) → Says b (Among text r P i k)
+  said-on t s u n =
+      record { true-holds = λ e. kept (u .true-holds e) s; holds-true = λ a. ⊎-elim (λ x. u .holds-true x) (λ p. absurd (n p)) (which t s a) }

@@ -135,8 +135,12 @@ module _ (text : List ℕ) where
   escape-begins : {i j : ℕ} → Takes text (lit "\\<") i j → At text backslash i
   escape-begins (both (byte a e) t) = a
 
+  -- a character is no bad one
+  pub character-good : {i j k : ℕ} → Takes text unescaped i j → BadEscape text i k → ⊥
+  character-good t b = never-takes text backslash unescaped backslash-unescaped (escape-begins (b .before)) t
+
   pub item-character : (i j : ℕ) → Longest text unescaped i j → Judges text item (BadEscape text) i (Literal.the-variants.At j false)
-  item-character i j l = (record { takes = left (l .takes); most = most }, says-no (λ b. never-takes text backslash unescaped backslash-unescaped (escape-begins (b .before)) (l .takes)))
+  item-character i j l = (record { takes = left (l .takes); most = most }, says-no (character-good (l .takes)))
     where
       most : {k : ℕ} → Takes text item i k → k ≤ j
       most (left t) = l .most t

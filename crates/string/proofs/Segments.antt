@@ -7,24 +7,25 @@ use Prim.Native.Nat.{ℕ, _+_, _≤_}
 use native.Mathlib.Omega.{arith}
 use lib.ListN.{getD}
 use Rattle.rules.specs.Test.{Says}
-use Rattle.rules.specs.Rule.{Rule, _then_, many, opt, lit, Takes, nothing, byte, both, left, right, stop, more, At, Longest, Fails, Among}
+use Rattle.rules.specs.Rule.{Rule, one, _then_, many, opt, lit, Takes, nothing, byte, both, left, right, stop, more, At, Longest, Fails, Among}
 use Rattle.rules.proofs.Bools.{or-cases, or-left, or-right}
 use Rattle.rules.proofs.Classes.{apart, apartSpan, apart-no}
 use Rattle.rules.proofs.Matches.{forward, starting, one-at, move-at, fails-first}
-use Rattle.rules.proofs.Chains.{Single, join, snoc, reaches}
+use Rattle.rules.proofs.Chains.{Single, join, snoc, each, reaches}
 use Rattle.rules.proofs.Ways.{never, never-takes}
 use Rattle.lexicon.specs.declared.Literal.{Literal}
 use Rattle.lexicon.specs.declared.Literal as Literal
 use Rattle.lexicon.specs.Found.{Judges}
 use Rattle.lexicon.specs.Space.{blank, sp, Skips}
-use Rattle.lexicon.specs.Literals.{unescaped, restricted, content, segment, quoted}
+use Rattle.lexicon.specs.Literals.{plainByte, unescaped, restricted, content, segment, quoted}
 use Rattle.lexicon.specs.Bad.{BadEscape, BadSegment, BadFurther, BadQuoted, inFirst, inFurther}
 use Rattle.lexicon.proofs.Spaces.{landed, skips-same}
 use Rattle.string.specs.Parts.{plainRest, item, escapedRest, BadRest}
 use Rattle.rules.proofs.Tests.{says-no}
-use Rattle.string.proofs.Among.{Strict, place, found, kept, none-among, which}
+use Rattle.string.proofs.Among.{Strict, place, found, kept, none-among, which, said-on}
 use Rattle.rules.proofs.Closed.{closed-single, closes}
-use Rattle.string.proofs.Items.{quote, backslash, backslash-unescaped, quote-restricted, quote-item, restricted-single, item-single, strict-of}
+use Rattle.string.proofs.Items.{quote, backslash, backslash-unescaped, quote-restricted, quote-item, restricted-single, item-single, item-strict, strict-of}
+use Rattle.string.proofs.Escapes.{character-good}
 
 quote-backslash : apart quote backslash ≡ true
 unfolding apart apartSpan
@@ -72,6 +73,16 @@ module _ (text : List ℕ) where
   rest-same t u =
       ⊎-elim (λ b. closed-single item quote item-single quote-item .same (to-escaped b t) (to-escaped b u))
       (λ n. closed-single restricted quote restricted-single quote-restricted .same (to-plain n t) (to-plain n u)) (which-rest t)
+
+  -- a run of plain bytes is a row of items, none of which is bad
+  pub plain-items : {i j : ℕ} → Takes text (many (one plainByte)) i j → Takes text (many item) i j
+  plain-items c = each (λ _ _ t. left (left t)) c
+
+  pub plain-said : {i j k : ℕ} {bad : Bool} → Takes text (many item) i j → Takes text (many (one plainByte)) j k → Says bad (Among text item (BadEscape text) i j) → Says bad (Among text item (BadEscape text) i k)
+  plain-said {i} {bad = bad} t (stop e) y = subst (λ (x : ℕ). Says bad (Among text item (BadEscape text) i x)) e y
+  plain-said t (more s c) y =
+      plain-said (snoc t (left (left s))) c
+      (said-on text item (BadEscape text) item-single item-strict t (left (left s)) y (character-good text (left s)))
 
   -- a row of items that has come to the closing quote
   pub rest-judged : {i j : ℕ} {bad : Bool} → Takes text (many item) i j → At text quote j → Says bad (Among text item (BadEscape text) i j) → Judges text escapedRest (BadRest text) i (Literal.the-variants.At (j + 1) bad)

@@ -5,11 +5,42 @@ use lexicon::Literal;
 use text::byte::stands;
 use text::byte::within;
 use utf8::sequence;
+ghost use Prim.Native.Nat.{_+_};
+ghost use Rattle.rules.specs.Test.{Says};
+ghost use Rattle.rules.specs.Rule.{one, many, Takes, Longest};
 ghost use Rattle.lexicon.specs.Found.{Finds, Judges};
 ghost use Rattle.lexicon.specs.Literals as Literals;
 ghost use Rattle.lexicon.specs.Bad.{BadEscape, BadSegment};
 ghost use Rattle.string.specs.Parts as Parts;
 ghost use Rattle.string.specs.Parts.{BadAngled, BadRest};
+
+// Whether a byte of ASCII stands at the place that may stand inside quotes as it is, other than a backslash.
+fn plain_byte(text: &[u8], at: usize) -> bool
+    ensures { λ r. ⌜ Says r (Takes (now (text .entry)) (one Literals.plainByte) at (at + 1)) ⌝ }
+{
+    if text.len() <= at {
+        return false;
+    }
+    match text[at] {
+        b'"' | b'\\' | b'`' => false,
+        0x20..=0x7F => true,
+        _ => false,
+    }
+}
+
+// The end of the run of such bytes at the place: by eights first, since it may be long.
+fn run(text: &[u8], at: usize) -> usize
+    ensures { λ r. ⌜ Longest (now (text .entry)) (many (one Literals.plainByte)) at r ⌝ }
+{
+    let mut i = at;
+    while eight::plain(text, i) {
+        i += 8;
+    }
+    while plain_byte(text, i) {
+        i += 1;
+    }
+    i
+}
 
 // A character that may stand inside quotes as it is, other than a backslash.
 fn character(text: &[u8], at: usize) -> Found
@@ -21,13 +52,10 @@ fn character(text: &[u8], at: usize) -> Found
     let b = text[at];
     // Of ASCII the byte decides alone.
     if b < 0x80 {
-        if b < 0x20 {
-            return Found::Nothing;
+        if plain_byte(text, at) {
+            return Found::At(at + 1);
         }
-        match b {
-            b'"' | b'\\' | b'`' => return Found::Nothing,
-            _ => return Found::At(at + 1),
-        }
+        return Found::Nothing;
     }
     // U+0080 to U+009F may not stand.
     if b == 0xC2 {
@@ -105,6 +133,7 @@ fn plain(text: &[u8], at: usize) -> Found
 {
     let mut i = at;
     loop {
+        i = run(text, i);
         let Found::At(next) = restricted(text, i) else {
             break;
         };
@@ -123,6 +152,7 @@ fn escaped(text: &[u8], at: usize) -> Literal
     let mut i = at;
     let mut bad = false;
     loop {
+        i = run(text, i);
         let Literal::At { end, bad: worse } = item(text, i) else {
             break;
         };

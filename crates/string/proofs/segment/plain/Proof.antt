@@ -1,12 +1,13 @@
--- `string::segment::plain` meets its contract: the items up to `i` are a row.
+-- `string::segment::plain` meets its contract: the items up to `i` are a row, and a run adds to it.
 -- Assumes nothing.
 use borrow.Author.Needs.{needs}
 use mathlib.Core.Path.{refl}
 use Prim.Native.Nat.{_-_}
 use native.Mathlib.Omega.{arith}
 use lib.ListN.{length}
-use Rattle.rules.specs.Rule.{many, Takes, stop}
-use Rattle.rules.proofs.Chains.{snoc}
+use Rattle.rules.specs.Rule.{many, Takes, left, stop}
+use Rattle.rules.proofs.Matches.{forward}
+use Rattle.rules.proofs.Chains.{join, snoc, each}
 use Rattle.lexicon.specs.Literals.{restricted}
 use Rattle.lexicon.proofs.Answers.{found-at, found-none}
 use Rattle.rules.proofs.Tests.{there, not-there}
@@ -25,6 +26,13 @@ abbrev μ-loop : tie.MeasureT-loop
 loop-holds : tie.Need-loop-holds Inv-loop μ-loop
 loop-holds c = stop refl
 
+run-requires : tie.Need-run-requires Inv-loop μ-loop
+run-requires c κs = search needs
+
+-- a run is part of the row
+passed : (c : tie.After-run Inv-loop μ-loop) → Takes (c .before .before .before .args .text .now) (many restricted) (c .before .before .before .args .at) (c .run .result)
+passed c = join (c .before .loop .inv) (each (λ _ _ t. left (left t)) (c .run .ensures .takes))
+
 restricted-requires : tie.Need-restricted-requires Inv-loop μ-loop
 restricted-requires c κs = search needs
 
@@ -35,10 +43,10 @@ enum-told : tie.Need-enum-told Inv-loop μ-loop
 enum-told c = search needs
 
 loop-less : tie.Need-loop-less Inv-loop μ-loop
-loop-less c = let l = found-at (c .before .next .given .1) (c .before .before .before .restricted .ensures) in omega (arith, begins-within restricted refl (l .takes), restricted-strict .less (l .takes))
+loop-less c = let l = found-at (c .before .next .given .1) (c .before .before .before .restricted .ensures) in omega (arith, forward (c .before .before .before .before .run .ensures .takes), begins-within restricted refl (l .takes), restricted-strict .less (l .takes))
 
 loop-again : tie.Need-loop-again Inv-loop μ-loop
-loop-again c = snoc (c .before .before .before .before .loop .inv) (found-at (c .before .next .given .1) (c .before .before .before .restricted .ensures) .takes)
+loop-again c = snoc (passed (c .before .before .before .before)) (found-at (c .before .next .given .1) (c .before .before .before .restricted .ensures) .takes)
 
 stands-requires : tie.Need-stands-requires Inv-loop μ-loop
 stands-requires c κs = search needs
@@ -47,10 +55,10 @@ add-t7 : tie.Need-add-t7 Inv-loop μ-loop
 add-t7 c = omega (arith, there (c .before .stands .ensures) (c .if1 .taken) .0)
 
 returns : tie.Need-returns Inv-loop μ-loop
-returns c = closes restricted quote restricted-single quote-restricted (c .before .before .before .before .before .loop .inv) (there (c .before .stands .ensures) (c .if1 .taken))
+returns c = closes restricted quote restricted-single quote-restricted (passed (c .before .before .before .before .before)) (there (c .before .stands .ensures) (c .if1 .taken))
 
 returns-2 : tie.Need-returns-2 Inv-loop μ-loop
-returns-2 c = never-closes restricted quote restricted-single quote-restricted (c .before .before .before .before .before .loop .inv) (found-none (c .before .before .enum-told .given .1) (c .before .before .before .before .restricted .ensures))
+returns-2 c = never-closes restricted quote restricted-single quote-restricted (passed (c .before .before .before .before .before)) (found-none (c .before .before .enum-told .given .1) (c .before .before .before .before .restricted .ensures))
     (not-there (c .before .stands .ensures) (c .if1 .left))
 
 pub plain-spec : {M : Type 1} → statement M
@@ -60,6 +68,7 @@ plain-spec =
     Inv-loop
     μ-loop
     loop-holds
+    run-requires
     restricted-requires
     enum-known-next
     enum-told
