@@ -6,29 +6,13 @@ use Prim.Native.Nat.{ℕ, suc, _+_, _-_, _≤_, _<_}
 use native.Mathlib.Omega.{arith}
 use lib.ListN.{length, getD}
 use Rattle.rules.specs.Test.{Says}
-use Rattle.rules.specs.Rule.{many, Takes, byte, left, stop, more, Longest, Fails}
-use Rattle.rules.proofs.Classes.{apart, apartSpan}
-use Rattle.rules.proofs.Chains.{longest}
-use Rattle.rules.proofs.Ways.{never}
+use Rattle.rules.specs.Rule.{many, Takes, byte, left, stop, more, Fails}
 use Rattle.rules.proofs.Tests.{refuted}
 use Rattle.rules.proofs.Matches.{ending, forward}
 use Rattle.lexicon.specs.Utf8.{range, sequence}
 use Rattle.lexicon.specs.Steps.{eight, Steps, eightBytes, oneSequence, TestedAs}
 use Rattle.lexicon.specs.declared.Encoding.the-variants.{WellFormed, BadAt}
-use Rattle.lexicon.proofs.Spaces.{byte-single}
 use Rattle.lexicon.proofs.Steps.{eight-end, no-eight-next, steps-reach}
-use Rattle.text.proofs.Ranges.{in-range}
-use Rattle.text.proofs.Searches.{fails, fails-end}
-
--- ---- a run of plain bytes ends at any other, or with the text
-
-module _ {text : List ℕ} {at i : ℕ} (run : Takes text (many (range 0x00 0x7F)) at i) where
-  pub plain-ends : i < length text → 0x80 ≤ getD text i 0 → getD text i 0 < 256 → Longest text (many (range 0x00 0x7F)) at i
-  unfolding never apart apartSpan
-  plain-ends here high fits = longest (byte-single _) run (fails refl (in-range text 0x80 0xFF i here high (omega arith)))
-
-  pub plain-all : length text ≤ i → Longest text (many (range 0x00 0x7F)) at i
-  plain-all end = longest (byte-single _) run (fails-end refl end)
 
 module _ {text : List ℕ} where
   -- what the look at eight bytes says where they are not all plain

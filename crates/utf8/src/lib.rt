@@ -66,10 +66,7 @@ fn plain(text: &[u8], at: usize) -> usize
     ensures { λ r. ⌜ Longest (now (text .entry)) (many (Utf8.range 0x00 0x7F)) at r ⌝ }
 {
     let mut i = at;
-    while i < text.len() {
-        if text[i] >= 0x80 {
-            return i;
-        }
+    while within(text, i, 0x00, 0x7F) {
         i += 1;
     }
     i

@@ -1,13 +1,15 @@
 -- `utf8::plain` meets its contract: the bytes up to `i` are plain. Assumes nothing.
+use borrow.Author.Needs.{needs}
 use mathlib.Core.Path.{refl}
 use Prim.Native.Nat.{_-_}
 use lib.ListN.{length}
 use native.Mathlib.Omega.{arith}
 use Rattle.rules.specs.Rule.{many, Takes, stop}
-use Rattle.rules.proofs.Chains.{snoc}
+use Rattle.rules.proofs.Chains.{snoc, longest}
+use Rattle.rules.proofs.Tests.{there}
 use Rattle.lexicon.specs.Utf8.{range}
-use Rattle.text.proofs.Ranges.{in-range}
-use Rattle.utf8.proofs.Steps.{plain-ends, plain-all}
+use Rattle.lexicon.proofs.Spaces.{byte-single}
+use Rattle.text.proofs.Searches.{byte-missed}
 use Rattle.utf8.proofs.plain.Statement.{statement}
 use Rattle.utf8.proofs.plain.Tie as tie
 
@@ -20,34 +22,20 @@ abbrev μ-loop : tie.MeasureT-loop
 loop-holds : tie.Need-loop-holds Inv-loop μ-loop
 loop-holds c = stop refl
 
-shared-slice-read-if1 : tie.Need-shared-slice-read-if1 Inv-loop μ-loop
-shared-slice-read-if1 c = omega arith
-
-returns : tie.Need-returns Inv-loop μ-loop
-returns c = plain-ends (c .before .before .before .loop .inv) (c .before .before .loop-test .taken) (omega arith) (c .before .shared-slice-known .given (c .before .before .before .loop .i) .fits)
+within-requires : tie.Need-within-requires Inv-loop μ-loop
+within-requires c κs = search needs
 
 add-i : tie.Need-add-i Inv-loop μ-loop
-add-i c = omega arith
+add-i c = omega (arith, there (c .before .within .ensures) (c .if1 .taken) .0)
 
 loop-less : tie.Need-loop-less Inv-loop μ-loop
-loop-less c = omega arith
+loop-less c = omega (arith, there (c .before .within .ensures) (c .if1 .taken) .0)
 
 loop-again : tie.Need-loop-again Inv-loop μ-loop
-loop-again c = snoc (c .before .before .before .loop .inv) (in-range (c .before .before .before .before .args .text .now) 0x00 0x7F (c .before .before .before .loop .i) (c .before .before .loop-test .taken) (omega arith) (omega arith))
+loop-again c = snoc (c .before .before .loop .inv) (c .before .within .ensures .true-holds (c .if1 .taken))
 
-returns-2 : tie.Need-returns-2 Inv-loop μ-loop
-returns-2 c = plain-all (c .before .loop .inv) (c .loop-test .left)
+returns : tie.Need-returns Inv-loop μ-loop
+returns c = longest (byte-single _) (c .before .before .loop .inv) (byte-missed (c .before .within .ensures) (c .if1 .left))
 
 pub plain-spec : {M : Type 1} → statement M
-plain-spec =
-    tie.close
-    (tie.spec
-    Inv-loop
-    μ-loop
-    loop-holds
-    shared-slice-read-if1
-    returns
-    add-i
-    loop-less
-    loop-again
-    returns-2)
+plain-spec = tie.close (tie.spec Inv-loop μ-loop loop-holds within-requires add-i loop-less loop-again returns)
