@@ -134,15 +134,15 @@ fn plain(text: &[u8], at: usize) -> Found
     let mut i = at;
     loop {
         i = run(text, i);
+        // What ends most runs, so it is asked first.
+        if stands(text, i, b'"') {
+            return Found::At(i + 1);
+        }
         let Found::At(next) = restricted(text, i) else {
-            break;
+            return Found::Nothing;
         };
         i = next;
     }
-    if stands(text, i, b'"') {
-        return Found::At(i + 1);
-    }
-    Found::Nothing
 }
 
 // Characters and escapes up to the closing quote, which begins none of them.
@@ -153,16 +153,15 @@ fn escaped(text: &[u8], at: usize) -> Literal
     let mut bad = false;
     loop {
         i = run(text, i);
+        if stands(text, i, b'"') {
+            return Literal::At { end: i + 1, bad };
+        }
         let Literal::At { end, bad: worse } = item(text, i) else {
-            break;
+            return Literal::Nothing;
         };
         i = end;
         bad = bad | worse;
     }
-    if stands(text, i, b'"') {
-        return Literal::At { end: i + 1, bad };
-    }
-    Literal::Nothing
 }
 
 // A segment.

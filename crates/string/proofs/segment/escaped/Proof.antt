@@ -40,6 +40,15 @@ passed :
     Inv-loop (c .before .before .before .args .text .now) (c .before .before .before .args .at) (c .before .before .before .args .at) false (c .run .result) (c .before .loop .bad)
 passed c = let v = c .before .loop .inv in (join (v .0) (plain-items _ (c .run .ensures .takes)), plain-said _ (v .0) (c .run .ensures .takes) (v .1))
 
+stands-requires : tie.Need-stands-requires Inv-loop μ-loop
+stands-requires c κs = search needs
+
+add-t8 : tie.Need-add-t8 Inv-loop μ-loop
+add-t8 c = omega (arith, there (c .before .stands .ensures) (c .if1 .taken) .0)
+
+returns : tie.Need-returns Inv-loop μ-loop
+returns c = let v = passed (c .before .before) in rest-judged _ (v .0) (there (c .before .stands .ensures) (c .if1 .taken)) (v .1)
+
 item-requires : tie.Need-item-requires Inv-loop μ-loop
 item-requires c κs = search needs
 
@@ -49,25 +58,16 @@ enum-known-end c = search needs
 enum-told : tie.Need-enum-told Inv-loop μ-loop
 enum-told c = search needs
 
+returns-2 : tie.Need-returns-2 Inv-loop μ-loop
+returns-2 c = never-closes item quote item-single quote-item (passed (c .before .before .before .before .before) .0) (judged-none (BadEscape (c .before .before .before .before .before .before .before .before .args .text .now)) (c .enum-told .given .1) (c .before .before .item .ensures))
+    (not-there (c .before .before .before .before .stands .ensures) (c .before .before .before .if1 .left))
+
 loop-less : tie.Need-loop-less Inv-loop μ-loop
-loop-less c = let y = judged-at (BadEscape (c .before .before .before .before .before .before .before .args .text .now)) (c .before .end .given .1) (c .before .before .before .item .ensures) in omega (arith, forward (c .before .before .before .before .run .ensures .takes), begins-within item refl (y .0 .takes), item-strict .less (y .0 .takes))
+loop-less c = let y = judged-at (BadEscape (c .before .before .before .before .before .before .before .before .before .args .text .now)) (c .before .end .given .1) (c .before .before .before .item .ensures) in omega (arith, forward (c .before .before .before .before .before .before .run .ensures .takes), begins-within item refl (y .0 .takes), item-strict .less (y .0 .takes))
 
 loop-again : tie.Need-loop-again Inv-loop μ-loop
-loop-again c = let y = judged-at (BadEscape (c .before .before .before .before .before .before .before .args .text .now)) (c .before .end .given .1) (c .before .before .before .item .ensures) in let v = passed (c .before .before .before .before) in
-    (snoc (v .0) (y .0 .takes), said _ item (BadEscape (c .before .before .before .before .before .before .before .args .text .now)) item-single item-strict (v .0) (y .0 .takes) (v .1) (y .1))
-
-stands-requires : tie.Need-stands-requires Inv-loop μ-loop
-stands-requires c κs = search needs
-
-add-t9 : tie.Need-add-t9 Inv-loop μ-loop
-add-t9 c = omega (arith, there (c .before .stands .ensures) (c .if1 .taken) .0)
-
-returns : tie.Need-returns Inv-loop μ-loop
-returns c = let v = passed (c .before .before .before .before .before) in rest-judged _ (v .0) (there (c .before .stands .ensures) (c .if1 .taken)) (v .1)
-
-returns-2 : tie.Need-returns-2 Inv-loop μ-loop
-returns-2 c = never-closes item quote item-single quote-item (passed (c .before .before .before .before .before) .0) (judged-none (BadEscape (c .before .before .before .before .before .before .before .before .args .text .now)) (c .before .before .enum-told .given .1) (c .before .before .before .before .item .ensures))
-    (not-there (c .before .stands .ensures) (c .if1 .left))
+loop-again c = let y = judged-at (BadEscape (c .before .before .before .before .before .before .before .before .before .args .text .now)) (c .before .end .given .1) (c .before .before .before .item .ensures) in let v = passed (c .before .before .before .before .before .before) in
+    (snoc (v .0) (y .0 .takes), said _ item (BadEscape (c .before .before .before .before .before .before .before .before .before .args .text .now)) item-single item-strict (v .0) (y .0 .takes) (v .1) (y .1))
 
 pub escaped-spec : {M : Type 1} → statement M
 escaped-spec =
@@ -77,12 +77,12 @@ escaped-spec =
     μ-loop
     loop-holds
     run-requires
+    stands-requires
+    add-t8
+    returns
     item-requires
     enum-known-end
     enum-told
+    returns-2
     loop-less
-    loop-again
-    stands-requires
-    add-t9
-    returns
-    returns-2)
+    loop-again)

@@ -33,6 +33,15 @@ run-requires c κs = search needs
 passed : (c : tie.After-run Inv-loop μ-loop) → Takes (c .before .before .before .args .text .now) (many restricted) (c .before .before .before .args .at) (c .run .result)
 passed c = join (c .before .loop .inv) (each (λ _ _ t. left (left t)) (c .run .ensures .takes))
 
+stands-requires : tie.Need-stands-requires Inv-loop μ-loop
+stands-requires c κs = search needs
+
+add-t6 : tie.Need-add-t6 Inv-loop μ-loop
+add-t6 c = omega (arith, there (c .before .stands .ensures) (c .if1 .taken) .0)
+
+returns : tie.Need-returns Inv-loop μ-loop
+returns c = closes restricted quote restricted-single quote-restricted (passed (c .before .before)) (there (c .before .stands .ensures) (c .if1 .taken))
+
 restricted-requires : tie.Need-restricted-requires Inv-loop μ-loop
 restricted-requires c κs = search needs
 
@@ -42,24 +51,15 @@ enum-known-next c = search needs
 enum-told : tie.Need-enum-told Inv-loop μ-loop
 enum-told c = search needs
 
+returns-2 : tie.Need-returns-2 Inv-loop μ-loop
+returns-2 c = never-closes restricted quote restricted-single quote-restricted (passed (c .before .before .before .before .before)) (found-none (c .enum-told .given .1) (c .before .before .restricted .ensures))
+    (not-there (c .before .before .before .before .stands .ensures) (c .before .before .before .if1 .left))
+
 loop-less : tie.Need-loop-less Inv-loop μ-loop
-loop-less c = let l = found-at (c .before .next .given .1) (c .before .before .before .restricted .ensures) in omega (arith, forward (c .before .before .before .before .run .ensures .takes), begins-within restricted refl (l .takes), restricted-strict .less (l .takes))
+loop-less c = let l = found-at (c .before .next .given .1) (c .before .before .before .restricted .ensures) in omega (arith, forward (c .before .before .before .before .before .before .run .ensures .takes), begins-within restricted refl (l .takes), restricted-strict .less (l .takes))
 
 loop-again : tie.Need-loop-again Inv-loop μ-loop
-loop-again c = snoc (passed (c .before .before .before .before)) (found-at (c .before .next .given .1) (c .before .before .before .restricted .ensures) .takes)
-
-stands-requires : tie.Need-stands-requires Inv-loop μ-loop
-stands-requires c κs = search needs
-
-add-t7 : tie.Need-add-t7 Inv-loop μ-loop
-add-t7 c = omega (arith, there (c .before .stands .ensures) (c .if1 .taken) .0)
-
-returns : tie.Need-returns Inv-loop μ-loop
-returns c = closes restricted quote restricted-single quote-restricted (passed (c .before .before .before .before .before)) (there (c .before .stands .ensures) (c .if1 .taken))
-
-returns-2 : tie.Need-returns-2 Inv-loop μ-loop
-returns-2 c = never-closes restricted quote restricted-single quote-restricted (passed (c .before .before .before .before .before)) (found-none (c .before .before .enum-told .given .1) (c .before .before .before .before .restricted .ensures))
-    (not-there (c .before .stands .ensures) (c .if1 .left))
+loop-again c = snoc (passed (c .before .before .before .before .before .before)) (found-at (c .before .next .given .1) (c .before .before .before .restricted .ensures) .takes)
 
 pub plain-spec : {M : Type 1} → statement M
 plain-spec =
@@ -69,12 +69,12 @@ plain-spec =
     μ-loop
     loop-holds
     run-requires
+    stands-requires
+    add-t6
+    returns
     restricted-requires
     enum-known-next
     enum-told
+    returns-2
     loop-less
-    loop-again
-    stands-requires
-    add-t7
-    returns
-    returns-2)
+    loop-again)
