@@ -4,13 +4,14 @@
 //! long inputs.
 //!
 //! The texts are every sample, broken off at every byte and with bits
-//! flipped, texts made by the grammar or nearly, random bytes, and long ones.
+//! flipped, texts made by the grammar or nearly, random bytes, rows of bytes
+//! that may be read at once, and long ones.
 //!
 //! Exits with 1 at the first disagreement.
 
 use second::answer::{Answer, DEPTH_MAX, NEWER_FORM, NODE_WORDS, NO_ROOM, TEXT_MAX};
 use second::compare::{finish, same, Compared, Difference};
-use second::generate::{flipped, long_texts, random_bytes, texts, Random};
+use second::generate::{flipped, long_texts, random_bytes, row_texts, texts, Random};
 use second::{samples, tree};
 use std::process::ExitCode;
 use std::time::{Duration, Instant};
@@ -18,6 +19,8 @@ use std::time::{Duration, Instant};
 const SEED: u64 = 20_261_116;
 const GENERATED: usize = 100_000;
 const RANDOM_BYTES: usize = 4_000_000;
+/// Of the texts with rows, one in so many; the tokens of all are compared.
+const SPARSELY: usize = 11;
 /// More words than 1,024 nodes take.
 const WORDS_MAX: usize = 6_200;
 /// Words behind the lent table, which no call may touch.
@@ -256,6 +259,9 @@ fn run(counts: &mut Counts) -> Compared {
     }
     for text in random_bytes(SEED, RANDOM_BYTES) {
         counts.text(&text)?;
+    }
+    for text in row_texts().iter().step_by(SPARSELY) {
+        counts.text(text)?;
     }
     for text in sized_texts().into_iter().chain(long_texts()) {
         counts.long(&text)?;

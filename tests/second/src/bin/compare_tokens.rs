@@ -5,7 +5,7 @@
 
 use second::archive;
 use second::compare::{finish, same, Compared, Difference};
-use second::generate::{long_texts, texts};
+use second::generate::{long_texts, row_texts, texts};
 use second::token::{self, Lexed};
 use second::{front, samples};
 use std::process::ExitCode;
@@ -121,6 +121,9 @@ fn run(counts: &mut Counts) -> Compared {
         counts.text(&samples::members(length))?;
     }
     for text in texts(SEED, GENERATED) {
+        counts.text(&text)?;
+    }
+    for text in row_texts() {
         counts.text(&text)?;
     }
     for text in long_texts() {

@@ -6,14 +6,16 @@
 use second::answer::Answer;
 use second::compare::{finish, same, Compared, Difference};
 use second::generate::{
-    long_packed_pieces, long_pieces, packed_pieces, pieces, random_packed_pieces, sample_pieces,
-    short_pieces, Random,
+    long_packed_pieces, long_pieces, packed_pieces, pieces, random_packed_pieces, row_texts,
+    sample_pieces, short_pieces, Random,
 };
 use second::value;
 use std::process::ExitCode;
 
 const SEED: u64 = 20_261_117;
 const GENERATED: usize = 200_000;
+/// Of the texts with rows, one in so many.
+const SPARSELY: usize = 7;
 /// Bytes behind the lent buffer, which no call may touch.
 const GUARD: usize = 8;
 /// The answers that the Integer call can give.
@@ -205,6 +207,7 @@ fn run(counts: &mut Counts) -> Compared {
         packed_pieces(),
         long_packed_pieces(),
         random_packed_pieces(SEED, GENERATED),
+        row_texts().into_iter().step_by(SPARSELY).collect(),
     ];
     for piece in lists.iter().flatten() {
         counts.piece(piece)?;

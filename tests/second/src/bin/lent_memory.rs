@@ -15,8 +15,8 @@ use muon as _;
 use second::answer::{Answer, DEPTH_MAX, NODES_MAX, NODE_WORDS, TEXT_MAX};
 use second::compare::{finish, same, Compared};
 use second::generate::{
-    around, encoded_texts, flipped, long_packed_pieces, long_texts, packed_pieces, pieces,
-    random_bytes, random_packed_pieces, sample_pieces, texts, Random, RUN_MAX,
+    around, encoded_texts, flipped, framed, long_packed_pieces, long_texts, packed_pieces, pieces,
+    random_bytes, random_packed_pieces, row, sample_pieces, texts, Random, FRAMES, RUN_MAX,
 };
 use second::utf8::{self, Tested};
 use second::{samples, tree, value};
@@ -387,6 +387,13 @@ fn all_readings(readings: &mut usize) -> Compared {
         // the end of a long text, right in front of memory that isn't lent
         compare(2, &long, NODES_MAX * NODE_WORDS)?;
         *readings += 1;
+    }
+    // whole words up to the end, and what is left behind them
+    for frame in FRAMES {
+        for length in 0..=RUN_MAX {
+            compare(2, &framed(frame, &row(length)), 10 * NODE_WORDS)?;
+            *readings += 1;
+        }
     }
     for length in [TEXT_MAX, TEXT_MAX + 1] {
         text(&samples::members(length), readings)?;

@@ -66,7 +66,8 @@ pub fn around(pieces: &[&[u8]], most: usize) -> Vec<Vec<u8>> {
         .collect()
 }
 
-fn within(pieces: &[&[u8]], run: &[u8]) -> Vec<Vec<u8>> {
+/// Each way to put the pieces into one row, in this order.
+pub fn within(pieces: &[&[u8]], run: &[u8]) -> Vec<Vec<u8>> {
     let Some((piece, others)) = pieces.split_first() else {
         return vec![run.to_vec()];
     };

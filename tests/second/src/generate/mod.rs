@@ -10,6 +10,7 @@ mod noise;
 mod packed;
 mod pieces;
 mod random;
+mod rows;
 
 pub use bytes::random_bytes;
 pub use encoded::{around, encoded_texts, BAD, LONGER, RUN_MAX};
@@ -19,6 +20,7 @@ pub use long::{long_shapes, long_texts, Shape};
 pub use packed::{long_packed_pieces, packed_pieces, random_packed_pieces};
 pub use pieces::{long_pieces, pieces, sample_pieces, short_pieces};
 pub use random::Random;
+pub use rows::{framed, row, row_texts, FRAMES};
 
 /// `n` texts of three families in turn: noise, grammar-made, damaged.
 pub fn texts(seed: u64, n: usize) -> Vec<Vec<u8>> {
