@@ -215,7 +215,7 @@ fn self_test(repository: &Repository, root: &Path) -> Result<(), String> {
         "[a](docs/MAP.md), `(5:y,)` is 6@4, `29 56` has the value 2956",
         "`1..10` has the tokens `1`, `..`, `10`",
         "`0xxA705` has the bytes A7 05, `0bo17` has the bits 0 0 1 1 1 1",
-        "`seventeen letters` has 3 steps, in the UTF-8 call `a\\xFF` is 3@1",
+        "`seventeen` has 2 steps, in the UTF-8 call `a\\xFF` is 3@1",
         "    $ printf '5' | target/bin/muon\n    ok 2 1\n    3 0 1 0 0 0\n",
     ];
     if let Some(text) = wrong.iter().find(|text| findings(text) == 0) {

@@ -233,6 +233,13 @@ fn leading_count(text: &str, noun: &str) -> Option<usize> {
         .flatten()
 }
 
+/// Whether steps are told by what stands behind a text, which may look like
+/// a name.
+pub fn tells_steps(behind: &str) -> bool {
+    let told = behind.strip_prefix(" has ");
+    told.and_then(|rest| leading_count(rest, "step")).is_some()
+}
+
 /// The bytes of a text, in which `\xFF` is that byte.
 fn unescaped(text: &str) -> Vec<u8> {
     let mut bytes = Vec::new();

@@ -1,5 +1,6 @@
 //! What the documents name.
 
+use super::examples::tells_steps;
 use super::index::{is_name_char, Repository};
 use super::markup::{one_spaced, Block, Part, Passage};
 use super::{Document, Finding};
@@ -236,6 +237,9 @@ impl Checker<'_> {
     }
 
     fn quote(&mut self, quote: &Quote, scope: Scope) -> Scope {
+        if tells_steps(quote.behind) {
+            return Scope::Anywhere;
+        }
         match look(quote.text) {
             Look::Path => self.path_or_edit(quote),
             Look::FileName => self.file_name(quote, scope),
