@@ -28,10 +28,14 @@ fn plain_byte(text: &[u8], at: usize) -> bool
     }
 }
 
-// The end of the run of such bytes at the place: by eights first, since it may be long.
+// The end of the run of such bytes at the place: by eights first, since it may be long, but not where there is none, as between two
+// characters of several bytes.
 fn run(text: &[u8], at: usize) -> usize
     ensures { λ r. ⌜ Longest (now (text .entry)) (many (one Literals.plainByte)) at r ⌝ }
 {
+    if !plain_byte(text, at) {
+        return at;
+    }
     let mut i = at;
     while eight::plain(text, i) {
         i += 8;

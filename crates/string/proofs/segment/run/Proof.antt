@@ -4,6 +4,7 @@ use borrow.Author.Needs.{needs}
 use mathlib.Core.Path.{refl}
 use Prim.Native.Nat.{_+_, _≤_, _-_}
 use native.Mathlib.Omega.{arith}
+use borrow.Author.Tests.{not-true}
 use lib.ListN.{length}
 use Rattle.rules.specs.Rule.{one, many, Takes, stop}
 use Rattle.rules.proofs.Matches.{inside}
@@ -28,6 +29,12 @@ Inv-loop2 text at i₀ i = Takes text (many (one plainByte)) at i
 abbrev μ-loop2 : tie.MeasureT-loop2
 μ-loop2 text at i₀ i = length text - i
 
+plain-byte-requires : tie.Need-plain-byte-requires Inv-loop μ-loop Inv-loop2 μ-loop2
+plain-byte-requires c κs = search needs
+
+returns : tie.Need-returns Inv-loop μ-loop Inv-loop2 μ-loop2
+returns c = longest (byte-single plainByte) (stop refl) (byte-missed (c .before .plain-byte .ensures) (not-true _ (c .if1 .taken)))
+
 loop-holds : tie.Need-loop-holds Inv-loop μ-loop Inv-loop2 μ-loop2
 loop-holds c = stop refl
 
@@ -36,10 +43,10 @@ plain-requires c κs = search needs
 
 -- eight that stand end within the text
 within :
-    (c : tie.Then1 Inv-loop μ-loop Inv-loop2 μ-loop2) →
-    c .before .before .loop .i + 8 ≤ length (c .before .before .before .before .args .text .now)
+    (c : tie.Then2 Inv-loop μ-loop Inv-loop2 μ-loop2) →
+    c .before .before .loop .i + 8 ≤ length (c .before .before .before .before .before .before .args .text .now)
 within c =
-    let t = c .before .plain .ensures .true-holds (c .if1 .taken) in
+    let t = c .before .plain .ensures .true-holds (c .if2 .taken) in
     let h = begins-within (unit 8 plainByte) refl t in inside t (omega (arith, h))
 
 add-i : tie.Need-add-i Inv-loop μ-loop Inv-loop2 μ-loop2
@@ -49,25 +56,25 @@ loop-less : tie.Need-loop-less Inv-loop μ-loop Inv-loop2 μ-loop2
 loop-less c = omega (arith, within c)
 
 loop-again : tie.Need-loop-again Inv-loop μ-loop Inv-loop2 μ-loop2
-loop-again c = join (c .before .before .loop .inv) (many-of-times 8 (c .before .plain .ensures .true-holds (c .if1 .taken)))
+loop-again c = join (c .before .before .loop .inv) (many-of-times 8 (c .before .plain .ensures .true-holds (c .if2 .taken)))
 
 loop2-holds : tie.Need-loop2-holds Inv-loop μ-loop Inv-loop2 μ-loop2
 loop2-holds c = c .before .before .loop .inv
 
-plain-byte-requires : tie.Need-plain-byte-requires Inv-loop μ-loop Inv-loop2 μ-loop2
-plain-byte-requires c κs = search needs
+plain-byte-requires-2 : tie.Need-plain-byte-requires-2 Inv-loop μ-loop Inv-loop2 μ-loop2
+plain-byte-requires-2 c κs = search needs
 
 add-i-2 : tie.Need-add-i-2 Inv-loop μ-loop Inv-loop2 μ-loop2
-add-i-2 c = omega (arith, there (c .before .plain-byte .ensures) (c .if2 .taken) .0)
+add-i-2 c = omega (arith, there (c .before .plain-byte2 .ensures) (c .if3 .taken) .0)
 
 loop2-less : tie.Need-loop2-less Inv-loop μ-loop Inv-loop2 μ-loop2
-loop2-less c = omega (arith, there (c .before .plain-byte .ensures) (c .if2 .taken) .0)
+loop2-less c = omega (arith, there (c .before .plain-byte2 .ensures) (c .if3 .taken) .0)
 
 loop2-again : tie.Need-loop2-again Inv-loop μ-loop Inv-loop2 μ-loop2
-loop2-again c = snoc (c .before .before .loop2 .inv) (c .before .plain-byte .ensures .true-holds (c .if2 .taken))
+loop2-again c = snoc (c .before .before .loop2 .inv) (c .before .plain-byte2 .ensures .true-holds (c .if3 .taken))
 
-returns : tie.Need-returns Inv-loop μ-loop Inv-loop2 μ-loop2
-returns c = longest (byte-single plainByte) (c .before .before .loop2 .inv) (byte-missed (c .before .plain-byte .ensures) (c .if2 .left))
+returns-2 : tie.Need-returns-2 Inv-loop μ-loop Inv-loop2 μ-loop2
+returns-2 c = longest (byte-single plainByte) (c .before .before .loop2 .inv) (byte-missed (c .before .plain-byte2 .ensures) (c .if3 .left))
 
 pub run-spec : {M : Type 1} → statement M
 run-spec =
@@ -77,14 +84,16 @@ run-spec =
     μ-loop
     Inv-loop2
     μ-loop2
+    plain-byte-requires
+    returns
     loop-holds
     plain-requires
     add-i
     loop-less
     loop-again
     loop2-holds
-    plain-byte-requires
+    plain-byte-requires-2
     add-i-2
     loop2-less
     loop2-again
-    returns)
+    returns-2)
