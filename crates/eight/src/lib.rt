@@ -46,10 +46,10 @@ const BEHIND_Z: u64 = (0x80 - 0x7B) * EACH;
 fn left(text: &[u8], at: usize) -> bool
     ensures { λ r. ⌜ Says r (at + 8 ≤ length (now (text .entry))) ⌝ }
 {
-    if text.len() < 8 {
+    if text.len() < at {
         return false;
     }
-    at <= text.len() - 8
+    8 <= text.len() - at
 }
 
 // The two bytes from `at` on as one number, the first the least. By twos, so that the compiler makes one load of eight.
