@@ -4,7 +4,6 @@ ghost use Prim.Native.Nat.{_+_, _≤_};
 ghost use lib.ListN.{length};
 ghost use Rattle.rules.specs.Test.{Says};
 ghost use Rattle.rules.specs.Rule.{Takes};
-ghost use Rattle.lexicon.specs.Bytes.{wordRest};
 ghost use Rattle.lexicon.specs.Space.{notGrave};
 ghost use Rattle.lexicon.specs.Literals.{unit, plainByte};
 ghost use Rattle.lexicon.specs.Steps as Steps;
@@ -18,29 +17,15 @@ const HIGH: u64 = 0x80 * EACH;
 
 const LOW: u64 = 0x7F * EACH;
 
-// Bytes of ASCII that are not plain, and the bit in which a letter's two cases differ.
+// Bytes of ASCII that are not plain.
 const QUOTE: u64 = 0x22 * EACH;
 
 const BACKSLASH: u64 = 0x5C * EACH;
 
 const GRAVE: u64 = 0x60 * EACH;
 
-const CASE: u64 = 0x20 * EACH;
-
-// Added to bytes below 0x80, each sets the high bit of those from a certain one on: from a byte or from behind it.
+// Added to bytes below 0x80, it sets the high bit of those from the space on.
 const FROM_SPACE: u64 = (0x80 - 0x20) * EACH;
-
-const FROM_0: u64 = (0x80 - 0x30) * EACH;
-
-const BEHIND_9: u64 = (0x80 - 0x3A) * EACH;
-
-const FROM_LOW_LINE: u64 = (0x80 - 0x5F) * EACH;
-
-const BEHIND_LOW_LINE: u64 = (0x80 - 0x60) * EACH;
-
-const FROM_A: u64 = (0x80 - 0x61) * EACH;
-
-const BEHIND_Z: u64 = (0x80 - 0x7B) * EACH;
 
 // Whether eight bytes stand from `at` on.
 fn left(text: &[u8], at: usize) -> bool
@@ -106,20 +91,4 @@ pub fn plain(text: &[u8], at: usize) -> bool
     let v = w & LOW;
     let others = (v ^ QUOTE) + LOW & (v ^ BACKSLASH) + LOW & (v ^ GRAVE) + LOW;
     v + FROM_SPACE & others & (w ^ HIGH) & HIGH == HIGH
-}
-
-// Whether eight bytes that continue a word stand from `at` on: letters, digits and the low line.
-pub fn word_rest(text: &[u8], at: usize) -> bool
-    ensures { λ r. ⌜ Says r (Takes (now (text .entry)) (unit 8 wordRest) at (at + 8)) ⌝ }
-{
-    if !left(text, at) {
-        return false;
-    }
-    let w = eight(text, at);
-    let v = w & LOW;
-    let u = v | CASE;
-    let letter = u + FROM_A ^ u + BEHIND_Z;
-    let digit = v + FROM_0 ^ v + BEHIND_9;
-    let low_line = v + FROM_LOW_LINE ^ v + BEHIND_LOW_LINE;
-    (letter | digit | low_line) & (w ^ HIGH) & HIGH == HIGH
 }
