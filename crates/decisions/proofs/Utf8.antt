@@ -19,7 +19,7 @@ use Rattle.lexicon.specs.declared.Tested.{Tested}
 use Rattle.lexicon.specs.Utf8.{sequence, WellFormed, Encoded}
 use Rattle.lexicon.specs.Steps.{eight, Steps, start, eightBytes, oneSequence, placeOf, TestedAs}
 use Rattle.lexicon.proofs.Determined.{sequence-single}
-use Rattle.lexicon.proofs.Steps.{times-many, eight-end}
+use Rattle.lexicon.proofs.Steps.{sequences, eight-end}
 use Rattle.decisions.proofs.Tests.{settled}
 use Rattle.decisions.proofs.Ends.{furthest, furthest-longest}
 use Rattle.decisions.proofs.Cuts.{reaches, takes}
@@ -51,7 +51,7 @@ module _ (text : List ℕ) where
     step {n = n} s (more {i = i} {m = m} t u) = inr (go (settled (takes text eight i (i + 8))))
       where
         go : Takes text eight i (i + 8) ⊎ (Takes text eight i (i + 8) → ⊥) → (k : ℕ) × (i < k) × Steps text k (suc n) × Takes text (many sequence) k j
-        go (inl e) = (i + 8, omega arith, eightBytes s e, Chains.reaches (sequence-single text) (more t u) f (times-many 8 e))
+        go (inl e) = (i + 8, omega arith, eightBytes s e, Chains.reaches (sequence-single text) (more t u) f (sequences text e))
         go (inr o) = (m, grows sequence refl t, oneSequence s (record { none = λ e. o (ending (eight-end text e) e) }) t, u)
 
     steps : (left i n : ℕ) → j ≤ i + left → Steps text i n → Takes text (many sequence) i j → (m : ℕ) × Steps text j m

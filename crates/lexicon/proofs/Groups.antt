@@ -15,6 +15,7 @@ use Rattle.rules.specs.Every.{Every, none, also}
 use Rattle.rules.proofs.Every.{every-append}
 use Rattle.rules.proofs.Classes.{apart, apartSpan}
 use Rattle.rules.proofs.Matches.{forward, starting, ending}
+use Rattle.rules.proofs.Chains.{Single}
 use Rattle.rules.proofs.Ways.{never, never-takes}
 use Rattle.lexicon.specs.Space.{blank, sp}
 use Rattle.lexicon.specs.Literals.{joint, unit, groups}
@@ -39,6 +40,9 @@ module _ {text : List ℕ} where
   pub unit-end : (n : ℕ) (c : Class) {i j : ℕ} → Takes text (unit n c) i j → j ≡ i + n
   unit-end zero c (nothing e) = omega arith
   unit-end (suc n) c (both (byte a e) u) = let x = unit-end n c u in omega arith
+
+  pub unit-single : (n : ℕ) (c : Class) → Single text (unit n c)
+  unit-single n c = record { same = λ u v. unit-end n c u ∙ sym (unit-end n c v) }
 
   pub unit-at : (n : ℕ) {c : Class} {i j : ℕ} → Takes text (unit (suc n) c) i j → At text c i
   unit-at n (both (byte a e) u) = a

@@ -13,11 +13,11 @@ use Rattle.rules.specs.Rule.{Rule, _or_, many, times, At, Takes, nothing, byte,
 use Rattle.rules.proofs.Classes.{in-first}
 use Rattle.rules.proofs.Every.{every-at}
 use Rattle.rules.proofs.Matches.{inside, starting}
-use Rattle.rules.proofs.Chains.{join, snoc}
+use Rattle.rules.proofs.Chains.{Single, join, snoc, many-of-times, each}
 use Rattle.rules.proofs.Ways.{grows, begins-within}
 use Rattle.lexicon.specs.Utf8.{range, sequence}
 use Rattle.lexicon.specs.Steps.{eight, Steps, start, eightBytes, oneSequence}
-use Rattle.lexicon.proofs.Groups.{unit-end, byte-unit}
+use Rattle.lexicon.proofs.Groups.{unit-end, unit-single, byte-unit}
 use Rattle.lexicon.proofs.Determined.{sequence-single}
 
 abbrev plain : Class
@@ -26,11 +26,6 @@ plain = 0x00 upto 0x7F ∷ []
 -- ---- so many matches of one rule
 
 module _ {text : List ℕ} where
-  -- they are so many of a rule that has it as a case
-  pub times-many : (n : ℕ) {a b : Rule} {i j : ℕ} → Takes text (times n a) i j → Takes text (many (a or b)) i j
-  times-many zero (nothing e) = stop e
-  times-many (suc n) (both t u) = more (left t) (times-many n u)
-
   -- one fewer
   times-fewer : (n : ℕ) {r : Rule} {i j : ℕ} → Takes text (times (suc n) r) i j → (m : ℕ) × Takes text (times n r) i m
   times-fewer zero t = (_, nothing refl)
@@ -46,6 +41,9 @@ module _ (text : List ℕ) where
   pub eight-end : {i j : ℕ} → Takes text eight i j → j ≡ i + 8
   eight-end t = unit-end 8 plain t
 
+  pub eight-single : Single text eight
+  eight-single = unit-single 8 plain
+
   pub no-eight-next : {i j : ℕ} → Fails text eight i → Takes text (range 0x00 0x7F) i j → Fails text eight j
   no-eight-next f t = times-fail 7 f t
 
@@ -57,9 +55,13 @@ module _ (text : List ℕ) where
 
   -- ---- what the steps reach
 
+  -- eight plain bytes are sequences
+  pub sequences : {i j : ℕ} → Takes text eight i j → Takes text (many sequence) i j
+  sequences t = each (λ _ _ b. left b) (many-of-times 8 t)
+
   pub steps-reach : {j n : ℕ} → Steps text j n → Takes text (many sequence) 0 j
   steps-reach start = stop refl
-  steps-reach (eightBytes s t) = join (steps-reach s) (times-many 8 t)
+  steps-reach (eightBytes s t) = join (steps-reach s) (sequences t)
   steps-reach (oneSequence s f t) = snoc (steps-reach s) t
 
   -- each takes a byte at least

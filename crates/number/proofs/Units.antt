@@ -10,10 +10,10 @@ use borrow.Author.Tests.{not-false}
 use Rattle.rules.specs.Class.{Class, has}
 use Rattle.rules.specs.Rule.{one, many, At, Takes, nothing, byte, both, stop, more, Longest}
 use Rattle.rules.proofs.Bools.{not-both}
-use Rattle.rules.proofs.Chains.{Single, join, snoc, longest}
+use Rattle.rules.proofs.Chains.{join, snoc, many-of-times, longest}
 use Rattle.rules.proofs.Matches.{forward, starting, one-at, byte-at}
 use Rattle.lexicon.specs.Literals.{unit}
-use Rattle.lexicon.proofs.Groups.{unit-end}
+use Rattle.lexicon.proofs.Groups.{unit-end, unit-single}
 use Rattle.lexicon.proofs.Spaces.{byte-single}
 
 -- ---- a run of bytes
@@ -50,17 +50,10 @@ module _ {text : List ℕ} (c : Class) where
       let x = suc-mul q n in
       let r = first-unit n (i + n) refl (omega arith) t in more (r .0) (some-units q n m (omega arith) h (r .1))
 
-  -- a unit's bytes are a run
-  unit-run : (n : ℕ) {i j : ℕ} → Takes text (unit n c) i j → Takes text (many (one c)) i j
-  unit-run zero (nothing e) = stop e
-  unit-run (suc n) (both b u) = more b (unit-run n u)
-
+  -- their bytes are a run
   units-run : (n : ℕ) {i j : ℕ} → Takes text (many (unit n c)) i j → Takes text (many (one c)) i j
   units-run n (stop e) = stop e
-  units-run n (more u us) = join (unit-run n u) (units-run n us)
-
-  unit-single : (n : ℕ) → Single text (unit n c)
-  unit-single n = record { same = λ u v. unit-end n c u ∙ sym (unit-end n c v) }
+  units-run n (more u us) = join (many-of-times n u) (units-run n us)
 
 -- as many as there is room for
 module _ (text : List ℕ) (c : Class) (n at end : ℕ) (run : Longest text (many (one c)) at end) where
@@ -68,7 +61,7 @@ module _ (text : List ℕ) (c : Class) (n at end : ℕ) (run : Longest text (man
   units-room = omega (arith, forward (run .takes), div-mul-le-self (end - at) n)
 
   pub all-units : 1 ≤ n → Longest text (many (unit n c)) at (at + (end - at) / n * n)
-  all-units h = longest (unit-single c n) us (record { none = λ u. short u })
+  all-units h = longest (unit-single n c) us (record { none = λ u. short u })
     where
       us : Takes text (many (unit n c)) at (at + (end - at) / n * n)
       us = some-units c ((end - at) / n) n (at + (end - at) / n * n) refl units-room (run .takes)

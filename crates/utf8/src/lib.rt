@@ -7,7 +7,7 @@ use text::byte::within;
 ghost use Rattle.rules.specs.Rule.{_then_, many, Longest};
 ghost use Rattle.lexicon.specs.Found.{Finds};
 ghost use Rattle.lexicon.specs.Utf8 as Utf8;
-ghost use Rattle.lexicon.specs.Steps.{TestedAs};
+ghost use Rattle.lexicon.specs.Steps.{eight, TestedAs};
 
 // The last byte of a sequence.
 fn last(text: &[u8], at: usize) -> Found
@@ -61,8 +61,19 @@ pub fn sequence(text: &[u8], at: usize) -> Found
     }
 }
 
-// Where the bytes of plain ASCII at `at` end.
-fn plain(text: &[u8], at: usize) -> usize
+// Where the eights of plain ASCII bytes at `at` end.
+fn eights(text: &[u8], at: usize) -> usize
+    ensures { λ r. ⌜ Longest (now (text .entry)) (many eight) at r ⌝ }
+{
+    let mut i = at;
+    while ascii(text, i) {
+        i += 8;
+    }
+    i
+}
+
+// Where the plain ASCII bytes at `at` end.
+fn singles(text: &[u8], at: usize) -> usize
     ensures { λ r. ⌜ Longest (now (text .entry)) (many (Utf8.range 0x00 0x7F)) at r ⌝ }
 {
     let mut i = at;
@@ -72,34 +83,30 @@ fn plain(text: &[u8], at: usize) -> usize
     i
 }
 
-// Whether the text is well-formed sequences from the front; if not, where the first bad one begins; and the steps up to there. A
-// step takes eight bytes of plain ASCII wherever eight come next, else one sequence.
+// Whether the text is well-formed sequences from the front; if not, where the first bad one begins; and the steps up to there.
 pub fn tested(text: &[u8]) -> Tested
     ensures { λ r. ⌜ TestedAs (now (text .entry)) r ⌝ }
 {
     let mut at = 0;
     let mut steps = 0;
     while at < text.len() {
-        if ascii(text, at) {
-            at += 8;
-            steps += 1;
-            continue;
-        }
-        // Fewer than eight come next, so each is a step of its own, and eight come again behind a longer sequence at the soonest.
-        let end = plain(text, at);
-        steps += end - at;
-        at = end;
-        if at == text.len() {
-            break;
-        }
-        let Found::At(next) = sequence(text, at) else {
-            return Tested {
-                encoding: Encoding::BadAt(at),
-                steps,
+        let eights = eights(text, at);
+        steps += (eights - at) / 8;
+        // Fewer than eight are left before a longer sequence or the end, and each is a step of its own.
+        let plain = singles(text, eights);
+        steps += plain - eights;
+        at = plain;
+        // Behind a longer sequence another is likely: no look for eight at each.
+        while within(text, at, 0x80, 0xFF) {
+            let Found::At(next) = sequence(text, at) else {
+                return Tested {
+                    encoding: Encoding::BadAt(at),
+                    steps,
+                };
             };
-        };
-        at = next;
-        steps += 1;
+            at = next;
+            steps += 1;
+        }
     }
     Tested {
         encoding: Encoding::WellFormed,
