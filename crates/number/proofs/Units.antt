@@ -68,7 +68,7 @@ module _ (text : List ℕ) (c : Class) (n at end : ℕ) (run : Longest text (man
 
       short : {k : ℕ} → Takes text (unit n c) (at + (end - at) / n * n) k → ⊥
       short u =
-          omega (arith, unit-end n c u, run .most (join (units-run c n us) (unit-run c n u)), forward (run .takes), lt-div-mul-add {a = end - at} {b = n} h)
+          omega (arith, unit-end n c u, run .most (join (units-run c n us) (many-of-times n u)), forward (run .takes), lt-div-mul-add {a = end - at} {b = n} h)
 
 -- each byte is one
 pub byte-units : (text : List ℕ) (c : Class) (n at end : ℕ) → Longest text (many (one c)) at end → n ≡ 1 → Longest text (many (unit n c)) at end
