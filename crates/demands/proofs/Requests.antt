@@ -12,10 +12,15 @@ use Rattle.grammar.specs.Tree.{Value}
 use Rattle.reading.specs.declared.Answer.{Answer}
 use Rattle.reading.specs.declared.Rules.{Rules}
 use Rattle.reading.specs.Answers.{Reading, noLevel, tooLong, notUtf8, faulty, noRoom, accepted}
+use Rattle.values.specs.declared.IntegerAnswer.{IntegerAnswer}
+use Rattle.values.specs.Integer as Integer
+use Rattle.values.specs.Integer.{IntegerAnswers}
+use Rattle.values.specs.Bytes as Bytes
+use Rattle.values.specs.Bytes.{Call, BytesAnswers}
 use Rattle.values.specs.Utf8 as Utf8
 use Rattle.values.specs.Utf8.{Utf8Answers, wellFormed}
 use Rattle.values.proofs.Utf8.{exactly-one}
-use Rattle.demands.specs.Requests.{OneTest, PlainSteps, SameRefusals}
+use Rattle.demands.specs.Requests.{OneTest, PlainSteps, SameRefusal, SameRefusals}
 use Rattle.demands.proofs.Derived.{fault-number}
 
 -- ---- 2. The steps of the UTF-8 test
@@ -26,7 +31,7 @@ one-test text = exactly-one text
 pub plain-steps : PlainSteps
 plain-steps text all = let s = Steps.plain-steps text all in wellFormed (Steps.steps-reach text s) s
 
--- both speak of the first byte at which no sequence begins
+-- all speak of the first byte at which no sequence begins
 module _ (text : List ℕ) where
   test-bad : {number place steps : ℕ} → Utf8Answers text number place steps → number ≡ 3 → BadAt text place
   test-bad (wellFormed w s) e = absurd (omega (arith, e))
@@ -36,23 +41,62 @@ module _ (text : List ℕ) where
   bad-test b (wellFormed w s) = absurd (formed-or-bad text w b)
   bad-test b (Utf8.notUtf8 c s) = (refl, one-bad text c b)
 
-  module _ (rules : Rules) {room level : ℕ} where
-    reading-bad : {r : Answer} {t : Option Value} → Reading rules text room level r t → r .number ≡ 3 → BadAt text (r .place)
-    reading-bad (noLevel f) e = absurd (omega (arith, e))
-    reading-bad (tooLong l h) e = absurd (omega (arith, e))
-    reading-bad (notUtf8 l h b) e = b
-    reading-bad (faulty l h w f) e = absurd (fault-number (rules .limits) text 3 refl (f .fault) e)
-    reading-bad (noRoom l h w a m) e = absurd (omega (arith, e))
-    reading-bad (accepted l h w a m) e = absurd (omega (arith, e))
+  -- by what a call's answer says of that byte
+  same-refusal : {Before : Type 0} {n p : ℕ} → (n ≡ 3 → BadAt text p) → ((q : ℕ) → BadAt text q → Before ⊎ ((n ≡ 3) × (p ≡ q))) → SameRefusal text Before n p
+  same-refusal said bad number place steps u = ((λ e. bad-test (said e) u), (λ e. bad place (test-bad u e)))
 
-    bad-reading : {p : ℕ} {r : Answer} {t : Option Value} → BadAt text p → Reading rules text room level r t → (r .number ≡ 1) ⊎ (r .number ≡ 2) ⊎ ((r .number ≡ 3) × (r .place ≡ p))
-    bad-reading b (noLevel f) = inl refl
-    bad-reading b (tooLong l h) = inr (inl refl)
-    bad-reading b (notUtf8 l h c) = inr (inr (refl, one-bad text c b))
-    bad-reading b (faulty l h w f) = absurd (formed-or-bad text w b)
-    bad-reading b (noRoom l h w a m) = absurd (formed-or-bad text w b)
-    bad-reading b (accepted l h w a m) = absurd (formed-or-bad text w b)
+  module _ (rules : Rules) where
+    module _ {room level : ℕ} where
+      reading-bad : {r : Answer} {t : Option Value} → Reading rules text room level r t → r .number ≡ 3 → BadAt text (r .place)
+      reading-bad (noLevel f) e = absurd (omega (arith, e))
+      reading-bad (tooLong l h) e = absurd (omega (arith, e))
+      reading-bad (notUtf8 l h b) e = b
+      reading-bad (faulty l h w f) e = absurd (fault-number (rules .limits) text 3 refl (f .fault) e)
+      reading-bad (noRoom l h w a m) e = absurd (omega (arith, e))
+      reading-bad (accepted l h w a m) e = absurd (omega (arith, e))
+
+      bad-reading : {p : ℕ} {r : Answer} {t : Option Value} → Reading rules text room level r t → BadAt text p → ((r .number ≡ 1) ⊎ (r .number ≡ 2)) ⊎ ((r .number ≡ 3) × (r .place ≡ p))
+      bad-reading (noLevel f) b = inl (inl refl)
+      bad-reading (tooLong l h) b = inl (inr refl)
+      bad-reading (notUtf8 l h c) b = inr (refl, one-bad text c b)
+      bad-reading (faulty l h w f) b = absurd (formed-or-bad text w b)
+      bad-reading (noRoom l h w a m) b = absurd (formed-or-bad text w b)
+      bad-reading (accepted l h w a m) b = absurd (formed-or-bad text w b)
+
+    integer-bad : {r : IntegerAnswer} → IntegerAnswers rules text r → r .number ≡ 3 → BadAt text (r .place)
+    integer-bad (Integer.tooLong h) e = absurd (omega (arith, e))
+    integer-bad (Integer.notUtf8 h b) e = b
+    integer-bad (Integer.notInteger h w x) e = absurd (omega (arith, e))
+    integer-bad (Integer.outside h w x v o) e = absurd (omega (arith, e))
+    integer-bad (Integer.accepted h w x v o) e = absurd (omega (arith, e))
+
+    bad-integer : {p : ℕ} {r : IntegerAnswer} → IntegerAnswers rules text r → BadAt text p → (r .number ≡ 2) ⊎ ((r .number ≡ 3) × (r .place ≡ p))
+    bad-integer (Integer.tooLong h) b = inl refl
+    bad-integer (Integer.notUtf8 h c) b = inr (refl, one-bad text c b)
+    bad-integer (Integer.notInteger h w x) b = absurd (formed-or-bad text w b)
+    bad-integer (Integer.outside h w x v o) b = absurd (formed-or-bad text w b)
+    bad-integer (Integer.accepted h w x v o) b = absurd (formed-or-bad text w b)
+
+    module _ (call : Call) {lent : List ℕ} where
+      bytes-bad : {r : Answer} {left : List ℕ} → BytesAnswers call rules text lent r left → r .number ≡ 3 → BadAt text (r .place)
+      bytes-bad (Bytes.tooLong h) e = absurd (omega (arith, e))
+      bytes-bad (Bytes.notUtf8 h b) e = b
+      bytes-bad (Bytes.notTheLiteral h w x) e = absurd (omega (arith, e))
+      bytes-bad (Bytes.bad h w x y) e = absurd (omega (arith, e))
+      bytes-bad (Bytes.noRoom h w x y v m) e = absurd (omega (arith, e))
+      bytes-bad (Bytes.accepted h w x y v m) e = absurd (omega (arith, e))
+
+      bad-bytes : {p : ℕ} {r : Answer} {left : List ℕ} → BytesAnswers call rules text lent r left → BadAt text p → (r .number ≡ 2) ⊎ ((r .number ≡ 3) × (r .place ≡ p))
+      bad-bytes (Bytes.tooLong h) b = inl refl
+      bad-bytes (Bytes.notUtf8 h c) b = inr (refl, one-bad text c b)
+      bad-bytes (Bytes.notTheLiteral h w x) b = absurd (formed-or-bad text w b)
+      bad-bytes (Bytes.bad h w x y) b = absurd (formed-or-bad text w b)
+      bad-bytes (Bytes.noRoom h w x y v m) b = absurd (formed-or-bad text w b)
+      bad-bytes (Bytes.accepted h w x y v m) b = absurd (formed-or-bad text w b)
 
 pub same-refusals : SameRefusals
-same-refusals rules text lent level r left number place steps a u =
-    ((λ e. bad-test text (reading-bad text rules (a .reading) e) u), (λ e. bad-reading text rules (test-bad text u e) (a .reading)))
+same-refusals rules text lent = (
+  λ level r left a. same-refusal text (reading-bad text rules (a .reading)) (λ q b. bad-reading text rules (a .reading) b),
+  λ r a. same-refusal text (integer-bad text rules a) (λ q b. bad-integer text rules a b),
+  λ call r left a. same-refusal text (bytes-bad text rules call a) (λ q b. bad-bytes text rules call a b),
+)

@@ -9,6 +9,9 @@ use Rattle.rules.specs.Every.{Every}
 use Rattle.reading.specs.declared.Answer.{Answer}
 use Rattle.reading.specs.declared.Rules.{Rules}
 use Rattle.reading.specs.Answers.{Answers}
+use Rattle.values.specs.declared.IntegerAnswer.{IntegerAnswer}
+use Rattle.values.specs.Integer.{IntegerAnswers}
+use Rattle.values.specs.Bytes.{Call, BytesAnswers}
 use Rattle.values.specs.Utf8.{Utf8Answers}
 
 -- ---- 2. 'The UTF-8 test takes eight plain ASCII bytes in one step wherever eight come next, else one sequence, and
@@ -28,11 +31,19 @@ PlainSteps =
     (text : List ℕ) → Every (λ (b : ℕ). b < 0x80) text →
     Utf8Answers text 0 (length text) (length text / 8 + length text % 8)
 
--- 'No answer and no place changes': where the reader answers 3 the test does, with the same place; and where the test
--- does, so does the reader, but for 1 and 2, which are tested before: `same-refusals`
-abbrev pub SameRefusals : Type 0
+-- 'No answer and no place changes', of a call that answers number n at place p for the text: where that is 3 the test
+-- answers 3 too, with the same place; and where the test does, so does the call, but for what it tests before
+abbrev pub SameRefusal : (text : List ℕ) (Before : Type 0) (n p : ℕ) → Type 0
+SameRefusal text Before n p =
+    (number place steps : ℕ) → Utf8Answers text number place steps →
+    (n ≡ 3 → (number ≡ 3) × (place ≡ p)) × (number ≡ 3 → Before ⊎ ((n ≡ 3) × (p ≡ place)))
+
+-- of the reader, which tests 1 and 2 before, and of the value calls, which test 2: `same-refusals`
+abbrev pub SameRefusals : Type 1
 SameRefusals =
-    (rules : Rules) (text lent : List ℕ) (level : ℕ) (r : Answer) (left : List ℕ) (number place steps : ℕ) →
-    Answers rules text lent level r left → Utf8Answers text number place steps →
-    (r .number ≡ 3 → (number ≡ 3) × (place ≡ r .place)) ×
-    (number ≡ 3 → (r .number ≡ 1) ⊎ (r .number ≡ 2) ⊎ ((r .number ≡ 3) × (r .place ≡ place)))
+    (rules : Rules) (text lent : List ℕ) →
+    ((level : ℕ) (r : Answer) (left : List ℕ) → Answers rules text lent level r left →
+    SameRefusal text ((r .number ≡ 1) ⊎ (r .number ≡ 2)) (r .number) (r .place)) ×
+    ((r : IntegerAnswer) → IntegerAnswers rules text r → SameRefusal text (r .number ≡ 2) (r .number) (r .place)) ×
+    ((call : Call) (r : Answer) (left : List ℕ) → BytesAnswers call rules text lent r left →
+    SameRefusal text (r .number ≡ 2) (r .number) (r .place))
