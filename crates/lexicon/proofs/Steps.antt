@@ -9,7 +9,7 @@ use native.Mathlib.Omega.{arith}
 use lib.ListN.{length}
 use Rattle.rules.specs.Class.{Class, _upto_}
 use Rattle.rules.specs.Every.{Every}
-use Rattle.rules.specs.Rule.{Rule, _or_, many, times, At, Takes, nothing, byte, both, left, stop, more, Fails}
+use Rattle.rules.specs.Rule.{Rule, many, times, At, Takes, nothing, byte, both, left, stop, more, Fails}
 use Rattle.rules.proofs.Classes.{in-first}
 use Rattle.rules.proofs.Every.{every-at}
 use Rattle.rules.proofs.Matches.{inside, starting}
@@ -32,7 +32,7 @@ module _ {text : List ℕ} where
   times-fewer (suc n) (both t u) = let x = times-fewer n u in (_, both t (x .1))
 
   -- where they do not come, they do not come behind the first of them either
-  pub times-fail : (n : ℕ) {r : Rule} {i j : ℕ} → Fails text (times (suc n) r) i → Takes text r i j → Fails text (times (suc n) r) j
+  times-fail : (n : ℕ) {r : Rule} {i j : ℕ} → Fails text (times (suc n) r) i → Takes text r i j → Fails text (times (suc n) r) j
   times-fail n f t = record { none = λ u. f .none (both t (times-fewer n u .1)) }
 
 module _ (text : List ℕ) where
@@ -47,7 +47,7 @@ module _ (text : List ℕ) where
   pub no-eight-next : {i j : ℕ} → Fails text eight i → Takes text (range 0x00 0x7F) i j → Fails text eight j
   no-eight-next f t = times-fail 7 f t
 
-  pub no-eight-left : {i : ℕ} → length text < i + 8 → Fails text eight i
+  no-eight-left : {i : ℕ} → length text < i + 8 → Fails text eight i
   no-eight-left {i} h = record { none = none }
     where
       none : {k : ℕ} → Takes text eight i k → ⊥

@@ -1,6 +1,6 @@
 -- The words of an answer. Assumes nothing.
 use mathlib.Core.Path.{_≡_, sym, ap, _∙_}
-use mathlib.Core.List.{List, [], _∷_}
+use mathlib.Core.List.{[], _∷_}
 use Prim.Native.Nat.{ℕ}
 use Rattle.lexicon.specs.declared.Token.{Token}
 use Rattle.lexicon.specs.declared.Next.{Next}

@@ -5,12 +5,12 @@ use mathlib.Core.Path.{refl}
 use Prim.Native.Nat.{_≤_, _-_, _+_, _/_}
 use lib.ListN.{length}
 use native.Mathlib.Omega.{arith}
-use Rattle.rules.specs.Rule.{Takes, Fails}
+use Rattle.rules.specs.Rule.{Takes}
 use Rattle.rules.proofs.Tests.{there}
 use Rattle.rules.proofs.Matches.{inside, forward}
 use Rattle.rules.proofs.Ways.{grows}
 use Rattle.lexicon.specs.Utf8.{sequence}
-use Rattle.lexicon.specs.Steps.{eight, Steps, start}
+use Rattle.lexicon.specs.Steps.{Steps, start}
 use Rattle.lexicon.proofs.Answers.{found-at, found-none}
 use Rattle.lexicon.proofs.Steps.{steps-within}
 use Rattle.utf8.proofs.Steps.{no-eight-behind, no-eight-beyond, step-eights, step-bytes, step-sequence, onward, all-formed, bad-here}
