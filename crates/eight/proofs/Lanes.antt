@@ -9,15 +9,15 @@ use native.Mathlib.Nat.{add-zero}
 use lib.Bits.{bitAnd, bitOr, bitXor, and-block, or-block, xor-block}
 use lib.Dec.{eqb, leb}
 use lib.ListN.{length, getD}
-use borrow.Author.Tests.{eqb-true, eq-eqb, leb-true}
+use borrow.Author.Tests.{eqb-true, eq-eqb, leb-true, not-true}
 use Rattle.rules.specs.Test.{Says}
 use Rattle.rules.specs.Class.{Class, has}
 use Rattle.rules.specs.Rule.{Takes, nothing, byte, both}
-use Rattle.rules.proofs.Bools.{and-left, and-right, not-true, below, all-below}
+use Rattle.rules.proofs.Bools.{and-left, and-right, below, all-below}
 use Rattle.rules.proofs.Tests.{says-no, refuted}
 use Rattle.rules.proofs.Matches.{starting, ending}
 use Rattle.lexicon.specs.Literals.{unit}
-use Rattle.lexicon.proofs.Groups.{unit-at, unit-byte}
+use Rattle.lexicon.proofs.Groups.{unit-at, unit-inside}
 use Rattle.eight.specs.Joined.{joined, Joins}
 
 pub data Operation : Type 0 where
@@ -171,4 +171,4 @@ module _ (x y : Lane) (c : Class) (t : below (tells x y c) 256 ≡ true) (text :
 
 -- no eight bytes are left
 pub none-left : {text : List ℕ} (c : Class) {at : ℕ} {o : Bool} → Says o (at + 8 ≤ length text) → not o ≡ true → Says false (Takes text (unit 8 c) at (at + 8))
-none-left c {at} {o} s e = says-no (λ u. refuted s (not-true o e) (omega (arith, unit-byte 8 c at u 7 (omega arith) .0)))
+none-left c {at} {o} s e = says-no (λ u. refuted s (not-true o e) (unit-inside 7 c u))

@@ -54,7 +54,11 @@ module _ {text : List ℕ} where
   unit-byte (suc n) c i (both (byte a e) u) (suc k) h =
       subst (λ (x : ℕ). At text c x) (omega arith) (unit-byte n c (i + 1) (starting e u) k (le-of-suc-le-suc h))
 
-  -- and so many bytes of the class are one
+  -- and ends within the text
+  pub unit-inside : (n : ℕ) (c : Class) {i j : ℕ} → Takes text (unit (suc n) c) i j → j ≤ length text
+  unit-inside n c {i} u = omega (arith, unit-end (suc n) c u, unit-byte (suc n) c i u n (omega arith) .0)
+
+  -- so many bytes of the class are one
   pub byte-unit : (n : ℕ) (c : Class) (i : ℕ) {j : ℕ} → j ≡ i + n → ((k : ℕ) → k < n → At text c (i + k)) → Takes text (unit n c) i j
   byte-unit zero c i e a = nothing (sym (e ∙ add-zero i))
   byte-unit (suc n) c i {j} e a =

@@ -12,12 +12,12 @@ use Rattle.rules.specs.Every.{Every}
 use Rattle.rules.specs.Rule.{Rule, many, times, At, Takes, nothing, byte, both, left, stop, more, Fails}
 use Rattle.rules.proofs.Classes.{in-first}
 use Rattle.rules.proofs.Every.{every-at}
-use Rattle.rules.proofs.Matches.{inside, starting}
+use Rattle.rules.proofs.Matches.{starting}
 use Rattle.rules.proofs.Chains.{Single, join, snoc, many-of-times, each}
-use Rattle.rules.proofs.Ways.{grows, begins-within}
+use Rattle.rules.proofs.Ways.{grows}
 use Rattle.lexicon.specs.Utf8.{range, sequence}
 use Rattle.lexicon.specs.Steps.{eight, Steps, start, eightBytes, oneSequence}
-use Rattle.lexicon.proofs.Groups.{unit-end, unit-single, byte-unit}
+use Rattle.lexicon.proofs.Groups.{unit-end, unit-single, unit-inside, byte-unit}
 use Rattle.lexicon.proofs.Determined.{sequence-single}
 
 abbrev plain : Class
@@ -48,10 +48,7 @@ module _ (text : List ℕ) where
   no-eight-next f t = times-fail 7 f t
 
   no-eight-left : {i : ℕ} → length text < i + 8 → Fails text eight i
-  no-eight-left {i} h = record { none = none }
-    where
-      none : {k : ℕ} → Takes text eight i k → ⊥
-      none t = let w = begins-within eight refl t in omega (arith, h, eight-end t, inside t (omega (arith, w)))
+  no-eight-left h = record { none = λ t. omega (arith, h, eight-end t, unit-inside 7 plain t) }
 
   -- ---- what the steps reach
 

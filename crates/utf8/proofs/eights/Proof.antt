@@ -6,9 +6,8 @@ use lib.ListN.{length}
 use native.Mathlib.Omega.{arith}
 use Rattle.rules.specs.Rule.{many, Takes, stop}
 use Rattle.rules.proofs.Chains.{snoc, longest}
-use Rattle.rules.proofs.Matches.{inside}
-use Rattle.rules.proofs.Ways.{begins-within}
 use Rattle.lexicon.specs.Steps.{eight}
+use Rattle.lexicon.proofs.Groups.{unit-inside}
 use Rattle.lexicon.proofs.Steps.{eight-single}
 use Rattle.utf8.proofs.Steps.{no-eight}
 use Rattle.utf8.proofs.eights.Statement.{statement}
@@ -30,9 +29,7 @@ ascii-requires c κs = search needs
 within :
     (c : tie.Then1 Inv-loop μ-loop) →
     c .before .before .loop .i + 8 ≤ length (c .before .before .before .before .args .text .now)
-within c =
-    let t = c .before .ascii .ensures .true-holds (c .if1 .taken) in
-    let h = begins-within eight refl t in inside t (omega (arith, h))
+within c = unit-inside 7 _ (c .before .ascii .ensures .true-holds (c .if1 .taken))
 
 add-i : tie.Need-add-i Inv-loop μ-loop
 add-i c = omega (arith, within c)

@@ -7,11 +7,10 @@ use native.Mathlib.Omega.{arith}
 use borrow.Author.Tests.{not-true}
 use lib.ListN.{length}
 use Rattle.rules.specs.Rule.{one, many, Takes, stop}
-use Rattle.rules.proofs.Matches.{inside}
 use Rattle.rules.proofs.Chains.{join, snoc, many-of-times, longest}
 use Rattle.rules.proofs.Tests.{there}
-use Rattle.rules.proofs.Ways.{begins-within}
-use Rattle.lexicon.specs.Literals.{unit, plainByte}
+use Rattle.lexicon.specs.Literals.{plainByte}
+use Rattle.lexicon.proofs.Groups.{unit-inside}
 use Rattle.lexicon.proofs.Spaces.{byte-single}
 use Rattle.text.proofs.Searches.{byte-missed}
 use Rattle.string.proofs.segment.run.Statement.{statement}
@@ -45,9 +44,7 @@ plain-requires c κs = search needs
 within :
     (c : tie.Then2 Inv-loop μ-loop Inv-loop2 μ-loop2) →
     c .before .before .loop .i + 8 ≤ length (c .before .before .before .before .before .before .args .text .now)
-within c =
-    let t = c .before .plain .ensures .true-holds (c .if2 .taken) in
-    let h = begins-within (unit 8 plainByte) refl t in inside t (omega (arith, h))
+within c = unit-inside 7 plainByte (c .before .plain .ensures .true-holds (c .if2 .taken))
 
 add-i : tie.Need-add-i Inv-loop μ-loop Inv-loop2 μ-loop2
 add-i c = omega (arith, within c)
