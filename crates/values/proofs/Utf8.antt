@@ -44,10 +44,6 @@ module _ (text : List ℕ) where
 
   -- ---- exactly one
 
-  abbrev pub OneAnswer : Type 0
-  OneAnswer =
-      (number : ℕ) × (place : ℕ) × (steps : ℕ) × Utf8Answers text number place steps ×
+  pub exactly-one : (number : ℕ) × (place : ℕ) × (steps : ℕ) × Utf8Answers text number place steps ×
       ((m p s : ℕ) → Utf8Answers text m p s → (m ≡ number) × (p ≡ place) × (s ≡ steps))
-
-  pub exactly-one : OneAnswer
   exactly-one = let x = answer-as refl (tested text .1) in (_, _, _, x, λ m p s y. one-answer y x)
