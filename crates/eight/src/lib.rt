@@ -17,7 +17,7 @@ const HIGH: u64 = 0x80 * EACH;
 
 const LOW: u64 = 0x7F * EACH;
 
-// Bytes of ASCII that are not plain.
+// What has a meaning in a comment or a quoted text.
 const QUOTE: u64 = 0x22 * EACH;
 
 const BACKSLASH: u64 = 0x5C * EACH;
@@ -80,7 +80,7 @@ pub fn no_grave(text: &[u8], at: usize) -> bool
     ((x & LOW) + LOW | x) & HIGH == HIGH
 }
 
-// Whether eight bytes stand from `at` on that mean themselves in a quoted text: ASCII from the space on, but three.
+// Whether eight bytes stand from `at` on that may stand in any quoted text and mean themselves: ASCII from the space on, but three.
 pub fn plain(text: &[u8], at: usize) -> bool
     ensures { λ r. ⌜ Says r (Takes (now (text .entry)) (unit 8 plainByte) at (at + 8)) ⌝ }
 {

@@ -92,7 +92,7 @@ pub fn tested(text: &[u8]) -> Tested
     while at < text.len() {
         let eights = eights(text, at);
         steps += (eights - at) / 8;
-        // Fewer than eight are left before a longer sequence or the end, and each is a step of its own.
+        // Fewer than eight are left before a byte above 7F or the end, and each is a step of its own.
         let plain = singles(text, eights);
         steps += plain - eights;
         at = plain;

@@ -1,4 +1,5 @@
--- The answers of the value calls; and the bytes that a quoted text stands for, by which the Text call is proved.
+-- The answers of the value calls and of the UTF-8 test; and the bytes that a quoted text stands for, by which the Text
+-- call is proved.
 pub mod Exactly
 pub mod Utf8
 pub mod Integer
