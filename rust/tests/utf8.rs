@@ -65,8 +65,15 @@ fn the_test_of_the_other_calls() {
     for text in [&b"\"caf\xC3\xA9\xFF\""[..], b"`a comment \xC3`", b"\x80"] {
         let answer = muon::utf8(text);
         let read = muon::read(2, text, &mut []);
-        let value = muon::text(text, &mut []);
         assert_eq!((read.number, read.place), (answer.number, answer.place));
-        assert_eq!((value.number, value.place), (answer.number, answer.place));
+        let integer = muon::integer(text);
+        assert_eq!(
+            (integer.number, integer.place),
+            (answer.number, answer.place)
+        );
+        for call in [muon::text, muon::blob, muon::bits] {
+            let value = call(text, &mut []);
+            assert_eq!((value.number, value.place), (answer.number, answer.place));
+        }
     }
 }
