@@ -12,8 +12,8 @@
 use second::compare::{finish, same, Compared, Difference};
 use second::generate::{
     around, encoded_texts, flipped, long_packed_pieces, long_pieces, long_texts, packed_pieces,
-    pieces, random_bytes, random_packed_pieces, sample_pieces, short_pieces, texts, Random, BAD,
-    LONGER, RUN_MAX,
+    pieces, random_bytes, random_packed_pieces, row_texts, sample_pieces, short_pieces, texts,
+    Random, BAD, LONGER, RUN_MAX,
 };
 use second::samples;
 use second::utf8::{self, Tested};
@@ -175,6 +175,7 @@ fn run(counts: &mut Counts) -> Compared {
         counts.texts(&texts(seed, n))?;
     }
     counts.texts(&random_bytes(READINGS.0, RANDOM_BYTES))?;
+    counts.texts(&row_texts())?;
     counts.texts(&long_texts())?;
     for list in [
         short_pieces(),
