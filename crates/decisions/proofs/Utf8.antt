@@ -9,7 +9,7 @@ use borrow.Author.Tests.{ltb-true, ltb-false}
 use lib.Dec.{ltb}
 use lib.ListN.{length}
 use Rattle.rules.specs.Rule.{many, Takes, stop, more, Longest, Fails}
-use Rattle.rules.proofs.Matches.{forward, inside, ending}
+use Rattle.rules.proofs.Matches.{forward, inside}
 use Rattle.rules.proofs.Chains as Chains
 use Rattle.rules.proofs.Chains.{snoc}
 use Rattle.rules.proofs.Ways.{grows, end-takes}
@@ -19,7 +19,7 @@ use Rattle.lexicon.specs.declared.Tested.{Tested}
 use Rattle.lexicon.specs.Utf8.{sequence, WellFormed, Encoded}
 use Rattle.lexicon.specs.Steps.{eight, Steps, start, eightBytes, oneSequence, placeOf, TestedAs}
 use Rattle.lexicon.proofs.Determined.{sequence-single}
-use Rattle.lexicon.proofs.Steps.{sequences, eight-end}
+use Rattle.lexicon.proofs.Steps.{sequences, no-eight}
 use Rattle.decisions.proofs.Tests.{settled}
 use Rattle.decisions.proofs.Ends.{furthest, furthest-longest}
 use Rattle.decisions.proofs.Cuts.{reaches, takes}
@@ -52,7 +52,7 @@ module _ (text : List ℕ) where
       where
         go : Takes text eight i (i + 8) ⊎ (Takes text eight i (i + 8) → ⊥) → (k : ℕ) × (i < k) × Steps text k (suc n) × Takes text (many sequence) k j
         go (inl e) = (i + 8, omega arith, eightBytes s e, Chains.reaches (sequence-single text) (more t u) f (sequences text e))
-        go (inr o) = (m, grows sequence refl t, oneSequence s (record { none = λ e. o (ending (eight-end text e) e) }) t, u)
+        go (inr o) = (m, grows sequence refl t, oneSequence s (no-eight text o) t, u)
 
     steps : (left i n : ℕ) → j ≤ i + left → Steps text i n → Takes text (many sequence) i j → (m : ℕ) × Steps text j m
     steps zero i n h s c = (n, subst (λ (x : ℕ). Steps text x n) (omega (arith, h, forward c)) s)

@@ -9,12 +9,11 @@ use lib.Dec.{eqb, ltb}
 use lib.ListN.{length}
 use Rattle.rules.specs.Class.{has}
 use Rattle.rules.specs.Rule.{Fails}
-use Rattle.rules.proofs.Matches.{ending}
 use Rattle.rules.proofs.Tests.{refuted, says-yes}
 use Rattle.lexicon.specs.Utf8.{sequence}
 use Rattle.lexicon.specs.Steps.{eight, start, eightBytes, oneSequence}
 use Rattle.lexicon.specs.Steps as Lexicon
-use Rattle.lexicon.proofs.Steps.{eight-end, steps-reach}
+use Rattle.lexicon.proofs.Steps.{no-eight, steps-reach}
 use Rattle.decisions.proofs.Cuts.{reaches, takes, leads, cut}
 use Rattle.values.specs.Utf8.{Utf8Answers, wellFormed, notUtf8}
 use Rattle.examples.specs.Steps.{Steps}
@@ -38,7 +37,7 @@ module _ (text : List ℕ) where
       go false q e on =
           let x =
           cut text sequence i (λ m. walks n m j) (λ m. walks n m j ≡ true) (λ m t. record { true-holds = λ e. e; holds-true = λ e. e }) .true-holds e in
-          on (x .0) (x .2) (oneSequence s (record { none = λ t. refuted (takes text eight i (i + 8)) q (ending (eight-end text t) t) }) (x .1))
+          on (x .0) (x .2) (oneSequence s (no-eight text (refuted (takes text eight i (i + 8)) q)) (x .1))
 
   steps : (n j : ℕ) → walks n 0 j ≡ true → Lexicon.Steps text j n
   steps n j e = subst (λ (m : ℕ). Lexicon.Steps text j m) (omega arith) (walked n 0 j 0 e start)

@@ -12,7 +12,7 @@ use Rattle.rules.specs.Every.{Every}
 use Rattle.rules.specs.Rule.{Rule, many, times, At, Takes, nothing, byte, both, left, stop, more, Fails}
 use Rattle.rules.proofs.Classes.{in-first}
 use Rattle.rules.proofs.Every.{every-at}
-use Rattle.rules.proofs.Matches.{starting}
+use Rattle.rules.proofs.Matches.{starting, ending}
 use Rattle.rules.proofs.Chains.{Single, join, snoc, many-of-times, each}
 use Rattle.rules.proofs.Ways.{grows}
 use Rattle.lexicon.specs.Utf8.{range, sequence}
@@ -43,6 +43,10 @@ module _ (text : List ℕ) where
 
   pub eight-single : Single text eight
   eight-single = unit-single 8 plain
+
+  -- by a look at the place
+  pub no-eight : {i : ℕ} → (Takes text eight i (i + 8) → ⊥) → Fails text eight i
+  no-eight n = record { none = λ t. n (ending (eight-end t) t) }
 
   pub no-eight-next : {i j : ℕ} → Fails text eight i → Takes text (range 0x00 0x7F) i j → Fails text eight j
   no-eight-next f t = times-fail 7 f t

@@ -21,11 +21,7 @@ use Rattle.text.proofs.Ranges.{in-range}
 use Rattle.text.proofs.Searches.{fails}
 
 module _ {text : List ℕ} where
-  -- what the look at eight bytes says where they are not all plain
-  pub no-eight : {i : ℕ} {o : Bool} → Says o (Takes text eight i (i + 8)) → o ≡ false → Fails text eight i
-  no-eight s e = record { none = λ t. refuted s e (ending (eight-end text t) t) }
-
-  -- nor behind the last of them
+  -- behind the last eights in a row no more come
   pub no-eight-behind : {i j : ℕ} → Longest text (many eight) i j → Fails text eight j
   no-eight-behind l = record { none = λ t. omega (arith, l .most (snoc (l .takes) t), eight-end text t) }
 

@@ -6,10 +6,10 @@ use lib.ListN.{length}
 use native.Mathlib.Omega.{arith}
 use Rattle.rules.specs.Rule.{many, Takes, stop}
 use Rattle.rules.proofs.Chains.{snoc, longest}
+use Rattle.rules.proofs.Tests.{refuted}
 use Rattle.lexicon.specs.Steps.{eight}
 use Rattle.lexicon.proofs.Groups.{unit-inside}
-use Rattle.lexicon.proofs.Steps.{eight-single}
-use Rattle.utf8.proofs.Steps.{no-eight}
+use Rattle.lexicon.proofs.Steps.{eight-single, no-eight}
 use Rattle.utf8.proofs.eights.Statement.{statement}
 use Rattle.utf8.proofs.eights.Tie as tie
 
@@ -41,7 +41,7 @@ loop-again : tie.Need-loop-again Inv-loop μ-loop
 loop-again c = snoc (c .before .before .loop .inv) (c .before .ascii .ensures .true-holds (c .if1 .taken))
 
 returns : tie.Need-returns Inv-loop μ-loop
-returns c = longest (eight-single _) (c .before .before .loop .inv) (no-eight (c .before .ascii .ensures) (c .if1 .left))
+returns c = longest (eight-single _) (c .before .before .loop .inv) (no-eight _ (refuted (c .before .ascii .ensures) (c .if1 .left)))
 
 pub eights-spec : {M : Type 1} → statement M
 eights-spec = tie.close (tie.spec Inv-loop μ-loop loop-holds ascii-requires add-i loop-less loop-again returns)
