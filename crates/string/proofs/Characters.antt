@@ -68,10 +68,7 @@ module _ {text : List ℕ} where
   widen : (c d : Class) → includes c d ≡ true → {i j : ℕ} → Takes text (one c) i j → Takes text (one d) i j
   widen c d w {i} (byte a e) = byte (a .0, includes-in c d (getD text i 0) w (a .1)) e
 
-  -- ---- the ways out of `plain_byte`
-
-  pub plain-end : {i : ℕ} → length text ≤ i → Says false (Takes text (one plainByte) i (i + 1))
-  plain-end h = says-no (λ t. omega (arith, byte-at t .0))
+  -- ---- the ways out of `plain_byte` where a byte stands
 
   pub plain-barred : (i : ℕ) → OneOf (0x22 ∷ 0x5C ∷ 0x60 ∷ []) (getD text i 0) → Says false (Takes text (one plainByte) i (i + 1))
   plain-barred i k = says-no (λ t. barred-in (getD text i 0) k (byte-at t .1))

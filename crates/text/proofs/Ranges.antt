@@ -9,7 +9,7 @@ use lib.ListN.{length, getD}
 use native.Mathlib.Omega.{arith}
 use borrow.Author.Tests.{leb-true, leb-false, le-leb}
 use Rattle.rules.specs.Test.{Says}
-use Rattle.rules.specs.Class.{_upto_, just, In}
+use Rattle.rules.specs.Class.{Class, _upto_, just, In}
 use Rattle.rules.specs.Rule.{one, Takes, byte}
 use Rattle.rules.proofs.Bools.{decide}
 use Rattle.rules.proofs.Classes.{is-just, in-first, in-later, low-in, in-high}
@@ -17,11 +17,12 @@ use Rattle.rules.proofs.Matches.{byte-at}
 use Rattle.rules.proofs.Tests.{says-no}
 use Rattle.lexicon.specs.Utf8.{range}
 
--- the ways out of `within`: no byte stands there, it is low enough, it is too low
-module _ {text : List ℕ} {low high at : ℕ} where
-  pub no-byte : length text ≤ at → Says false (Takes text (range low high) at (at + 1))
-  no-byte h = says-no (λ t. omega (arith, byte-at t .0))
+-- no byte stands there, of any class
+pub no-byte : {text : List ℕ} {c : Class} {at : ℕ} → length text ≤ at → Says false (Takes text (one c) at (at + 1))
+no-byte h = says-no (λ t. omega (arith, byte-at t .0))
 
+-- the other ways out of `within`: it is high enough, it is too low
+module _ {text : List ℕ} {low high at : ℕ} where
   pub high-enough : at < length text → low ≤ getD text at 0 → Says (leb (getD text at 0) high) (Takes text (range low high) at (at + 1))
   high-enough l h =
       record {

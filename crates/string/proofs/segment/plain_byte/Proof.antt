@@ -2,12 +2,13 @@
 -- Assumes nothing.
 use borrow.Author.Needs.{needs}
 use native.Mathlib.Omega.{arith}
-use Rattle.string.proofs.Characters.{plain-end, plain-barred, plain-outside, plain-stands}
+use Rattle.text.proofs.Ranges.{no-byte}
+use Rattle.string.proofs.Characters.{plain-barred, plain-outside, plain-stands}
 use Rattle.string.proofs.segment.plain_byte.Statement.{statement}
 use Rattle.string.proofs.segment.plain_byte.Tie as tie
 
 returns : tie.Need-returns
-returns c = plain-end (c .if1 .taken)
+returns c = no-byte (c .if1 .taken)
 
 shared-slice-read-match : tie.Need-shared-slice-read-match
 shared-slice-read-match c = search needs
