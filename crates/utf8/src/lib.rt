@@ -90,12 +90,12 @@ pub fn tested(text: &[u8]) -> Tested
     let mut at = 0;
     let mut steps = 0;
     while at < text.len() {
-        let eights = eights(text, at);
-        steps += (eights - at) / 8;
+        let behind = eights(text, at);
+        steps += (behind - at) / 8;
         // Fewer than eight are left before a byte above 7F or the end, and each is a step of its own.
-        let plain = singles(text, eights);
-        steps += plain - eights;
-        at = plain;
+        let end = singles(text, behind);
+        steps += end - behind;
+        at = end;
         // Behind a longer sequence another is likely: no look for eight at each.
         while within(text, at, 0x80, 0xFF) {
             let Found::At(next) = sequence(text, at) else {

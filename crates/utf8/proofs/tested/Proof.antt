@@ -18,10 +18,10 @@ use Rattle.utf8.proofs.tested.Statement.{statement}
 use Rattle.utf8.proofs.tested.Tie as tie
 
 abbrev Inv-loop2 : tie.InvT-loop2
-Inv-loop2 text at₀ steps₀ eights plain at steps = (plain ≤ at) × (at ≤ length text) × Steps text at steps
+Inv-loop2 text at₀ steps₀ behind end at steps = (end ≤ at) × (at ≤ length text) × Steps text at steps
 
 abbrev μ-loop2 : tie.MeasureT-loop2
-μ-loop2 text at₀ steps₀ eights plain at steps = length text - at
+μ-loop2 text at₀ steps₀ behind end at steps = length text - at
 
 abbrev Inv-loop : tie.InvT-loop
 Inv-loop text at₀ steps₀ at steps = (at ≤ length text) × Steps text at steps
@@ -58,7 +58,8 @@ sub-steps : tie.Need-sub-steps Inv-loop2 μ-loop2 Inv-loop μ-loop
 sub-steps c = omega (arith, forward (c .eights .ensures .takes))
 
 add-steps : tie.Need-add-steps Inv-loop2 μ-loop2 Inv-loop μ-loop
-add-steps c = let s = behind-eights c in omega (arith, s .0, steps-within _ (s .1))
+add-steps c =
+    omega (arith, behind-eights c .0, forward (c .eights .ensures .takes), steps-within _ (c .before .before .loop .inv .1))
 
 singles-requires : tie.Need-singles-requires Inv-loop2 μ-loop2 Inv-loop μ-loop
 singles-requires c κs = search needs
@@ -67,7 +68,9 @@ sub-steps-2 : tie.Need-sub-steps-2 Inv-loop2 μ-loop2 Inv-loop μ-loop
 sub-steps-2 c = omega (arith, forward (c .singles .ensures .takes))
 
 add-steps-2 : tie.Need-add-steps-2 Inv-loop2 μ-loop2 Inv-loop μ-loop
-add-steps-2 c = let s = behind-singles c in omega (arith, s .0, steps-within _ (s .1))
+add-steps-2 c =
+    let start = c .before .before .before .loop .inv .1 in
+    omega (arith, behind-singles c .0, forward (c .before .eights .ensures .takes), forward (c .singles .ensures .takes), steps-within _ start)
 
 loop2-holds : tie.Need-loop2-holds Inv-loop2 μ-loop2 Inv-loop μ-loop
 loop2-holds c = let s = behind-singles c in (omega arith, s .0, s .1)
