@@ -10,12 +10,12 @@ use native.Mathlib.Nat.{not-suc-le-zero, le-of-suc-le-suc, le-antisymm, add-zero
 use native.Mathlib.Omega.{arith}
 use lib.ListN.{length, length-append}
 use Rattle.rules.specs.Class.{Class, In, anyOf}
-use Rattle.rules.specs.Rule.{_then_, many, plus, opt, At, Takes, nothing, byte, both, left, right, stop, more, Longest}
+use Rattle.rules.specs.Rule.{one, _then_, many, plus, opt, At, Takes, nothing, byte, both, left, right, stop, more, Longest, Fails}
 use Rattle.rules.specs.Every.{Every, none, also}
 use Rattle.rules.proofs.Every.{every-append}
 use Rattle.rules.proofs.Classes.{apart, apartSpan}
 use Rattle.rules.proofs.Matches.{forward, starting, ending}
-use Rattle.rules.proofs.Chains.{Single}
+use Rattle.rules.proofs.Chains.{Single, join, many-of-times}
 use Rattle.rules.proofs.Ways.{never, never-takes}
 use Rattle.lexicon.specs.Space.{blank, sp}
 use Rattle.lexicon.specs.Literals.{joint, unit, groups}
@@ -43,6 +43,15 @@ module _ {text : List ℕ} where
 
   pub unit-single : (n : ℕ) (c : Class) → Single text (unit n c)
   unit-single n c = record { same = λ u v. unit-end n c u ∙ sym (unit-end n c v) }
+
+  -- it does not come next where it does not come up to there
+  pub unit-missed : (n : ℕ) (c : Class) {i : ℕ} → (Takes text (unit n c) i (i + n) → ⊥) → Fails text (unit n c) i
+  unit-missed n c f = record { none = λ u. f (ending (unit-end n c u) u) }
+
+  -- a row of units is one of their bytes
+  pub units-run : (n : ℕ) {c : Class} {i j : ℕ} → Takes text (many (unit n c)) i j → Takes text (many (one c)) i j
+  units-run n (stop e) = stop e
+  units-run n (more u us) = join (many-of-times n u) (units-run n us)
 
   pub unit-at : (n : ℕ) {c : Class} {i j : ℕ} → Takes text (unit (suc n) c) i j → At text c i
   unit-at n (both (byte a e) u) = a

@@ -12,12 +12,12 @@ use Rattle.rules.specs.Every.{Every}
 use Rattle.rules.specs.Rule.{Rule, many, times, At, Takes, nothing, byte, both, left, stop, more, Fails}
 use Rattle.rules.proofs.Classes.{in-first}
 use Rattle.rules.proofs.Every.{every-at}
-use Rattle.rules.proofs.Matches.{starting, ending}
+use Rattle.rules.proofs.Matches.{starting}
 use Rattle.rules.proofs.Chains.{Single, join, snoc, many-of-times, each}
 use Rattle.rules.proofs.Ways.{grows}
 use Rattle.lexicon.specs.Utf8.{range, sequence}
 use Rattle.lexicon.specs.Steps.{eight, Steps, start, eightBytes, oneSequence}
-use Rattle.lexicon.proofs.Groups.{unit-end, unit-single, unit-inside, byte-unit}
+use Rattle.lexicon.proofs.Groups.{unit-end, unit-single, unit-missed, unit-inside, byte-unit}
 use Rattle.lexicon.proofs.Determined.{sequence-single}
 
 abbrev plain : Class
@@ -46,7 +46,7 @@ module _ (text : List ℕ) where
 
   -- by a look at the place
   pub no-eight : {i : ℕ} → (Takes text eight i (i + 8) → ⊥) → Fails text eight i
-  no-eight n = record { none = λ t. n (ending (eight-end t) t) }
+  no-eight n = unit-missed 8 plain n
 
   pub no-eight-next : {i j : ℕ} → Fails text eight i → Takes text (range 0x00 0x7F) i j → Fails text eight j
   no-eight-next f t = times-fail 7 f t

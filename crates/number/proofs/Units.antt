@@ -13,7 +13,7 @@ use Rattle.rules.proofs.Bools.{not-both}
 use Rattle.rules.proofs.Chains.{join, snoc, many-of-times, longest}
 use Rattle.rules.proofs.Matches.{forward, starting, one-at, byte-at}
 use Rattle.lexicon.specs.Literals.{unit}
-use Rattle.lexicon.proofs.Groups.{unit-end, unit-single}
+use Rattle.lexicon.proofs.Groups.{unit-end, unit-single, units-run}
 use Rattle.lexicon.proofs.Spaces.{byte-single}
 
 -- ---- a run of bytes
@@ -50,11 +50,6 @@ module _ {text : List ℕ} (c : Class) where
       let x = suc-mul q n in
       let r = first-unit n (i + n) refl (omega arith) t in more (r .0) (some-units q n m (omega arith) h (r .1))
 
-  -- their bytes are a run
-  units-run : (n : ℕ) {i j : ℕ} → Takes text (many (unit n c)) i j → Takes text (many (one c)) i j
-  units-run n (stop e) = stop e
-  units-run n (more u us) = join (many-of-times n u) (units-run n us)
-
 -- as many as there is room for
 module _ (text : List ℕ) (c : Class) (n at end : ℕ) (run : Longest text (many (one c)) at end) where
   pub units-room : at + (end - at) / n * n ≤ end
@@ -68,7 +63,7 @@ module _ (text : List ℕ) (c : Class) (n at end : ℕ) (run : Longest text (man
 
       short : {k : ℕ} → Takes text (unit n c) (at + (end - at) / n * n) k → ⊥
       short u =
-          omega (arith, unit-end n c u, run .most (join (units-run c n us) (many-of-times n u)), forward (run .takes), lt-div-mul-add {a = end - at} {b = n} h)
+          omega (arith, unit-end n c u, run .most (join (units-run n us) (many-of-times n u)), forward (run .takes), lt-div-mul-add {a = end - at} {b = n} h)
 
 -- each byte is one
 pub byte-units : (text : List ℕ) (c : Class) (n at end : ℕ) → Longest text (many (one c)) at end → n ≡ 1 → Longest text (many (unit n c)) at end

@@ -3,9 +3,22 @@ pub mod front;
 pub mod joint;
 
 use eight::no_grave;
-ghost use Rattle.lexicon.specs.Space.{Skips};
+ghost use Rattle.rules.specs.Rule.{many, Longest};
+ghost use Rattle.lexicon.specs.Literals.{unit};
+ghost use Rattle.lexicon.specs.Space.{notGrave, Skips};
 
 const GRAVE: u8 = b'`';
+
+// Where the eights of bytes at `at` end that have no grave accent among them.
+fn eights(text: &[u8], at: usize) -> usize
+    ensures { λ r. ⌜ Longest (now (text .entry)) (many (unit 8 notGrave)) at r ⌝ }
+{
+    let mut i = at;
+    while no_grave(text, i) {
+        i += 8;
+    }
+    i
+}
 
 // Where the dividing space at `at` ends: `at` itself if there is none.
 pub fn space(text: &[u8], at: usize) -> usize
@@ -24,11 +37,8 @@ pub fn space(text: &[u8], at: usize) -> usize
                 break 'space;
             }
         }
-        let mut i = end + 1;
         // By eights first, since a comment may be long.
-        while no_grave(text, i) {
-            i += 8;
-        }
+        let mut i = eights(text, end + 1);
         loop {
             // A grave accent without a partner is no space.
             if i == text.len() {
