@@ -51,7 +51,7 @@ fn refused(number: u32, place: usize) -> Answer
 fn judge_blob(piece: &[u8]) -> Verdict
     ensures { λ r. ⌜ Judged Kinds.Blob (now (piece .entry)) r ⌝ }
 {
-    let Literal::At { end, bad } = number::blob::strict_blob(piece, 0) else {
+    let Literal::At { end, bad } = number::blob::blob(piece, 0) else {
         return Verdict::Other;
     };
     if end != piece.len() {

@@ -1,70 +1,46 @@
--- Whether a Blob's value is bad: a `=` with another base-64 character anywhere later. Assumes nothing.
-use mathlib.Core.Path.{_≡_, refl, subst⁻¹}
-use mathlib.Core.Logic.{_⊎_, inl, inr}
-use mathlib.Core.Bool.{Bool, false, not, _&&_, _||_}
-use mathlib.Core.List.{List, [], _∷_}
-use Prim.Native.Nat.{ℕ, _≤_}
+-- Whether a Blob's value is bad: in base 64, by the padding's machine. Assumes nothing.
+use mathlib.Core.Bool.{Bool}
+use mathlib.Core.List.{List}
+use Prim.Native.Nat.{ℕ}
 use native.Mathlib.Omega.{arith}
 use lib.Dec.{eqb}
-use lib.ListN.{length}
 use Rattle.rules.specs.Test.{Says}
-use Rattle.rules.specs.Rule.{_then_, opt, lit}
-use Rattle.rules.proofs.Tests.{says-no}
+use Rattle.rules.specs.Rule.{_then_, opt, lit, Takes}
 use Rattle.lexicon.specs.Bytes.{base64}
 use Rattle.lexicon.specs.Space.{sp}
-use Rattle.lexicon.specs.Values.{Digits}
-use Rattle.lexicon.specs.Bad as Bad
-use Rattle.lexicon.specs.Bad.{Other, Misplaced, BadPadding}
-use Rattle.decisions.proofs.Tests.{by, and, either, denied, equal}
+use Rattle.lexicon.specs.Literals.{blob}
+use Rattle.lexicon.specs.Values.{Digits, Behind, markAlone, markDigits}
+use Rattle.lexicon.specs.Bad.{NoBytes}
+use Rattle.lexicon.proofs.Fit.{Fit, fit-nothing}
+use Rattle.lexicon.proofs.Paddings.{run, unfit, unfit-says}
+use Rattle.lexicon.proofs.Unfit.{unfit-no-bytes, no-bytes-unfit, no-bytes-only}
+use Rattle.decisions.proofs.Tests.{by}
 use Rattle.decisions.proofs.Cuts.{leads, cut}
 use Rattle.decisions.proofs.Digits.{rows, row}
 
-some-byte : {ds : List ℕ} → Other ds → 1 ≤ length ds
-some-byte (Bad.Other.now n) = omega arith
-some-byte (Bad.Other.later o) = omega arith
-
-some-pad : {ds : List ℕ} → Misplaced ds → 1 ≤ length ds
-some-pad (Bad.Misplaced.now o) = omega arith
-some-pad (Bad.Misplaced.later o) = omega arith
-
-abbrev isOther : List ℕ → Bool
-isOther [] = false
-isOther (d ∷ ds) = not (eqb d 0x3D) || isOther ds
-
-other : (ds : List ℕ) → Says (isOther ds) (Other ds)
-other [] = says-no (λ o. omega (arith, some-byte o))
-other (d ∷ ds) = by to from (either (denied (equal d 0x3D)) (other ds))
-  where
-    to : (d ≡ 0x3D → ⊥) ⊎ Other ds → Other (d ∷ ds)
-    to (inl n) = Bad.Other.now n
-    to (inr o) = Bad.Other.later o
-
-    from : Other (d ∷ ds) → (d ≡ 0x3D → ⊥) ⊎ Other ds
-    from (Bad.Other.now n) = inl n
-    from (Bad.Other.later o) = inr o
-
-pad-cases : {d : ℕ} {ds : List ℕ} → Misplaced (d ∷ ds) → ((d ≡ 0x3D) × Other ds) ⊎ Misplaced ds
-pad-cases (Bad.Misplaced.now o) = inl (refl, o)
-pad-cases (Bad.Misplaced.later m) = inr m
-
-abbrev isMisplaced : List ℕ → Bool
-isMisplaced [] = false
-isMisplaced (d ∷ ds) = (eqb d 0x3D && isOther ds) || isMisplaced ds
-
-misplaced : (ds : List ℕ) → Says (isMisplaced ds) (Misplaced ds)
-misplaced [] = says-no (λ o. omega (arith, some-pad o))
-misplaced (d ∷ ds) = by to (λ m. pad-cases m) (either (and (equal d 0x3D) (other ds)) (misplaced ds))
-  where
-    to : ((d ≡ 0x3D) × Other ds) ⊎ Misplaced ds → Misplaced (d ∷ ds)
-    to (inl x) = subst⁻¹ (λ (y : ℕ). Misplaced (y ∷ ds)) (x .0) (Bad.Misplaced.now (x .1))
-    to (inr m) = Bad.Misplaced.later m
+abbrev isUnfit : List ℕ → Bool
+isUnfit ds = eqb (run 0 ds) unfit
 
 module _ (text : List ℕ) where
-  abbrev pub badPadding : ℕ → ℕ → Bool
-  badPadding i j = leads text (lit "0xy" then opt sp) i (λ s. rows text 3 base64 j isMisplaced s j)
+  -- digits behind the mark that encode nothing
+  abbrev Unfit : ℕ → ℕ → Type 0
+  Unfit i j = (s : ℕ) × Takes text (lit "0xy" then opt sp) i s × ((ds : List ℕ) × Digits text 4 base64 s j ds × (Fit ds → ⊥))
 
-  pub bad-padding : (i j : ℕ) → Says (badPadding i j) (BadPadding text i j)
-  bad-padding i j =
-      by (λ x. record { start = x .0; before = x .1; bytes = x .2 .0; digits-are = x .2 .1; misplaced = x .2 .2 }) (λ x. (x .start, x .before, (x .bytes, x .digits-are, x .misplaced)))
-      (cut text (lit "0xy" then opt sp) i (λ s. rows text 3 base64 j isMisplaced s j) (λ s. (ds : List ℕ) × Digits text 4 base64 s j ds × Misplaced ds)
-      (λ s t. row text 3 base64 j isMisplaced Misplaced misplaced s j (omega arith)))
+  no-bytes : {i j : ℕ} → Unfit i j → NoBytes text i j
+  no-bytes (s, t, (ds, d, f)) = unfit-no-bytes (markDigits t d) f
+
+  unfit-digits : {i j : ℕ} → Takes text blob i j → NoBytes text i j → Unfit i j
+  unfit-digits t n = go (no-bytes-only text t n .1) n
+    where
+      go : {i j : ℕ} {ds : List ℕ} → Behind text "0xy" 4 base64 i j ds → NoBytes text i j → Unfit i j
+      go (markAlone u) n = absurd (no-bytes-unfit (markAlone u) n fit-nothing)
+      go (markDigits {m = s} {ds = ds} u d) n = (s, u, (ds, d, no-bytes-unfit (markDigits u d) n))
+
+  abbrev pub badBlob : ℕ → ℕ → Bool
+  badBlob i j = leads text (lit "0xy" then opt sp) i (λ s. rows text 3 base64 j isUnfit s j)
+
+  pub bad-blob : (i j : ℕ) → Takes text blob i j → Says (badBlob i j) (NoBytes text i j)
+  bad-blob i j t =
+      by no-bytes (unfit-digits t)
+      (cut text (lit "0xy" then opt sp) i (λ s. rows text 3 base64 j isUnfit s j) (λ s. (ds : List ℕ) × Digits text 4 base64 s j ds × (Fit ds → ⊥))
+      (λ s u. row text 3 base64 j isUnfit (λ ds. Fit ds → ⊥) unfit-says s j (omega arith)))

@@ -108,7 +108,7 @@ module _ (text : List ℕ) where
 
   module _ (at i : ℕ) (skips : Skips text at i) where
     token-is : i < length text → (s : Sort) → Told text (s .kind) i (s .end) → Comes text at (tokenOf i s)
-    token-is h s t = (skips, h, record { told = t }, bad-is text (s .kind) i (s .end))
+    token-is h s t = (skips, h, record { told = t }, bad-is text (s .kind) i (s .end) t)
 
     lexed-is : i < length text → NoRun i → (m : Option Match) → HereOr text i m → Comes text at (lexed i m)
     lexed-is h r none f = (skips, h, λ k j x. no-told i f r k j (x .told))

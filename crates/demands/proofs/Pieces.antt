@@ -16,11 +16,11 @@ use Rattle.lexicon.specs.declared.Form.the-variants.{Quoted, Word, HeadWord, Co
 use Rattle.lexicon.specs.declared.Kind.{Kind}
 use Rattle.lexicon.specs.declared.Kind.the-variants as Kind
 use Rattle.lexicon.specs.Utf8.{WellFormed}
-use Rattle.lexicon.specs.Literals.{integer, bits, blob}
+use Rattle.lexicon.specs.Literals.{integer}
 use Rattle.lexicon.specs.Token.{Told, Is, Bad}
 use Rattle.lexicon.proofs.Determined.{formed-or-bad}
 use Rattle.lexicon.proofs.Unique.{token-forward}
-use Rattle.lexicon.proofs.Pieces.{token-within, token-formed, token-alone, bad-there, integer-there, text-there, bits-there, blob-there, no-bytes-there}
+use Rattle.lexicon.proofs.Pieces.{token-within, token-formed, token-alone, bad-there, integer-there, text-there, bits-there, blob-there}
 use Rattle.grammar.specs.Tokens.{Tok, Class, atom, names, round, curly, square, mark, later, classSign, classKind}
 use Rattle.grammar.specs.Tokens as Tokens
 use Rattle.grammar.specs.Tree.{Value}
@@ -40,10 +40,9 @@ use Rattle.reading.proofs.Rows.{append}
 use Rattle.values.specs.declared.IntegerAnswer.{IntegerAnswer}
 use Rattle.values.specs.Integer.{IntegerAnswers}
 use Rattle.values.specs.Integer as Integer
-use Rattle.values.specs.Exactly.{Exactly}
-use Rattle.values.specs.Bytes.{Call, BadPiece, PieceBytes, BytesAnswers}
+use Rattle.values.specs.Bytes.{Call, PieceBytes, BytesAnswers}
 use Rattle.values.specs.Bytes as Bytes
-use Rattle.values.specs.Text.{textLiteral, textCall, BadText}
+use Rattle.values.specs.Text.{textCall}
 use Rattle.values.specs.Bits.{bitsCall}
 use Rattle.values.specs.Blob.{blobCall}
 use Rattle.values.proofs.Shapes.{quoted-good, word-good, code-good}
@@ -91,16 +90,17 @@ module _ (bytes : List ℕ) where
 -- ---- the tokens of a node's kind
 
 module _ (text : List ℕ) (i j : ℕ) where
-  record GoodText : Type 0 where
-    takes : Takes text textLiteral i j
-    good : BadText text i j → ⊥
+  -- a literal of a call, and its value is not bad
+  record Good (call : Call) : Type 0 where
+    takes : Takes text (call .literal) i j
+    good : call .Bad text i j → ⊥
 
   -- what stands from i to j for a node of a kind that a value call takes
   abbrev Exact : NodeKind → Type 0
   Exact anInteger = Takes text integer i j
-  Exact aBits = Takes text bits i j
-  Exact aBlob = Takes text blob i j
-  Exact aText = GoodText
+  Exact aBits = Good bitsCall
+  Exact aBlob = Good blobCall
+  Exact aText = Good textCall
   Exact anIgnorance = Unit {0}
   Exact aBoolean = Unit {0}
   Exact aFraction = Unit {0}
@@ -116,7 +116,7 @@ module _ (text : List ℕ) (i j : ℕ) where
   -- the same of a token of a class
   abbrev ExactClass : Class → Type 0
   ExactClass (atom a) = Exact (atomKind a)
-  ExactClass (Tokens.text w) = GoodText
+  ExactClass (Tokens.text w) = Good textCall
   ExactClass names = Unit {0}
   ExactClass round = Unit {0}
   ExactClass curly = Unit {0}
@@ -146,8 +146,8 @@ module _ (text : List ℕ) (i j : ℕ) where
   of-token (Kind.Boolean b) t n = tt
   of-token (Kind.Integer signed) t n = t .0 .takes
   of-token Kind.Fraction t n = tt
-  of-token Kind.Bits t n = t .takes
-  of-token Kind.Blob t n = t .takes
+  of-token Kind.Bits t n = record { takes = t .takes; good = λ b. b }
+  of-token Kind.Blob t n = record { takes = t .takes; good = n }
   of-token (Kind.Text Quoted) t n = record { takes = left (t .takes); good = quoted-good text (t .takes) n }
   of-token (Kind.Text Word) t n = let x = t .0 .takes in record { takes = right (left x); good = word-good text x }
   of-token (Kind.Text (HeadWord h)) t n = let x = t .0 .takes in record { takes = right (left x); good = word-good text x }
@@ -170,13 +170,6 @@ module _ (rules : Rules) (bytes : List ℕ) (n : Node) (l : Lone rules bytes n) 
   exact : {k : NodeKind} → n .kind ≡ k → Exact own 0 (length own) k
   exact e = subst (Exact own 0 (length own)) e (of-written own 0 (length own) (l .written) (of-token own 0 (length own) (l .kind) (l .alone .told) (l .alone-sound)))
 
-  -- and in the text a Text is not bad
-  text-good : n .kind ≡ aText → BadText bytes (n .at .first) (n .at .end) → ⊥
-  text-good e =
-      let i = n .at .first in let j = n .at .end in
-      let x : GoodText bytes i j = subst (Exact bytes i j) e (of-written bytes i j (l .written) (of-token bytes i j (l .kind) (l .there .told) (l .there-sound))) in
-      x .good
-
   integer-given : n .kind ≡ anInteger → (r : IntegerAnswer) → IntegerAnswers rules own r → GivesInteger bytes (n .at) r
   integer-given e r a = go a
     where
@@ -188,35 +181,32 @@ module _ (rules : Rules) (bytes : List ℕ) (n : Node) (l : Lone rules bytes n) 
       go (Integer.accepted {z} h w x v o) =
           subst (λ (m : ℕ). GivesInteger bytes (n .at) (Integer.answer 0 m z)) (sym size) (GivesInteger.accepted (integer-there bytes _ (l .there) v) o)
 
-  -- one law for the calls that hand back bytes, by what of the piece is also of the text there
-  module _ (call : Call) (exact : Exactly (call .literal) own)
-      (bytes-there : (bs : List ℕ) → PieceBytes call own bs → call .Bytes bytes (n .at .first) (n .at .end) bs)
-      (bad-there : BadPiece call own → call .Bad bytes (n .at .first) (n .at .end)) where
+  -- one law for the calls that hand back bytes: those of the piece are also the text's there
+  module _ (call : Call) (x : Good own 0 (length own) call) (bytes-there : (bs : List ℕ) → PieceBytes call own bs → call .Bytes bytes (n .at .first) (n .at .end) bs) where
     bytes-given : Gives call rules bytes n
     bytes-given lent r t a = go a
       where
         go : {r : Answer} {t : List ℕ} → BytesAnswers call rules own lent r t → GivesBytes bytes (n .at) call lent r t
         go (Bytes.tooLong h) = absurd (omega (arith, h, l .short))
         go (Bytes.notUtf8 h b) = absurd (formed-or-bad own (l .formed) b)
-        go (Bytes.notTheLiteral h w x) = absurd (x exact)
-        go (Bytes.bad h w x b) = GivesBytes.bad (bad-there b)
-        go (Bytes.noRoom {bs} h w x g v o) =
+        go (Bytes.notTheLiteral h w e) = absurd (e (x .takes))
+        go (Bytes.bad h w e b) = absurd (x .good b)
+        go (Bytes.noRoom {bs} h w e g v o) =
             subst (λ (m : ℕ). GivesBytes bytes (n .at) call lent (answer 8 m (length bs)) lent) (sym size) (GivesBytes.noRoom (bytes-there bs v) o)
-        go (Bytes.accepted {bs} h w x g v o) =
+        go (Bytes.accepted {bs} h w e g v o) =
             subst (λ (m : ℕ). GivesBytes bytes (n .at) call lent (answer 0 m (length bs)) (bs ++ drop (length bs) lent)) (sym size)
             (GivesBytes.accepted (bytes-there bs v) o)
 
   text-given : n .kind ≡ aText → Gives textCall rules bytes n
   text-given e =
-      let x = exact e in
-      bytes-given textCall (x .takes)
-      (λ bs y. record { characters = y .characters; are = text-there bytes _ (l .there) (y .are); bytes-are = y .bytes-are }) (λ b. absurd (x .good b))
+      bytes-given textCall (exact e)
+      (λ bs y. record { characters = y .characters; are = text-there bytes _ (l .there) (y .are); bytes-are = y .bytes-are })
 
   bits-given : n .kind ≡ aBits → Gives bitsCall rules bytes n
-  bits-given e = bytes-given bitsCall (exact e) (λ bs y. bits-there bytes _ (l .there) y) (λ b. b)
+  bits-given e = bytes-given bitsCall (exact e) (λ bs y. bits-there bytes _ (l .there) y)
 
   blob-given : n .kind ≡ aBlob → Gives blobCall rules bytes n
-  blob-given e = bytes-given blobCall (exact e) (λ bs y. blob-there bytes _ (l .there) y) (λ b. no-bytes-there bytes _ (l .there) b)
+  blob-given e = bytes-given blobCall (exact e) (λ bs y. blob-there bytes _ (l .there) y)
 
 -- ---- the nodes of an accepted text
 
@@ -228,7 +218,6 @@ module _ (rules : Rules) (bytes : List ℕ) where
         literal = own;
         integer = λ e. integer-given rules bytes n (own (ap isLiteral e)) e;
         text = λ e. text-given rules bytes n (own (ap isLiteral e)) e;
-        text-good = λ e. text-good rules bytes n (own (ap isLiteral e)) e;
         bits = λ e. bits-given rules bytes n (own (ap isLiteral e)) e;
         blob = λ e. blob-given rules bytes n (own (ap isLiteral e)) e;
       }

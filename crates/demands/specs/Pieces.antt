@@ -24,7 +24,7 @@ use Rattle.values.specs.declared.IntegerAnswer.{IntegerAnswer}
 use Rattle.values.specs.Integer.{Within, refusal, IntegerAnswers}
 use Rattle.values.specs.Integer as Integer
 use Rattle.values.specs.Bytes.{Call, BytesAnswers}
-use Rattle.values.specs.Text.{BadText, textCall}
+use Rattle.values.specs.Text.{textCall}
 use Rattle.values.specs.Bits.{bitsCall}
 use Rattle.values.specs.Blob.{blobCall}
 
@@ -53,14 +53,13 @@ module _ (bytes : List ℕ) (s : Span) where
     outside : {z : ℤ} → IntegerOf bytes (s .first) (s .end) z → (Within z → ⊥) →
         GivesInteger (refusal 10 0)
 
-  -- those of a call that hands back bytes: 0 with the bytes that the grammar gives at this place of the text, 8 where
-  -- the buffer is too short for them, or 5 where the value there is bad
+  -- those of a call that hands back bytes: 0 with the bytes that the grammar gives at this place of the text, or 8
+  -- where the buffer is too short for them; never 5, since no value in an accepted text is bad
   pub data GivesBytes (call : Call) (lent : List ℕ) : Answer → List ℕ → Type 0 where
     accepted : {bs : List ℕ} → call .Bytes bytes (s .first) (s .end) bs → length bs ≤ length lent →
         GivesBytes call lent (answer 0 (s .end - s .first) (length bs)) (bs ++ drop (length bs) lent)
     noRoom : {bs : List ℕ} → call .Bytes bytes (s .first) (s .end) bs → length lent < length bs →
         GivesBytes call lent (answer 8 (s .end - s .first) (length bs)) lent
-    bad : call .Bad bytes (s .first) (s .end) → GivesBytes call lent (answer 5 0 0) lent
 
 -- such a call on the piece of a node, with any buffer
 abbrev pub Gives : Call → Rules → List ℕ → Node → Type 0
@@ -75,11 +74,7 @@ pub record NodePiece (rules : Rules) (bytes : List ℕ) (n : Node) : Type 0 wher
   pub integer : n .kind ≡ anInteger → (r : IntegerAnswer) →
       IntegerAnswers rules (piece bytes (n .at)) r → GivesInteger bytes (n .at) r
   pub text : n .kind ≡ aText → Gives textCall rules bytes n
-  -- and never 5: the value of a Text in an accepted text is not bad
-  pub text-good : n .kind ≡ aText → BadText bytes (n .at .first) (n .at .end) → ⊥
-  -- never 5 either: no value of Bits is bad
   pub bits : n .kind ≡ aBits → Gives bitsCall rules bytes n
-  -- 5 if no bytes have the bits that the Blob says
   pub blob : n .kind ≡ aBlob → Gives blobCall rules bytes n
 
 -- of every node of the table

@@ -8,7 +8,7 @@ use native.Mathlib.Omega.{arith}
 use borrow.Author.Tests.{leb-true, ltb-true}
 use lib.Dec.{leb, eqb, ltb}
 use lib.ListN.{length, getD, drop}
-use Rattle.rules.specs.Class.{Class, has, codes}
+use Rattle.rules.specs.Class.{Class, has, byteOf, codes}
 use Rattle.rules.specs.Test.{Says}
 use Rattle.rules.specs.Every.{Every, none, also}
 use Rattle.rules.specs.Rule.{Rule, _then_, opt, lit}
@@ -18,7 +18,7 @@ use Rattle.lexicon.specs.Bytes.{binary, octal, hexadecimal, base64}
 use Rattle.lexicon.specs.Space.{sp}
 use Rattle.lexicon.specs.Base64.{character, Encodes}
 use Rattle.lexicon.specs.Values.{Digits, Behind, markAlone, markDigits, BitsOf, BlobOf}
-use Rattle.lexicon.specs.Bad.{Other, Misplaced, LeftOver, BadBase64}
+use Rattle.lexicon.specs.Padding.{BadBase64, notAtEnd, moreThanTwo, bitsLeft}
 use Rattle.lexicon.proofs.Unfit.{bad-no-bytes}
 use Rattle.decisions.proofs.Tests.{by, and, equal}
 use Rattle.decisions.proofs.Cuts.{reaches, takes, leads, cut}
@@ -148,13 +148,13 @@ encodes-none =
     }
 
 -- bits left over: `B` is 000001
-four-left : LeftOver (codes "AB==")
+four-left : BadBase64 (codes "AB==")
 unfolding character
-four-left = record { before = codes "A"; last = 1; six-bits = omega arith; padding = 2; characters-are = refl; not-zero = λ e. omega (arith, ap (λ (l : List ℕ). getD l 3 0) e) }
+four-left = bitsLeft (codes "A") 1 2 (omega arith) refl (λ e. omega (arith, ap (λ (l : List ℕ). getD l 3 0) e))
 
-two-left : LeftOver (codes "AAB=")
+two-left : BadBase64 (codes "AAB=")
 unfolding character
-two-left = record { before = codes "AA"; last = 1; six-bits = omega arith; padding = 1; characters-are = refl; not-zero = λ e. omega (arith, ap (λ (l : List ℕ). getD l 1 0) e) }
+two-left = bitsLeft (codes "AA") 1 1 (omega arith) refl (λ e. omega (arith, ap (λ (l : List ℕ). getD l 1 0) e))
 
 pub contents : Contents
 unfolding has allBelow
@@ -175,12 +175,11 @@ contents =
       hexadecimal = bits-hands "0bxA" (1 ∷ 0 ∷ 1 ∷ 0 ∷ []) refl (BitsOf.inHexadecimal (digits-are (codes "0bxA") "0bx" 0 hexadecimal (codes "A") refl));
       joined = bits-hands "0bb1_0 1" (1 ∷ 0 ∷ 1 ∷ []) refl (BitsOf.inBinary (digits-are (codes "0bb1_0 1") "0bb" 0 binary (codes "101") refl));
       no-bit = bits-hands "0bb" [] refl (BitsOf.inBinary (alone "0bb" refl 1 binary));
-      four-pads = bad-blob "0xy====" (codes "====") refl refl (BadBase64.moreThanTwo (omega arith));
-      four-bits-left = bad-blob "0xyAB==" (codes "AB==") refl refl (BadBase64.bitsLeft four-left);
-      two-bits-left = bad-blob "0xyAAB=" (codes "AAB=") refl refl (BadBase64.bitsLeft two-left);
-      not-at-end =
-          bad-blob "0xyAA== AAAA" (codes "AA==AAAA") refl refl
-          (BadBase64.notAtEnd (Misplaced.later (Misplaced.later (Misplaced.now (Other.later (Other.now (λ e. omega (arith, e))))))));
+      four-pads = bad-blob "0xy====" (codes "====") refl refl (moreThanTwo (omega arith));
+      four-bits-left = bad-blob "0xyAB==" (codes "AB==") refl refl four-left;
+      two-bits-left = bad-blob "0xyAAB=" (codes "AAB=") refl refl two-left;
+      not-at-end = bad-blob "0xyAA== AAAA" (codes "AA==AAAA") refl refl (notAtEnd (codes "AA") (codes "=") (codes "AAA") (byteOf "A") (λ e. omega (arith, e)) refl);
+      three-of-four = nine blobCall "0xyTWF" refl refl;
       half-a-byte = nine blobCall "0xxA" refl refl;
       bits-for-blob = nine blobCall "0bb1" refl refl;
       blob-for-bits = nine bitsCall "0xx" refl refl;

@@ -35,6 +35,7 @@ pub record Contents : Type 0 where
   pub four-bits-left : Refuses blobCall "0xyAB==" 5
   pub two-bits-left : Refuses blobCall "0xyAAB=" 5
   pub not-at-end : Refuses blobCall "0xyAA== AAAA" 5
+  pub three-of-four : Refuses blobCall "0xyTWF" 9
   pub half-a-byte : Refuses blobCall "0xxA" 9
   pub bits-for-blob : Refuses blobCall "0bb1" 9
   pub blob-for-bits : Refuses bitsCall "0xx" 9

@@ -46,12 +46,12 @@ module _ {text : List ℕ} (mark : String) (n : ℕ) (c : Class) where
   behind-whole (markAlone t) = (0, omega arith)
   behind-whole (markDigits t d) = digits-whole n d
 
-  pub behind-short : {i j : ℕ} {ds : List ℕ} → Behind text mark n c i j ds → i + length ds ≤ j
-  behind-short (markAlone t) = omega (arith, forward t)
-  behind-short (markDigits t d) = omega (arith, forward t, digits-short n d)
+  behind-short : {i j : ℕ} {ds : List ℕ} → Behind text mark n c i j ds → i + length (codes mark) + length ds ≤ j
+  behind-short (markAlone t) = omega (arith, row-end (codes mark) t)
+  behind-short (markDigits (both t s) d) = omega (arith, row-end (codes mark) t, forward s, digits-short n d)
 
 module _ {text : List ℕ} (mark : String) (n : ℕ) (c : Class) (cl : Clear c) where
-  pub behind-same : {i j : ℕ} {ds es : List ℕ} → Behind text mark (suc n) c i j ds → Behind text mark (suc n) c i j es → ds ≡ es
+  behind-same : {i j : ℕ} {ds es : List ℕ} → Behind text mark (suc n) c i j ds → Behind text mark (suc n) c i j es → ds ≡ es
   behind-same (markAlone t) (markAlone u) = refl
   behind-same (markAlone t) (markDigits (both u s) d) =
       absurd (omega (arith, row-end (codes mark) t, row-end (codes mark) u, forward s, digits-forward d))
@@ -163,6 +163,11 @@ module _ (text : List ℕ) where
 
   pub blob-fit : {i j : ℕ} {ds bs : List ℕ} → Behind text "0xy" 4 base64 i j ds → BlobOf text i j bs → Fit ds
   blob-fit y b = encodes-fit (blob-encodes y b)
+
+  pub blob-forward : {i j : ℕ} {bs : List ℕ} → BlobOf text i j bs → i < j
+  blob-forward (BlobOf.inBinary x o e) = omega (arith, behind-short "0xb" 8 binary x)
+  blob-forward (BlobOf.inHexadecimal x o e) = omega (arith, behind-short "0xx" 2 hexadecimal x)
+  blob-forward (BlobOf.inBase64 x o e) = omega (arith, behind-short "0xy" 4 base64 x)
 
   pub blob-octets : {i j : ℕ} {bs : List ℕ} → BlobOf text i j bs → Octets bs
   blob-octets (BlobOf.inBinary x o e) = o

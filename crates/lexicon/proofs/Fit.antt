@@ -1,11 +1,12 @@
 -- Base-64 characters as a row of bytes alone: how `=` may stand among them, and which bits of the last one before it must be zero.
 -- Assumes nothing.
-use mathlib.Core.Path.{_≡_}
+use mathlib.Core.Path.{_≡_, refl}
 use mathlib.Core.List.{List, [], _∷_, _++_}
 use Prim.Native.Nat.{ℕ, _%_, _^_, _≤_}
+use native.Mathlib.Omega.{arith}
 use lib.ListN.{replicate}
 use Rattle.rules.specs.Class.{byteOf}
-use Rattle.rules.specs.Every.{Every}
+use Rattle.rules.specs.Every.{Every, none}
 use Rattle.lexicon.specs.Parts.{sextet}
 
 -- the value of the last character, after one of value v
@@ -25,3 +26,6 @@ pub record FitFrom (v : ℕ) (ds : List ℕ) : Type 0 where
 
 abbrev pub Fit : List ℕ → Type 0
 Fit ds = FitFrom 0 ds
+
+pub fit-nothing : {v : ℕ} → FitFrom v []
+fit-nothing = record { characters = []; padding = 0; are = refl; no-pad = none; at-most-two = omega arith; left-over = omega arith }

@@ -12,7 +12,7 @@ use lib.IntN.{ℤ, pos, negℤ}
 use Rattle.rules.specs.Class.{Class, In, anyOf}
 use Rattle.rules.specs.Rule.{Rule, _then_, _or_, opt, Takes}
 use Rattle.rules.proofs.Matches.{forward, byte-end}
-use Rattle.rules.proofs.Windows.{Window, shift, byte-same, moved, among-forward, among-moved}
+use Rattle.rules.proofs.Windows.{Window, turned, shift, byte-same, moved, among-forward, among-moved}
 use Rattle.lexicon.specs.declared.Kind.{Kind}
 use Rattle.lexicon.specs.declared.Kind.the-variants.{Ignorance, Boolean, Integer, Fraction, Bits, Blob, Text, Later, Symbol, Colon, TwoColons}
 use Rattle.lexicon.specs.declared.Form.the-variants.{Word, HeadWord, CodePoint}
@@ -22,9 +22,10 @@ use Rattle.lexicon.specs.Space.{sp}
 use Rattle.lexicon.specs.Literals.{unescaped, escape, segment}
 use Rattle.lexicon.specs.Values.{Digits, lastUnit, nextUnit, read, value, scalar, Number, IntegerOf, Behind, markAlone, markDigits, BitsOf, BlobOf, Letter, CodeOf, Plain, Escaped, Row, done, Segment, Quoted, lastSegment, nextSegment, TextOf, quotes, bare, coded}
 use Rattle.lexicon.specs.Values as Values
-use Rattle.lexicon.specs.Bad.{BadCode, BadEscape, BadSegment, BadFurther, BadQuoted, inFirst, inFurther, ZeroDenominator, SmallRadix, BadPadding}
+use Rattle.lexicon.specs.Bad.{BadCode, BadEscape, BadSegment, BadFurther, BadQuoted, inFirst, inFurther, ZeroDenominator, SmallRadix, NoBytes}
 use Rattle.lexicon.specs.Token.{Bad}
 use Rattle.lexicon.proofs.Groups.{unit-end, digits-forward}
+use Rattle.lexicon.proofs.Contents.{blob-forward}
 
 -- ---- these reach forward
 
@@ -232,7 +233,7 @@ module _ (a b : List ℕ) (p q n : ℕ) (w : Window a b p q n) where
       inFurther (on s h (omega (arith, g, k)))
       (among-moved a b p q n w (opt sp then segment) (BadFurther a) (BadFurther b) (λ i j x u v. bad-further x u v) t (omega (arith, f, h)) k)
 
-  -- ---- Fraction, Blob
+  -- ---- Fraction
 
   zero-denominator : {i j : ℕ} → ZeroDenominator a i j → p ≤ i → j ≤ p + n → ZeroDenominator b (shift p q i) (shift p q j)
   zero-denominator z h k =
@@ -258,16 +259,16 @@ module _ (a b : List ℕ) (p q n : ℕ) (w : Window a b p q n) where
         behind = on (z .behind) (omega (arith, f, g, h)) k;
       }
 
-  bad-padding : {i j : ℕ} → BadPadding a i j → p ≤ i → j ≤ p + n → BadPadding b (shift p q i) (shift p q j)
-  bad-padding z h k =
-      let f = forward (z .before) in let g = digits-forward (z .digits-are) in
-      record {
-        start = shift p q (z .start);
-        before = on (z .before) h (omega (arith, g, k));
-        bytes = z .bytes;
-        digits-are = digits-moved 4 base64 (z .digits-are) (omega (arith, f, h)) k;
-        misplaced = z .misplaced;
-      }
+-- ---- Blob
+
+module _ (a b : List ℕ) (p q n : ℕ) (w : Window a b p q n) where
+  -- bytes there would be bytes here
+  no-bytes : {i j : ℕ} → NoBytes a i j → p ≤ i → j ≤ p + n → NoBytes b (shift p q i) (shift p q j)
+  no-bytes {i} {j} z h k bs y =
+      let e : shift q p (shift p q i) ≡ i = omega (arith, h) in
+      let f : shift q p (shift p q j) ≡ j = omega (arith, h, blob-forward b y) in
+      let x = blob-moved b a q p n (turned w) y (omega arith) (omega (arith, k)) in
+      z bs (subst (λ (m : ℕ). BlobOf a i m bs) f (subst (λ (m : ℕ). BlobOf a m (shift q p (shift p q j)) bs) e x))
 
   -- ---- of any token
 
@@ -275,14 +276,14 @@ module _ (a b : List ℕ) (p q n : ℕ) (w : Window a b p q n) where
   bad-moved Ignorance x h l = x
   bad-moved (Boolean t) x h l = x
   bad-moved (Integer s) x h l = x
-  bad-moved Fraction (inl x) h l = inl (zero-denominator x h l)
-  bad-moved Fraction (inr x) h l = inr (small-radix x h l)
+  bad-moved Fraction (inl x) h l = inl (zero-denominator a b p q n w x h l)
+  bad-moved Fraction (inr x) h l = inr (small-radix a b p q n w x h l)
   bad-moved Bits x h l = x
-  bad-moved Blob x h l = bad-padding x h l
-  bad-moved (Text Form.Quoted) x h l = bad-quoted x h l
+  bad-moved Blob x h l = no-bytes x h l
+  bad-moved (Text Form.Quoted) x h l = bad-quoted a b p q n w x h l
   bad-moved (Text Word) x h l = x
   bad-moved (Text (HeadWord d)) x h l = x
-  bad-moved (Text CodePoint) x h l = bad-code x h l
+  bad-moved (Text CodePoint) x h l = bad-code a b p q n w x h l
   bad-moved Later x h l = x
   bad-moved (Symbol s) x h l = x
   bad-moved Colon x h l = x

@@ -23,7 +23,6 @@ use Rattle.lexicon.specs.Literals.{plusMinus}
 use Rattle.lexicon.specs.Symbols.{Colons}
 use Rattle.lexicon.specs.Utf8.{WellFormed}
 use Rattle.lexicon.specs.Values.{IntegerOf, BitsOf, BlobOf, TextOf}
-use Rattle.lexicon.specs.Bad.{NoBytes}
 use Rattle.lexicon.specs.Token.{Lexeme, anIgnorance, aBoolean, anInteger, aFraction, aBits, aBlob, aQuoted, aWord, aCodePoint, aLater, aSymbol, rule, Here, Told, Is, Bad}
 use Rattle.lexicon.proofs.Unique.{token-forward}
 use Rattle.lexicon.proofs.Formed.{ascii, edges, whole-formed}
@@ -141,6 +140,9 @@ module _ (text : List ℕ) where
     pub bad-there : Bad (between text i j) k 0 (length (between text i j)) → Bad text k i j
     bad-there = there text (omega (arith, token-forward text is)) (token-within k is) (λ (x : List ℕ). Bad x k) (λ a b p q n w i j x h l. bad-moved a b p q n w k x h l)
 
+    pub bad-alone : Bad text k i j → Bad (between text i j) k 0 (length (between text i j))
+    bad-alone = alone text (omega (arith, token-forward text is)) (token-within k is) (λ (x : List ℕ). Bad x k) (λ a b p q n w i j x h l. bad-moved a b p q n w k x h l)
+
     pub integer-there : {z : ℤ} → IntegerOf (between text i j) 0 (length (between text i j)) z → IntegerOf text i j z
     integer-there {z} =
         there text (omega (arith, token-forward text is)) (token-within k is) (λ (x : List ℕ) (i j : ℕ). IntegerOf x i j z) (λ a b p q n w i j x h l. integer-moved a b p q n w x h l)
@@ -156,8 +158,3 @@ module _ (text : List ℕ) where
     pub blob-there : {bs : List ℕ} → BlobOf (between text i j) 0 (length (between text i j)) bs → BlobOf text i j bs
     blob-there {bs} =
         there text (omega (arith, token-forward text is)) (token-within k is) (λ (x : List ℕ) (i j : ℕ). BlobOf x i j bs) (λ a b p q n w i j x h l. blob-moved a b p q n w x h l)
-
-    -- a Blob that has no bytes by itself has none in the text
-    pub no-bytes-there : NoBytes (between text i j) 0 (length (between text i j)) → NoBytes text i j
-    no-bytes-there f bs y =
-        f bs (alone text (omega (arith, token-forward text is)) (token-within k is) (λ (x : List ℕ) (i j : ℕ). BlobOf x i j bs) (λ a b p q n w i j x h l. blob-moved a b p q n w x h l) y)

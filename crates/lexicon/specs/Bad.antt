@@ -1,21 +1,13 @@
--- Bad values, refusal 5: 01, 'a code point outside 0..D7FF and E000..10FFFF; denominator 0; radix below 2; in base-64
--- Blobs, a `=` with a base-64 character other than `=` anywhere later in the literal'. Each is a property of a
--- literal's bytes, from place i to place j. Assumes nothing.
-use mathlib.Core.Path.{_≡_}
+-- Bad values, refusal 5: 01, 'a code point outside 0..D7FF and E000..10FFFF; denominator 0; radix below 2', and for
+-- Blobs 02, request 3. Each is a property of a literal's bytes, from place i to place j, and is asked where the literal
+-- stands. Assumes nothing.
 use mathlib.Core.Logic.{_⊎_}
-use mathlib.Core.Bool.{cond}
-use mathlib.Core.List.{List, [], _∷_, _++_}
-use Prim.Native.Nat.{ℕ, _+_, _*_, _≤_, _<_}
-use lib.Dec.{eqb}
-use lib.ListN.{replicate}
-use Rattle.rules.specs.Class.{byteOf}
+use mathlib.Core.List.{List, _∷_}
+use Prim.Native.Nat.{ℕ, _≤_, _<_}
 use Rattle.rules.specs.Rule.{_then_, _or_, many, opt, lit, Takes, Among}
-use Rattle.lexicon.specs.Bytes.{base64}
 use Rattle.lexicon.specs.Space.{sp}
-use Rattle.lexicon.specs.Expansion.{bitsOf}
-use Rattle.lexicon.specs.Base64.{character}
 use Rattle.lexicon.specs.Literals.{integer, significand, spaced, power, unescaped, escape, segment}
-use Rattle.lexicon.specs.Values.{Digits, Number, BlobOf, CodeOf, Quoted}
+use Rattle.lexicon.specs.Values.{Number, BlobOf, CodeOf, Quoted}
 
 -- a number that is a code point
 abbrev pub Scalar : ℕ → Type 0
@@ -25,42 +17,6 @@ Scalar v = (v ≤ 0xD7FF) ⊎ ((0xE000 ≤ v) × (v ≤ 0x10FFFF))
 pub data Outside : List ℕ → Type 0 where
   now : {c : ℕ} {cs : List ℕ} → (Scalar c → ⊥) → Outside (c ∷ cs)
   later : {c : ℕ} {cs : List ℕ} → Outside cs → Outside (c ∷ cs)
-
--- a byte other than `=`
-pub data Other : List ℕ → Type 0 where
-  now : {d : ℕ} {ds : List ℕ} → (d ≡ byteOf "=" → ⊥) → Other (d ∷ ds)
-  later : {d : ℕ} {ds : List ℕ} → Other ds → Other (d ∷ ds)
-
--- a `=`, and anywhere later another byte
-pub data Misplaced : List ℕ → Type 0 where
-  now : {ds : List ℕ} → Other ds → Misplaced (byteOf "=" ∷ ds)
-  later : {d : ℕ} {ds : List ℕ} → Misplaced ds → Misplaced (d ∷ ds)
-
--- `pads`, `LeftOver` and `BadBase64` below: no answer rests on them. They say in the request's words what `NoBytes`, at
--- the end, says of a Blob; the theorems beside `BadBase64` tie the two
-
--- how many bytes are `=`
-abbrev pub pads : List ℕ → ℕ
-pads [] = 0
-pads (d ∷ ds) = cond (eqb d (byteOf "=")) 1 0 + pads ds
-
--- bits left over that are not zero: the lowest of the last character before the `=`, two for each `=`
-pub record LeftOver (ds : List ℕ) : Type 0 where
-  pub before : List ℕ
-  pub last : ℕ
-  pub six-bits : last < 64
-  pub padding : ℕ
-  pub characters-are : ds ≡ before ++ (character last ∷ replicate padding (byteOf "="))
-  pub not-zero : bitsOf (2 * padding) last ≡ replicate (2 * padding) 0 → ⊥
-
--- bad base-64 characters in the Blob call: 01's `=` with another later; 02, request 1, 'more than two `=`', 'bits left
--- over that aren't zero'. Exactly then there are no bytes (lexicon/proofs/Unfit.antt: `bad-no-bytes`, `no-bytes-bad`;
--- of whole Blobs, in any base: `no-bytes-only`). Digits that fill no whole byte or group of four the grammar never
--- passes
-pub data BadBase64 (ds : List ℕ) : Type 0 where
-  notAtEnd : Misplaced ds → BadBase64 ds
-  moreThanTwo : 2 < pads ds → BadBase64 ds
-  bitsLeft : LeftOver ds → BadBase64 ds
 
 module _ (text : List ℕ) where
   -- ---- Text
@@ -126,13 +82,7 @@ module _ (text : List ℕ) where
 
   -- ---- Blob
 
-  pub record BadPadding (i j : ℕ) : Type 0 where
-    pub start : ℕ
-    pub before : Takes text (lit "0xy" then opt sp) i start
-    pub bytes : List ℕ
-    pub digits-are : Digits text 4 base64 start j bytes
-    pub misplaced : Misplaced bytes
-
-  -- in the Blob call: 02, request 1. No bytes have the bits that its digits say
+  -- 02, request 3: RFC 4648 has no such Blob. No bytes have the bits that its digits say; for base 64 Padding.antt says
+  -- it in the request's words, and in base 2 and 16 none is bad
   abbrev pub NoBytes : ℕ → ℕ → Type 0
   NoBytes i j = (bs : List ℕ) → BlobOf text i j bs → ⊥

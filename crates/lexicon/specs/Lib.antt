@@ -13,8 +13,9 @@ pub mod Base64
 pub mod Values
 pub mod Bad
 pub mod Token
--- no rules: what the answers of searches say, what the code holds of a number of any size, and what it promises of
--- parts of a literal
+-- no rules: bad base 64 in the requests' words, what the answers of searches say, what the code holds of a number of
+-- any size, and what it promises of parts of a literal
+pub mod Padding
 pub mod Found
 pub mod Limited
 pub mod Parts

@@ -24,7 +24,7 @@ use Rattle.lexicon.specs.Space.{Skips}
 use Rattle.lexicon.specs.Literals.{ignorance, boolean, integer, fraction, bits, blob, quoted, word, codePoint}
 use Rattle.lexicon.specs.Literals.{later, plusMinus}
 use Rattle.lexicon.specs.Symbols.{symbol, Colons}
-use Rattle.lexicon.specs.Bad.{BadCode, BadQuoted, BadFraction, BadPadding}
+use Rattle.lexicon.specs.Bad.{BadCode, BadQuoted, BadFraction, NoBytes}
 
 -- the token rules
 pub data Lexeme : Type 0 where
@@ -104,7 +104,7 @@ module _ (text : List ℕ) where
   Bad (Integer signed) i j = ⊥
   Bad Fraction i j = BadFraction text i j
   Bad Bits i j = ⊥
-  Bad Blob i j = BadPadding text i j
+  Bad Blob i j = NoBytes text i j
   Bad (Text Quoted) i j = BadQuoted text i j
   Bad (Text Word) i j = ⊥
   Bad (Text (HeadWord h)) i j = ⊥

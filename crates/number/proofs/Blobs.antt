@@ -5,6 +5,7 @@ use mathlib.Core.List.{List, [], _∷_}
 use Prim.Native.Nat.{ℕ, suc, _+_, _≤_}
 use Prim.Native.String.{String}
 use native.Mathlib.Omega.{arith}
+use lib.Dec.{eqb}
 use lib.ListN.{length}
 use borrow.Author.Tests.{not-true, not-false}
 use Rattle.rules.specs.Test.{Says}
@@ -22,21 +23,19 @@ use Rattle.lexicon.specs.Space.{sp, Skips}
 use Rattle.lexicon.specs.Literals.{maybe, bits, blob}
 use Rattle.lexicon.specs.Values.{Digits, Behind, markAlone, markDigits}
 use Rattle.lexicon.specs.Parts.{size}
-use Rattle.lexicon.specs.Bad.{Misplaced, BadPadding, NoBytes}
+use Rattle.lexicon.specs.Bad.{NoBytes}
+use Rattle.lexicon.specs.declared.Literal.the-variants as Literal
+use Rattle.lexicon.specs.Found.{Judges}
 use Rattle.lexicon.proofs.Spaces.{skips-same, landed}
 use Rattle.lexicon.proofs.Groups.{Clear, digits-most, digits-at, digits-unit, digits-forward, to-row, of-row}
 use Rattle.lexicon.proofs.Numbers.{clear, clear-base64}
-use Rattle.lexicon.proofs.Fit.{Fit}
-use Rattle.lexicon.proofs.Contents.{behind-same, has-base64, blob-fit}
-use Rattle.lexicon.proofs.Unfit.{binary-bytes, hexadecimal-bytes, padding-no-bytes}
-use Rattle.lexicon.proofs.Paddings.{misplaced, unfit, misplaced-says, unfit-says}
+use Rattle.lexicon.proofs.Unfit.{state-says, binary-bytes, hexadecimal-bytes}
+use Rattle.lexicon.proofs.Paddings.{unfit}
 use Rattle.number.specs.Tally.{tallyOf, tallies}
-use Rattle.number.specs.declared.blob.FoundBlob.{FoundBlob}
-use Rattle.number.specs.declared.blob.FoundBlob.the-variants as FoundBlob
 use Rattle.number.specs.declared.groups.Groups.{Groups}
 use Rattle.number.specs.declared.groups.Groups.the-variants as Groups
 use Rattle.number.specs.Groups.{Grouped}
-use Rattle.number.specs.Blob.{TailOf, digits-stand, none-stand, BlobAt}
+use Rattle.number.specs.Blob.{TailOf, digits-stand, none-stand}
 
 -- ---- the digits behind a mark
 
@@ -121,35 +120,9 @@ module _ (text : List ℕ) where
   tail-behind mark n set t (digits-stand k r) = (r .row .bytes, markDigits (both t (k .takes)) (r .row .digits-are), r .row .sum-is)
   tail-behind mark n set t (none-stand k f) = ([], markAlone t, refl)
 
-  padding-says : {i j : ℕ} {ds : List ℕ} {o : Bool} → Behind text "0xy" 4 base64 i j ds → Says o (Misplaced ds) → Says o (BadPadding text i j)
-  padding-says x s =
-      record {
-        true-holds = λ e. to x (s .true-holds e);
-        holds-true = λ b. s .holds-true (subst Misplaced (behind-same "0xy" 3 base64 clear-base64 (markDigits (b .before) (b .digits-are)) x) (b .misplaced));
-      }
-    where
-      to : {i j : ℕ} {ds : List ℕ} → Behind text "0xy" 4 base64 i j ds → Misplaced ds → BadPadding text i j
-      to (markAlone t) m = elim m [ ]
-      to (markDigits t d) m = record { start = _; before = t; bytes = _; digits-are = d; misplaced = m }
-
-  bytes-says : {i j : ℕ} {ds : List ℕ} {o : Bool} → Behind text "0xy" 4 base64 i j ds → Says o (Fit ds → ⊥) → Says o (NoBytes text i j)
-  bytes-says x s =
-      record {
-        true-holds = λ e bs y. s .true-holds e (blob-fit text x y);
-        holds-true = λ n. s .holds-true (λ f. let r = has-base64 text x f in n (r .0) (r .1));
-      }
-
-  abbrev Judged : ℕ → ℕ → ℕ → Type 0
-  Judged i j s = Says (misplaced s) (BadPadding text i j) × Says (unfit s) (NoBytes text i j)
-
-  -- there are bytes
-  good : {i j : ℕ} → (NoBytes text i j → ⊥) → Judged i j 0
-  good n = (says-no (λ b. n (padding-no-bytes text b)), says-no n)
-
-  judged : {i j s : ℕ} {ds : List ℕ} → Behind text "0xy" 4 base64 i j ds → s ≡ tallies 0 0 ds → Judged i j s
+  judged : {i j s : ℕ} {ds : List ℕ} → Behind text "0xy" 4 base64 i j ds → s ≡ tallies 0 0 ds → Says (eqb s unfit) (NoBytes text i j)
   unfolding tallies tallyOf
-  judged {i} {j} {ds = ds} x e =
-      subst⁻¹ (λ (k : ℕ). Judged i j k) e (padding-says x (misplaced-says ds), bytes-says x (unfit-says ds))
+  judged {i} {j} x e = subst⁻¹ (λ (k : ℕ). Says (eqb k unfit) (NoBytes text i j)) e (state-says x)
 
 -- ---- the marks
 
@@ -212,24 +185,21 @@ module _ (text : List ℕ) where
   unfolding covers apart apartSpan
   bits-hexadecimal t d = third-of text (part 0x62 0x62 1 Binary) (part 0x62 0x6F 1 Octal) (part 0x62 0x78 1 Hexadecimal) refl refl (whole 0x62 0x78 0 Hexadecimal (clear Sixteen) t d)
 
-  pub blob-binary : {i j s : ℕ} → Mark 0x78 0x62 i → TailOf text Binary 8 (i + 3) j s → BlobAt text i (FoundBlob.At j 0)
+  pub blob-binary : {i j s : ℕ} → Mark 0x78 0x62 i → TailOf text Binary 8 (i + 3) j s → Judges text blob (NoBytes text) i (Literal.At j false)
   unfolding covers apart apartSpan
   blob-binary t d =
-      let g = good text (λ n. binary-bytes (tail-behind text "0xb" 8 Binary t d .1) n) in
-      (first-of text (part 0x78 0x62 8 Binary) (part 0x78 0x78 2 Hexadecimal) (part 0x78 0x79 4 Base64) refl refl (whole 0x78 0x62 7 Binary (clear Two) t d), g .0, g .1)
+      (first-of text (part 0x78 0x62 8 Binary) (part 0x78 0x78 2 Hexadecimal) (part 0x78 0x79 4 Base64) refl refl (whole 0x78 0x62 7 Binary (clear Two) t d), says-no (λ n. binary-bytes (tail-behind text "0xb" 8 Binary t d .1) n))
 
-  pub blob-hexadecimal : {i j s : ℕ} → Mark 0x78 0x78 i → TailOf text Hexadecimal 2 (i + 3) j s → BlobAt text i (FoundBlob.At j 0)
+  pub blob-hexadecimal : {i j s : ℕ} → Mark 0x78 0x78 i → TailOf text Hexadecimal 2 (i + 3) j s → Judges text blob (NoBytes text) i (Literal.At j false)
   unfolding covers apart apartSpan
   blob-hexadecimal t d =
-      let g = good text (λ n. hexadecimal-bytes (tail-behind text "0xx" 2 Hexadecimal t d .1) n) in
-      (second-of text (part 0x78 0x62 8 Binary) (part 0x78 0x78 2 Hexadecimal) (part 0x78 0x79 4 Base64) refl refl (whole 0x78 0x78 1 Hexadecimal (clear Sixteen) t d), g .0, g .1)
+      (second-of text (part 0x78 0x62 8 Binary) (part 0x78 0x78 2 Hexadecimal) (part 0x78 0x79 4 Base64) refl refl (whole 0x78 0x78 1 Hexadecimal (clear Sixteen) t d), says-no (λ n. hexadecimal-bytes (tail-behind text "0xx" 2 Hexadecimal t d .1) n))
 
-  pub blob-base64 : {i j s : ℕ} → Mark 0x78 0x79 i → TailOf text Base64 4 (i + 3) j s → BlobAt text i (FoundBlob.At j s)
+  pub blob-base64 : {i j s : ℕ} → Mark 0x78 0x79 i → TailOf text Base64 4 (i + 3) j s → Judges text blob (NoBytes text) i (Literal.At j (eqb s unfit))
   unfolding covers apart apartSpan
   blob-base64 t d =
       let x = tail-behind text "0xy" 4 Base64 t d in
-      let g = judged text (x .1) (x .2) in
-      (third-of text (part 0x78 0x62 8 Binary) (part 0x78 0x78 2 Hexadecimal) (part 0x78 0x79 4 Base64) refl refl (whole 0x78 0x79 3 Base64 clear-base64 t d), g .0, g .1)
+      (third-of text (part 0x78 0x62 8 Binary) (part 0x78 0x78 2 Hexadecimal) (part 0x78 0x79 4 Base64) refl refl (whole 0x78 0x79 3 Base64 clear-base64 t d), judged text (x .1) (x .2))
 
   pub bits-none : {i : ℕ} (o p q : Bool) → Says o (Mark 0x62 0x62 i) → o ≡ false → Says p (Mark 0x62 0x6F i) → p ≡ false → Says q (Mark 0x62 0x78 i) → q ≡ false → Fails text bits i
   bits-none o p q s d t e u f = none-of text (part 0x62 0x62 1 Binary) (part 0x62 0x6F 1 Octal) (part 0x62 0x78 1 Hexadecimal) (lacks 0x62 0x62 1 Binary o s d) (lacks 0x62 0x6F 1 Octal p t e) (lacks 0x62 0x78 1 Hexadecimal q u f)
@@ -244,17 +214,3 @@ module _ (text : List ℕ) where
 
   pub tail-none : {n i g : ℕ} (set : Set) (r : Groups) → Skips text i g → Grouped text set n g r → r ≡ Groups.Nothing → TailOf text set n i i 0
   tail-none {n} {g = g} set r k d e = none-stand k (subst (λ (x : Groups). Grouped text set n g x) e d)
-
-  -- what the search for a Blob answered
-
-  pub no-blob : {i : ℕ} (r : FoundBlob) → BlobAt text i r → r ≡ FoundBlob.Nothing → Fails text blob i
-  no-blob {i} r b e = subst (λ (x : FoundBlob). BlobAt text i x) e b
-
-  found : {i j s : ℕ} (r : FoundBlob) → BlobAt text i r → r ≡ FoundBlob.At j s → BlobAt text i (FoundBlob.At j s)
-  found {i} r b e = subst (λ (x : FoundBlob). BlobAt text i x) e b
-
-  pub loose : {i j s : ℕ} (r : FoundBlob) → BlobAt text i r → r ≡ FoundBlob.At j s → Longest text blob i j × Says (misplaced s) (BadPadding text i j)
-  loose r b e = let f = found r b e in (f .0, f .1)
-
-  pub strict : {i j s : ℕ} (r : FoundBlob) (o : Bool) → BlobAt text i r → r ≡ FoundBlob.At j s → o ≡ unfit s → Longest text blob i j × Says o (NoBytes text i j)
-  strict {i} {j} r o b e f = let g = found r b e in (g .0, subst⁻¹ (λ (x : Bool). Says x (NoBytes text i j)) f (g .2))

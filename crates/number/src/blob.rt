@@ -2,9 +2,7 @@
 // A function with a `requires` is this crate's own: its place is within the text by its caller's search, so that sums of places fit.
 use crate::groups::Groups;
 use crate::groups::longest_row;
-use crate::padding::MISPLACED;
-use crate::padding::START;
-use crate::padding::unfit;
+use crate::padding::UNFIT;
 use lexicon::Found;
 use lexicon::Literal;
 use lexicon::Set;
@@ -17,20 +15,14 @@ ghost use Rattle.rules.specs.Test.{Says};
 ghost use Rattle.rules.specs.Rule.{Takes, row};
 ghost use Rattle.lexicon.specs.Found.{Finds, Judges};
 ghost use Rattle.lexicon.specs.Literals.{bits as bitsOf, blob as blobOf};
-ghost use Rattle.lexicon.specs.Bad.{BadPadding, NoBytes};
+ghost use Rattle.lexicon.specs.Bad.{NoBytes};
 ghost use Rattle.number.specs.Groups.{OfDigits};
-ghost use Rattle.number.specs.Blob.{TailOf, BlobAt};
+ghost use Rattle.number.specs.Blob.{TailOf};
 
-// The end of the digits behind a mark, and the sum over them.
+// The end of the digits behind a mark, and the sum over them; in base 64 it is the state of their padding.
 pub struct Tail {
     pub end: usize,
     pub sum: u32,
-}
-
-// The end of a Blob, and the state of the padding among its base-64 characters.
-pub enum FoundBlob {
-    At { end: usize, padding: u32 },
-    Nothing,
 }
 
 // Whether `0` and two letters stand at a place.
@@ -77,56 +69,30 @@ pub fn bits(text: &[u8], at: usize) -> Found
     Found::Nothing
 }
 
-// The Blob literal at a place. One in base 2 or 16 has no padding.
-fn blob_at(text: &[u8], at: usize) -> FoundBlob
-    ensures { λ r. ⌜ BlobAt (now (text .entry)) at r ⌝ }
+// The Blob literal at a place; one that has no bytes is bad, which only one in base 64 can be.
+pub fn blob(text: &[u8], at: usize) -> Literal
+    ensures { λ r. ⌜ Judges (now (text .entry)) blobOf (NoBytes (now (text .entry))) at r ⌝ }
 {
     if marked(text, at, b'x', b'b') {
         let found = tail_at(text, at + 3, Set::Binary, 8);
-        return FoundBlob::At {
+        return Literal::At {
             end: found.end,
-            padding: START,
+            bad: false,
         };
     }
     if marked(text, at, b'x', b'x') {
         let found = tail_at(text, at + 3, Set::Hexadecimal, 2);
-        return FoundBlob::At {
+        return Literal::At {
             end: found.end,
-            padding: START,
+            bad: false,
         };
     }
     if marked(text, at, b'x', b'y') {
         let found = tail_at(text, at + 3, Set::Base64, 4);
-        return FoundBlob::At {
+        return Literal::At {
             end: found.end,
-            padding: found.sum,
+            bad: found.sum == UNFIT,
         };
     }
-    FoundBlob::Nothing
-}
-
-// The Blob literal at a place; one in base 64 with a character behind a `=` is bad.
-pub fn blob(text: &[u8], at: usize) -> Literal
-    ensures { λ r. ⌜ Judges (now (text .entry)) blobOf (BadPadding (now (text .entry))) at r ⌝ }
-{
-    let FoundBlob::At { end, padding } = blob_at(text, at) else {
-        return Literal::Nothing;
-    };
-    Literal::At {
-        end,
-        bad: padding == MISPLACED,
-    }
-}
-
-// The Blob literal at a place; one that has no bytes is bad.
-pub fn strict_blob(text: &[u8], at: usize) -> Literal
-    ensures { λ r. ⌜ Judges (now (text .entry)) blobOf (NoBytes (now (text .entry))) at r ⌝ }
-{
-    let FoundBlob::At { end, padding } = blob_at(text, at) else {
-        return Literal::Nothing;
-    };
-    Literal::At {
-        end,
-        bad: unfit(padding),
-    }
+    Literal::Nothing
 }

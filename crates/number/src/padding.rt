@@ -5,10 +5,10 @@ ghost use mathlib.Core.Path.{_≡_};
 ghost use Prim.Native.Nat.{_+_, _≤_};
 ghost use lib.ListN.{length};
 ghost use Rattle.lexicon.specs.Values.{read};
-ghost use Rattle.lexicon.proofs.Paddings.{nextState as nextStateOf, opened as openedOf, pad as padOf, run, unfit as unfitOf};
+ghost use Rattle.lexicon.proofs.Paddings.{nextState as nextStateOf, opened as openedOf, pad as padOf, run};
 
 // No character yet.
-pub(crate) const START: u32 = 0;
+const START: u32 = 0;
 
 // Behind a `=`, and one more may come.
 const ONE_MORE: u32 = 1;
@@ -16,14 +16,11 @@ const ONE_MORE: u32 = 1;
 // Behind a `=`, and none may come.
 const NO_MORE: u32 = 2;
 
-// More `=` than the bits before them allow.
-const TOO_MANY: u32 = 3;
-
-// Another character behind a `=`.
-pub(crate) const MISPLACED: u32 = 4;
+// No bytes: more `=` than the bits before them allow, or another character behind a `=`.
+pub(crate) const UNFIT: u32 = 3;
 
 // No `=` yet: this and the last character's byte.
-const CHARACTER: u32 = 5;
+const CHARACTER: u32 = 4;
 
 // Behind the first `=`, by the value of the character before it: each `=` leaves two of its bits over, and they must be zero.
 fn opened(value: u32) -> u32
@@ -35,7 +32,7 @@ fn opened(value: u32) -> u32
     if value % 4 == 0 {
         return NO_MORE;
     }
-    TOO_MANY
+    UNFIT
 }
 
 // The state behind a `=` more; at the start it is as behind a character of value 0.
@@ -45,8 +42,8 @@ fn pad(state: u32) -> u32
     if state >= CHARACTER {
         return opened(sextet(state - CHARACTER));
     }
-    // From the start to too many, each `=` is a state further.
-    if state < TOO_MANY {
+    // From the start to the one too many, each `=` is a state further.
+    if state < UNFIT {
         return state + 1;
     }
     state
@@ -66,7 +63,7 @@ fn next_state(state: u32, b: u8) -> u32
     if state == START {
         return b as u32 + CHARACTER;
     }
-    MISPLACED
+    UNFIT
 }
 
 // The state behind the characters of a run more.
@@ -81,11 +78,4 @@ pub(crate) fn padding_run(text: &[u8], from: usize, count: usize, state: u32) ->
         k += 1;
     }
     last
-}
-
-// Whether the characters so far encode no bytes.
-pub(crate) fn unfit(state: u32) -> bool
-    ensures { λ r. ⌜ r ≡ unfitOf state ⌝ }
-{
-    state == TOO_MANY || state == MISPLACED
 }

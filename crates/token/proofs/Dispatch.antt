@@ -28,7 +28,7 @@ use Rattle.lexicon.specs.declared.Sign.the-variants.{ArrowRight}
 use Rattle.lexicon.specs.Bytes.{wordStart, decimal}
 use Rattle.lexicon.specs.Space.{Skips}
 use Rattle.lexicon.specs.Literals.{integer, fraction, bits, blob, quoted, word, codePoint, plusMinus}
-use Rattle.lexicon.specs.Bad.{BadCode, BadQuoted, BadPadding, BadFraction}
+use Rattle.lexicon.specs.Bad.{BadCode, BadQuoted, BadFraction, NoBytes}
 use Rattle.lexicon.specs.Token.{Lexeme, anIgnorance, aBoolean, anInteger, aFraction, aBits, aBlob, aQuoted, aWord, aCodePoint, aLater, aSymbol, rule, Here, Is, Bad, Comes}
 use Rattle.lexicon.proofs.Tokens.{every, for-every, begins, begins-with, outreaches, alone, oneOf, is-one}
 use Rattle.lexicon.proofs.Unique.{integer-below}
@@ -259,7 +259,7 @@ module _ (text : List ℕ) where
   pub bits-is : {i j : ℕ} → Longest text bits i j → TokenAt text Bits i j false
   bits-is l = record { is = record { told = alone text aBits bits-alone l }; bad-is = says-no (λ x. x) }
 
-  pub blob-is : {i j : ℕ} {b : Bool} → Longest text blob i j × Says b (BadPadding text i j) → TokenAt text Blob i j b
+  pub blob-is : {i j : ℕ} {b : Bool} → Longest text blob i j × Says b (NoBytes text i j) → TokenAt text Blob i j b
   blob-is l = record { is = record { told = alone text aBlob blob-alone (l .0) }; bad-is = l .1 }
 
   pub code-is : {i j : ℕ} {b : Bool} → Longest text codePoint i j × Says b (BadCode text i j) → TokenAt text (Text CodePoint) i j b

@@ -6,8 +6,8 @@ use borrow.Author.Needs.{needs}
 use Rattle.blob_value.proofs.value.judge_blob.Statement.{statement}
 use Rattle.blob_value.proofs.value.judge_blob.Tie as tie
 
-strict-blob-requires : tie.Need-strict-blob-requires
-strict-blob-requires c κs = search needs
+blob-requires : tie.Need-blob-requires
+blob-requires c κs = search needs
 
 enum-known-end : tie.Need-enum-known-end
 enum-known-end c = search needs
@@ -16,36 +16,36 @@ enum-told : tie.Need-enum-told
 enum-told c = search needs
 
 returns : tie.Need-returns
-returns c = blob-fails _ (judged-none (NoBytes (c .before .before .before .before .args .piece .now)) (c .enum-told .given .1) (c .before .before .strict-blob .ensures))
+returns c = blob-fails _ (judged-none (NoBytes (c .before .before .before .before .args .piece .now)) (c .enum-told .given .1) (c .before .before .blob .ensures))
 
 returns-2 : tie.Need-returns-2
-returns-2 c = blob-shorter _ (judged-at (NoBytes (c .before .before .before .before .before .before .args .piece .now)) (c .before .before .end .given .1) (c .before .before .before .before .strict-blob .ensures) .0) (c .if1 .taken)
+returns-2 c = blob-shorter _ (judged-at (NoBytes (c .before .before .before .before .before .before .args .piece .now)) (c .before .before .end .given .1) (c .before .before .before .before .blob .ensures) .0) (c .if1 .taken)
 
 returns-3 : tie.Need-returns-3
 returns-3 c =
-    blob-bad _ (judged-at (NoBytes (c .before .before .before .before .before .before .before .args .piece .now)) (c .before .before .before .end .given .1) (c .before .before .before .before .before .strict-blob .ensures)) (c .before .if1 .left) (c .if2 .taken)
+    blob-bad _ (judged-at (NoBytes (c .before .before .before .before .before .before .before .args .piece .now)) (c .before .before .before .end .given .1) (c .before .before .before .before .before .blob .ensures)) (c .before .if1 .left) (c .if2 .taken)
 
 shared-slice-read-match2 : tie.Need-shared-slice-read-match2
 shared-slice-read-match2 c =
-    blob-within _ (judged-at (NoBytes (c .before .before .before .before .before .before .before .before .args .piece .now)) (c .before .before .before .before .end .given .1) (c .before .before .before .before .before .before .strict-blob .ensures)) (c .before .before .if1 .left)
+    blob-within _ (judged-at (NoBytes (c .before .before .before .before .before .before .before .before .args .piece .now)) (c .before .before .before .before .end .given .1) (c .before .before .before .before .before .before .blob .ensures)) (c .before .before .if1 .left)
 
 returns-4 : tie.Need-returns-4
 returns-4 c =
-    binary-good _ (judged-at (NoBytes (c .before .before .before .before .before .before .before .before .before .args .piece .now)) (c .before .before .before .before .before .end .given .1) (c .before .before .before .before .before .before .before .strict-blob .ensures)) (c .before .before .before .if1 .left) (c .before .before .if2 .left) (c .match2 .keys1)
+    binary-good _ (judged-at (NoBytes (c .before .before .before .before .before .before .before .before .before .args .piece .now)) (c .before .before .before .before .before .end .given .1) (c .before .before .before .before .before .before .before .blob .ensures)) (c .before .before .before .if1 .left) (c .before .before .if2 .left) (c .match2 .keys1)
 
 returns-5 : tie.Need-returns-5
 returns-5 c =
-    hexadecimal-good _ (judged-at (NoBytes (c .before .before .before .before .before .before .before .before .before .args .piece .now)) (c .before .before .before .before .before .end .given .1) (c .before .before .before .before .before .before .before .strict-blob .ensures)) (c .before .before .before .if1 .left) (c .before .before .if2 .left) (c .match2 .keys2)
+    hexadecimal-good _ (judged-at (NoBytes (c .before .before .before .before .before .before .before .before .before .args .piece .now)) (c .before .before .before .before .before .end .given .1) (c .before .before .before .before .before .before .before .blob .ensures)) (c .before .before .before .if1 .left) (c .before .before .if2 .left) (c .match2 .keys2)
 
 returns-6 : tie.Need-returns-6
 returns-6 c =
-    base64-good _ (judged-at (NoBytes (c .before .before .before .before .before .before .before .before .before .args .piece .now)) (c .before .before .before .before .before .end .given .1) (c .before .before .before .before .before .before .before .strict-blob .ensures)) (c .before .before .before .if1 .left) (c .before .before .if2 .left) (c .match2 .rest .0 .1) (c .match2 .rest .1)
+    base64-good _ (judged-at (NoBytes (c .before .before .before .before .before .before .before .before .before .args .piece .now)) (c .before .before .before .before .before .end .given .1) (c .before .before .before .before .before .before .before .blob .ensures)) (c .before .before .before .if1 .left) (c .before .before .if2 .left) (c .match2 .rest .0 .1) (c .match2 .rest .1)
 
 pub judge-blob-spec : {M : Type 1} → statement M
 judge-blob-spec =
     tie.close
     (tie.spec
-    strict-blob-requires
+    blob-requires
     enum-known-end
     enum-told
     returns

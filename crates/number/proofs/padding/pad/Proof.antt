@@ -1,4 +1,5 @@
 -- `number::padding::pad` meets its contract. Assumes nothing.
+use native.Mathlib.Omega.{arith}
 use Rattle.lexicon.proofs.Paddings.{pad-first, pad-next, pad-stays}
 use borrow.Author.Needs.{needs}
 use Rattle.number.proofs.padding.pad.Statement.{statement}
@@ -17,10 +18,10 @@ add-result : tie.Need-add-result
 add-result c = search needs
 
 returns-2 : tie.Need-returns-2
-returns-2 c = search (pad-next, needs)
+returns-2 c = pad-next _ (omega arith)
 
 returns-3 : tie.Need-returns-3
-returns-3 c = search (pad-stays, needs)
+returns-3 c = pad-stays _ (omega arith) (omega arith)
 
 pub pad-spec : {M : Type 1} → statement M
 pad-spec =
