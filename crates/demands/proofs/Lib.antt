@@ -3,4 +3,5 @@ pub mod Derived
 pub mod Exists
 pub mod Pieces
 pub mod Demands
+pub mod Blobs
 pub mod Requests

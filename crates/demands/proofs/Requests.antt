@@ -8,6 +8,7 @@ use native.Mathlib.Omega.{arith}
 use Rattle.lexicon.specs.Utf8.{BadAt}
 use Rattle.lexicon.proofs.Determined.{formed-or-bad, one-bad}
 use Rattle.lexicon.proofs.Steps as Steps
+use Rattle.lexicon.proofs.Unfit.{bad-no-bytes, no-bytes-only}
 use Rattle.grammar.specs.Tree.{Value}
 use Rattle.reading.specs.declared.Answer.{Answer}
 use Rattle.reading.specs.declared.Rules.{Rules}
@@ -20,8 +21,9 @@ use Rattle.values.specs.Bytes.{Call, BytesAnswers}
 use Rattle.values.specs.Utf8 as Utf8
 use Rattle.values.specs.Utf8.{Utf8Answers, wellFormed}
 use Rattle.values.proofs.Utf8.{exactly-one}
-use Rattle.demands.specs.Requests.{OneTest, PlainSteps, SameRefusal, SameRefusals}
+use Rattle.demands.specs.Requests.{OneTest, PlainSteps, SameRefusal, SameRefusals, Padding, OneFive, FiveInside}
 use Rattle.demands.proofs.Derived.{fault-number}
+use Rattle.demands.proofs.Blobs.{from-reader, from-call, inside}
 
 -- ---- 2. The steps of the UTF-8 test
 
@@ -100,3 +102,14 @@ same-refusals rules text lent = (
   λ r a. same-refusal text (integer-bad text rules a) (λ q b. bad-integer text rules a b),
   λ call r left a. same-refusal text (bytes-bad text rules call a) (λ q b. bad-bytes text rules call a b),
 )
+
+-- ---- 3. Padding
+
+pub padding : Padding
+padding text i j is = ((λ n. no-bytes-only text (is .told .takes) n), (λ ds x b. bad-no-bytes x b))
+
+pub one-five : OneFive
+one-five rules text table buffer level l r c left kept x y a b = ((λ e. from-reader rules text table level a x b e), (λ e. from-call rules text table level a x b y e))
+
+pub five-inside : FiveInside
+five-inside rules text table buffer level j r c left kept a e is b = inside rules text table level a e is b

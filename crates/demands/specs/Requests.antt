@@ -6,12 +6,22 @@ use mathlib.Core.List.{List}
 use Prim.Native.Nat.{ℕ, _+_, _/_, _%_, _<_}
 use lib.ListN.{length}
 use Rattle.rules.specs.Every.{Every}
+use Rattle.rules.specs.Plain.{between}
+use Rattle.lexicon.specs.declared.Kind.the-variants.{Blob}
+use Rattle.lexicon.specs.Bytes.{base64}
+use Rattle.lexicon.specs.Literals.{blob}
+use Rattle.lexicon.specs.Values.{Behind}
+use Rattle.lexicon.specs.Padding.{BadBase64}
+use Rattle.lexicon.specs.Token.{Is, Bad}
+use Rattle.grammar.specs.Level.{Level}
 use Rattle.reading.specs.declared.Answer.{Answer}
 use Rattle.reading.specs.declared.Rules.{Rules}
-use Rattle.reading.specs.Answers.{Answers}
+use Rattle.reading.specs.Answers.{LevelOf, answer, Answers}
 use Rattle.values.specs.declared.IntegerAnswer.{IntegerAnswer}
 use Rattle.values.specs.Integer.{IntegerAnswers}
+use Rattle.values.specs.Exactly.{Exactly}
 use Rattle.values.specs.Bytes.{Call, BytesAnswers}
+use Rattle.values.specs.Blob.{BlobAnswers}
 use Rattle.values.specs.Utf8.{Utf8Answers}
 
 -- ---- 2. 'The UTF-8 test takes eight plain ASCII bytes in one step wherever eight come next, else one sequence, and
@@ -47,3 +57,31 @@ SameRefusals =
     ((r : IntegerAnswer) → IntegerAnswers rules text r → SameRefusal text (r .number ≡ 2) (r .number) (r .place)) ×
     ((call : Call) (r : Answer) (left : List ℕ) → BytesAnswers call rules text lent r left →
     SameRefusal text (r .number ≡ 2) (r .number) (r .place))
+
+-- ---- 3. 'RFC 4648 allows none, one or two, in the last group of four. More than two, or characters and `=` together
+-- no multiple of four, is now 5 at the literal's first byte, at both levels alike, so demand 3 reads as before. Bits
+-- left over under one or two `=` must be zero, else 5.'
+
+-- a Blob's value is bad just when it is in base 64 and its characters are bad in these words: `padding`
+abbrev pub Padding : Type 0
+Padding =
+    (text : List ℕ) (i j : ℕ) → Is text Blob i j →
+    (Bad text Blob i j → (ds : List ℕ) × Behind text "0xy" 4 base64 i j ds × BadBase64 ds) ×
+    ((ds : List ℕ) → Behind text "0xy" 4 base64 i j ds → BadBase64 ds → Bad text Blob i j)
+
+-- 'is now 5 at the literal's first byte, at both levels alike': of a text that is a Blob and nothing else the reader
+-- answers 5 at 0 just when the Blob call does: `one-five`
+abbrev pub OneFive : Type 0
+OneFive =
+    (rules : Rules) (text table buffer : List ℕ) (level : ℕ) (l : Level) (r c : Answer) (left kept : List ℕ) →
+    Exactly blob text → LevelOf level l → Answers rules text table level r left →
+    BlobAnswers rules text buffer c kept →
+    (r .number ≡ 5 → c ≡ answer 5 0 0) × (c .number ≡ 5 → r ≡ answer 5 0 0)
+
+-- and where the reader's 5 stands at a Blob inside a text, the call answers 5 for that Blob: `five-inside`. That it
+-- never does for a Blob of an accepted text is said of all its nodes (Pieces.antt: `NodePiece`, `blob`)
+abbrev pub FiveInside : Type 0
+FiveInside =
+    (rules : Rules) (text table buffer : List ℕ) (level j : ℕ) (r c : Answer) (left kept : List ℕ) →
+    Answers rules text table level r left → r .number ≡ 5 → Is text Blob (r .place) j →
+    BlobAnswers rules (between text (r .place) j) buffer c kept → c ≡ answer 5 0 0
