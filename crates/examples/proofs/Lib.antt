@@ -3,5 +3,6 @@ pub mod Integers
 pub mod Reading
 pub mod Starred
 pub mod Values
+pub mod Padding
 pub mod Contents
 pub mod Steps

@@ -1,6 +1,7 @@
--- The texts that document 01 marks with a star, texts with bad values, pieces of the Blob and Bits calls, and
--- texts with the steps of the UTF-8 test.
+-- The texts that document 01 marks with a star, texts with bad values, base-64 Blobs, pieces of the Blob and Bits
+-- calls, and texts with the steps of the UTF-8 test.
 pub mod Starred
 pub mod Values
+pub mod Padding
 pub mod Contents
 pub mod Steps
