@@ -13,6 +13,7 @@
 pub mod answer;
 #[cfg(feature = "staticlib")]
 pub mod archive;
+mod base64;
 pub mod compare;
 pub mod docs;
 pub mod front;

@@ -1,6 +1,5 @@
 //! The value calls: what an Integer, a Text, a Bits or a Blob literal denotes.
 
-mod base64;
 mod packed;
 
 pub use packed::{bits, blob};

@@ -1,4 +1,5 @@
-//! The settled readings, sections A to D, transcribed example by example.
+//! The settled readings, sections A to D and R1 to R3, transcribed example by
+//! example; where a request changes an answer of before, the new one.
 
 use super::{both, count, each, lacks, no, ok, Sample, Want};
 
@@ -338,15 +339,36 @@ pub const EXAMPLES: &[(&str, &[Sample])] = &[
         ],
     ),
     (
-        "A20",
+        "A20 and R3.1",
         &[
-            both(b"0xy====", ok(&[[6, 0, 7, 0, 0]])),
-            both(b"0xyA===", ok(&[[6, 0, 7, 0, 0]])),
+            both(b"0xy====", no(5, 0)),
+            both(b"0xyA===", no(5, 0)),
             both(b"0xyAA==", ok(&[[6, 0, 7, 0, 0]])),
+            both(b"0xyAAA=", ok(&[[6, 0, 7, 0, 0]])),
             both(b"0xy=AAA", no(5, 0)),
+            both(b"0xyAB==", no(5, 0)),
+            both(b"0xyAAB=", no(5, 0)),
             both(b"0xyAA== AAAA", no(5, 0)),
-            both(b"0xyAA==_====", ok(&[[6, 0, 12, 0, 0]])),
-            both(b"0xyAB==", ok(&[[6, 0, 7, 0, 0]])),
+            both(b"0xyAA==_====", no(5, 0)),
+            both(b"0xyAAA=_====", no(5, 0)),
+            both(b"0xy", ok(&[[6, 0, 3, 0, 0]])),
+        ],
+    ),
+    (
+        "R3.2, what A4 does not have",
+        &[both(b"0xyAA=", no(6, 3)), both(b"0xy=", no(4, 3))],
+    ),
+    (
+        "5 of a Blob beside other faults",
+        &[
+            both(b"(a:0xyAB==)", no(5, 3)),
+            both(b"(0xy====,", no(5, 1)),
+            both(b"0xyAB== x", no(5, 0)),
+            both(b"x 0xyAB==", no(6, 2)),
+            both(b"{0xyAA==,0xyAAB=}", no(5, 9)),
+            each(b"[0xyA===..5]", no(7, 0), no(5, 1)),
+            each(b"(Bag:{0xy====})", no(7, 0), no(5, 6)),
+            each(b"(Bag:{a:0xy====})", no(7, 0), no(6, 8)),
         ],
     ),
     (
@@ -791,11 +813,16 @@ pub const TEXTS: &[BytesCall] = &[
 
 pub const BLOBS: &[BytesCall] = &[
     (b"0xy====", 64, 5, 0, 0, b""),
+    (b"0xyA===", 64, 5, 0, 0, b""),
+    (b"0xyAA==", 64, 0, 7, 1, b"\0"),
+    (b"0xyAAA=", 64, 0, 7, 2, b"\0\0"),
     (b"0xyAB==", 64, 5, 0, 0, b""),
     (b"0xyAQ==", 64, 0, 7, 1, b"\x01"),
     (b"0xyAAB=", 64, 5, 0, 0, b""),
+    (b"0xyAAA=_====", 64, 5, 0, 0, b""),
     (b"0xyAA== AAAA", 64, 5, 0, 0, b""),
     (b"0xy", 64, 0, 3, 0, b""),
+    (b"0xyTWF", 64, 9, 0, 0, b""),
     (b"0xxA7_05 FF", 64, 0, 11, 3, b"\xA7\x05\xFF"),
     (b"0xb00000001", 64, 0, 11, 1, b"\x01"),
     (b"0xxA", 64, 9, 0, 0, b""),

@@ -3,7 +3,7 @@
 
 use super::digits::{self, Alphabet};
 use super::{exactly, Kind, Match};
-use crate::space;
+use crate::{base64, space};
 
 pub fn bits(text: &[u8], at: usize) -> Option<Match> {
     let (_, end) = body(text, at, b"0bb", Alphabet::Binary, 1)
@@ -17,7 +17,7 @@ pub fn blob(text: &[u8], at: usize) -> Option<Match> {
         return Some(Match {
             kind: Kind::Blob,
             end,
-            bad: padded_early(text, first, end),
+            bad: !encodes(text, first, end),
         });
     }
     let (_, end) = body(text, at, b"0xb", Alphabet::Binary, 8)
@@ -40,9 +40,8 @@ fn body(
     Some((behind, end))
 }
 
-/// Whether a `=` stands before another base-64 character.
-fn padded_early(text: &[u8], from: usize, to: usize) -> bool {
-    digits::figures(text, from, to)
-        .skip_while(|&figure| figure != b'=')
-        .any(|figure| figure != b'=')
+/// Whether the characters are the base 64 of some bytes.
+fn encodes(text: &[u8], from: usize, to: usize) -> bool {
+    let characters: Vec<u8> = digits::figures(text, from, to).collect();
+    base64::bytes(&characters).is_some()
 }

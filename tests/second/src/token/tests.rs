@@ -69,6 +69,41 @@ fn any_bytes_and_any_place() {
     assert_eq!(next(b"\"a\" \"\xFF\"", 0).words(), [7, 0, 3, 1, 0]);
 }
 
+/// Whole groups of four are the literal, and bad if they are no base 64.
+#[test]
+fn base_64_with_padding() {
+    for text in [
+        "0xy",
+        "0xyAA==",
+        "0xyAAA=",
+        "0xyAAAA",
+        "0xyAAAAAA==",
+        "0xy`=`AAAA_AAA=",
+    ] {
+        let length = text.len() as u64;
+        assert_eq!(words(text.as_bytes())[0], [6, 0, length, 0, 0], "{text}");
+    }
+    for text in [
+        "0xy====",
+        "0xyA===",
+        "0xyAB==",
+        "0xyAAB=",
+        "0xyAAA=_====",
+        "0xyAA== AAAA",
+        "0xyAAAA====",
+        "0xyAA==AA==",
+    ] {
+        let length = text.len() as u64;
+        assert_eq!(words(text.as_bytes())[0], [6, 0, length, 0, 1], "{text}");
+    }
+    // what fills no group is none of the literal's
+    assert_eq!(words(b"0xyTWF")[..2], [[6, 0, 3, 0, 0], [7, 3, 6, 2, 0]]);
+    assert_eq!(words(b"0xyAAAAA")[..2], [[6, 0, 7, 0, 0], [7, 7, 8, 2, 0]]);
+    assert_eq!(words(b"0xyAA=")[..2], [[6, 0, 3, 0, 0], [7, 3, 5, 2, 0]]);
+    assert_eq!(words(b"0xy="), [[6, 0, 3, 0, 0], [10, 3, 3, 0, 0]]);
+    assert_eq!(words(b"0xyAB===")[0], [6, 0, 7, 0, 1]);
+}
+
 /// A bad code point in a segment that is not whole is none of the literal's.
 #[test]
 fn a_broken_segment_does_not_make_the_literal_bad() {

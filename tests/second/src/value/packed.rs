@@ -1,7 +1,8 @@
 //! The bits of a Bits literal and the bytes of a Blob literal.
 
-use super::{base64, only_token, written};
+use super::{only_token, written};
 use crate::answer::{Answer, BAD_VALUE};
+use crate::base64;
 use crate::token::{self, Kind};
 
 /// Bytes of a mark such as `0xy`.
