@@ -5,13 +5,14 @@
 //!
 //! The texts are every sample, broken off at every byte and with bits
 //! flipped, texts made by the grammar or nearly, random bytes, rows of bytes
-//! that may be read at once, and long ones.
+//! that may be read at once, every two groups of some base-64 characters, and
+//! long ones.
 //!
 //! Exits with 1 at the first disagreement.
 
 use second::answer::{Answer, DEPTH_MAX, NEWER_FORM, NODE_WORDS, NO_ROOM, TEXT_MAX};
 use second::compare::{finish, same, Compared, Difference};
-use second::generate::{flipped, long_texts, random_bytes, row_texts, texts, Random};
+use second::generate::{flipped, long_texts, random_bytes, row_texts, texts, two_groups, Random};
 use second::{samples, tree};
 use std::process::ExitCode;
 use std::time::{Duration, Instant};
@@ -156,6 +157,16 @@ impl Counts {
         Ok(())
     }
 
+    /// A text of one node if it is accepted: no room, too little, what it
+    /// needs, and more.
+    fn literal(&mut self, text: &[u8]) -> Compared {
+        self.texts += 1;
+        for length in [0, NODE_WORDS - 1, NODE_WORDS, 2 * NODE_WORDS] {
+            self.both_levels(text, length)?;
+        }
+        Ok(())
+    }
+
     /// The sample, broken off at every byte, and with a bit flipped.
     fn sample(&mut self, text: &[u8]) -> Compared {
         for length in 0..=text.len() {
@@ -262,6 +273,9 @@ fn run(counts: &mut Counts) -> Compared {
     }
     for text in row_texts().iter().step_by(SPARSELY) {
         counts.text(text)?;
+    }
+    for text in two_groups() {
+        counts.literal(&text)?;
     }
     for text in sized_texts().into_iter().chain(long_texts()) {
         counts.long(&text)?;

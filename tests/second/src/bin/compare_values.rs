@@ -1,15 +1,16 @@
 //! Compares this package's value calls with those of the verified archive:
 //! number, place and count, the integer, and every byte of the lent buffer.
+//! Checks of both that the reader judges a Blob as the Blob call does.
 //!
 //! Exits with 1 at the first disagreement.
 
-use second::answer::Answer;
+use second::answer::{Answer, BAD_VALUE, NO_ROOM};
 use second::compare::{finish, same, Compared, Difference};
 use second::generate::{
     long_packed_pieces, long_pieces, packed_pieces, pieces, random_packed_pieces, row_texts,
-    sample_pieces, short_pieces, Random,
+    sample_pieces, short_pieces, two_groups, Random,
 };
-use second::value;
+use second::{tree, value};
 use std::process::ExitCode;
 
 const SEED: u64 = 20_261_117;
@@ -53,6 +54,26 @@ const WRITING: [Writing; 3] = [
     },
 ];
 
+/// A program's Blob call and its reader.
+struct Program {
+    name: &'static str,
+    blob: Call,
+    read: fn(u32, &[u8], &mut [u32]) -> Answer,
+}
+
+const PROGRAMS: [Program; 2] = [
+    Program {
+        name: "second",
+        blob: value::blob,
+        read: tree::read,
+    },
+    Program {
+        name: "archive",
+        blob: archive::blob,
+        read: archive::read,
+    },
+];
+
 /// The calls of the archive, by the package that wraps it.
 mod archive {
     use second::answer::Answer;
@@ -74,6 +95,10 @@ mod archive {
             place: answer.place,
             count: answer.count,
         }
+    }
+
+    pub fn read(level: u32, text: &[u8], table: &mut [u32]) -> Answer {
+        plain(muon::read(level, text, table))
     }
 
     pub fn text(piece: &[u8], buffer: &mut [u8]) -> Answer {
@@ -98,10 +123,36 @@ fn written(call: Call, piece: &[u8], length: usize) -> (Answer, Vec<u8>) {
     (answer, bytes)
 }
 
-/// What was compared: pieces, and the answers of each call by their numbers.
+/// A Blob is refused with 5 by the reader, at both levels, exactly if it is by
+/// the Blob call; else it is a text of one node, for which no room is lent.
+/// Whether the piece is one.
+fn judged_alike(program: &Program, piece: &[u8]) -> Result<bool, Difference> {
+    let call = (program.blob)(piece, &mut []);
+    let expected = match call.number {
+        BAD_VALUE => call,
+        0 | NO_ROOM => Answer::no_room(piece.len(), 1),
+        _ => return Ok(false),
+    };
+    for level in [1, 2] {
+        let read = (program.read)(level, piece, &mut []);
+        if read != expected {
+            return Err(Difference(format!(
+                "b\"{}\" ({} bytes) in {}\n  Blob call: {call:?}\n  level {level}:   {read:?}",
+                piece.escape_ascii(),
+                piece.len(),
+                program.name
+            )));
+        }
+    }
+    Ok(true)
+}
+
+/// What was compared: pieces, Blobs among them that were read too, and the
+/// answers of each call by their numbers.
 struct Counts {
     random: Random,
     pieces: usize,
+    read: usize,
     integers: [usize; 12],
     written: [[usize; 12]; WRITING.len()],
 }
@@ -111,6 +162,7 @@ impl Counts {
         Counts {
             random: Random::new(SEED),
             pieces: 0,
+            read: 0,
             integers: [0; 12],
             written: [[0; 12]; WRITING.len()],
         }
@@ -157,6 +209,9 @@ impl Counts {
                 self.written[index][number] += 1;
             }
         }
+        for program in &PROGRAMS {
+            self.read += usize::from(judged_alike(program, piece)?);
+        }
         Ok(())
     }
 
@@ -174,7 +229,12 @@ impl Counts {
             .into_iter()
             .chain(calls)
             .map(|(name, answers, numbers)| format!(", {name} ({})", listed(answers, numbers)));
-        format!("{} pieces{}", self.pieces, each.collect::<String>())
+        format!(
+            "{} pieces{}, {} Blobs read",
+            self.pieces,
+            each.collect::<String>(),
+            self.read / PROGRAMS.len()
+        )
     }
 }
 
@@ -205,6 +265,7 @@ fn run(counts: &mut Counts) -> Compared {
         long_pieces(),
         pieces(SEED, GENERATED),
         packed_pieces(),
+        two_groups(),
         long_packed_pieces(),
         random_packed_pieces(SEED, GENERATED),
         row_texts().into_iter().step_by(SPARSELY).collect(),

@@ -240,7 +240,17 @@ impl<'a> Writer<'a> {
             0 => self.packed("0xb", "01", 8),
             1 => self.packed("0xx", "0123456789ABCDEF", 2),
             2 if self.mischief => self.packed("0xy", "AZaz09+/=", 4),
-            _ => self.packed("0xy", "AZaz09+/", 4),
+            _ => self.base64(),
+        }
+    }
+
+    /// With padding, or without.
+    fn base64(&mut self) {
+        self.packed("0xy", "AZaz09+/", 4);
+        match self.random.below(6) {
+            0 | 1 => self.put_one(&["AA==", "+Q==", "TWE=", "/wA="]),
+            2 if self.mischief => self.put_one(&["====", "A===", "AB==", "AAB="]),
+            _ => (),
         }
     }
 

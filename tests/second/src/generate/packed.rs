@@ -8,6 +8,8 @@ use crate::answer::TEXT_MAX;
 
 const BASE64: &[u8] = b"ABCDEFGHIJKLMNOPQRSTUVWXYZabcdefghijklmnopqrstuvwxyz0123456789+/";
 const HEXADECIMAL: &[u8] = b"0123456789ABCDEF";
+/// Characters of two groups of base 64.
+const TWO_GROUPS: u32 = 8;
 
 /// A mark, its digits, and how many of them a group has at least.
 struct Base {
@@ -162,7 +164,8 @@ fn strangers() -> Vec<Vec<u8>> {
 }
 
 /// Base 64, in its last group all characters that may have bits left over,
-/// behind no group and behind a full one; and `=` in every order.
+/// behind no group and behind a full one; and `=` in every order, but for the
+/// two groups by themselves.
 fn paddings() -> Vec<Vec<u8>> {
     let mut all = Vec::new();
     for front in ["0xy", "0xyTWFu", "0xy TWFu_", "0xyTWE="] {
@@ -173,9 +176,24 @@ fn paddings() -> Vec<Vec<u8>> {
             }
         }
     }
-    all.extend((0..=9).flat_map(|length| behind("0xy", every(b"AQ=", length))));
+    let lengths = (0..=9).filter(|length| *length != TWO_GROUPS);
+    all.extend(lengths.flat_map(|length| behind("0xy", every(b"AQ=", length))));
     all.extend((1..=5).flat_map(|length| behind("0xyAA", every(b"A= _`", length))));
     all
+}
+
+/// Every two groups of base 64 of `=` and of characters that have no bit, the
+/// lowest or none of the lowest four: side by side, and with each joint
+/// between.
+pub fn two_groups() -> Vec<Vec<u8>> {
+    let rows = every(b"ABQ=", TWO_GROUPS);
+    let joined = |joint: &'static str| {
+        rows.iter().map(move |row| {
+            let (one, two) = row.split_at(row.len() / 2);
+            [b"0xy", one, joint.as_bytes(), two].concat()
+        })
+    };
+    ["", " ", "_", "`=`"].into_iter().flat_map(joined).collect()
 }
 
 /// Behind each mark everything short of two digits and joints.
@@ -408,6 +426,20 @@ mod tests {
         };
         assert_eq!(sound("0xy", "=="), 64 * 4);
         assert_eq!(sound("0xyT", "="), 64 * 16);
+    }
+
+    /// All of them are Blobs.  Those are encodings whose first group has no
+    /// `=`, and whose second has none, or one or two behind `A` or `Q`.
+    #[test]
+    fn every_two_groups() {
+        let all = two_groups();
+        assert_eq!(all.len(), 4 * 65_536);
+        let mut met = [0; 12];
+        for text in &all {
+            met[value::blob(text, &mut [0; 6]).number as usize] += 1;
+        }
+        let sound = 4 * 81 * (81 + 3 * 3 * 2 + 3 * 2);
+        assert_eq!((met[0], met[5]), (sound, all.len() - sound));
     }
 
     /// The longest pieces are as long as they should be, and those of whole
