@@ -60,8 +60,8 @@ extern "C" {
 #define MUON_REFUSED_NOT_UTF8 3
 /* No token starts here. That byte. */
 #define MUON_REFUSED_NO_TOKEN 4
-/* A bad value in a literal: a code point outside 0..D7FF and E000..10FFFF, denominator 0, radix below 2, or a `=` in a base-64 Blob
-   with another character behind it; in muon_blob any base-64 Blob that RFC 4648 does not have (see there). The literal's first byte. */
+/* A bad value in a literal: a code point outside 0..D7FF and E000..10FFFF, denominator 0, radix below 2, or a base-64 Blob that RFC 4648
+   does not have (see muon_blob). The literal's first byte. */
 #define MUON_REFUSED_BAD_VALUE 5
 /* A token in the wrong place. Its first byte; the end counts as a token at the text's length. */
 #define MUON_REFUSED_WRONG_PLACE 6
@@ -177,9 +177,9 @@ uint32_t muon_read(uint32_t level, const uint8_t *text, size_t text_len, uint32_
 /* The value calls. Their piece is the literal alone, as a node's first and end have it: text + first, end - first bytes. No byte-order
    mark, first line `#!` or dividing space around it is dropped; with one of them the piece is refused with 9.
 
-   The bytes of a node of an accepted text are never refused with 2, 3 or 9: an Integer's node gives muon_integer its value, or 10; a Text's
-   node gives muon_text its characters, or 8, and never 5; a Bits node gives muon_bits its bits, or 8; a Blob's node gives muon_blob its
-   bytes, or 8, or 5, since muon_read asks less of the padding (proved; pieces in crates/demands/proofs/Pieces.antt). */
+   The bytes of a node of an accepted text are never refused with 2, 3, 9 or 5: an Integer's node gives muon_integer its value, or 10; a
+   Text's node gives muon_text its characters, or 8; a Bits node gives muon_bits its bits, or 8; a Blob's node gives muon_blob its bytes,
+   or 8 (proved; pieces in crates/demands/proofs/Pieces.antt). */
 
 /* The signed integer of an Integer literal: `29 56` has the value 2956, `-0x F_F` has the value -255.
 
@@ -206,10 +206,11 @@ uint32_t muon_text(const uint8_t *piece, size_t piece_len, uint8_t *buffer, size
 /* The bytes of a Blob literal, from the start of a lent buffer on. The digits are of base 2, 16 or 64: `0xb00000001` has the bytes 01,
    `0xxA7_05 FF` has the bytes A7 05 FF, `0xyAQ==` has the bytes 01, and `0xy` has no bytes.
 
-   Base 64 is RFC 4648 section 4. Refused with 5 is what it does not have: a `=` with another character behind it, more than two `=`, and
-   bits left over that are not zero. As number@place: in the Blob call `0xyAA== AAAA` is 5@0, `0xy====` is 5@0, `0xyAB==` is 5@0 and
-   `0xyAAB=` is 5@0. Of these muon_read refuses the first only. Digits that do not fill whole bytes, or in base 64 groups of four, make no
-   Blob: in the Blob call `0xxA` is 9@0 and `0xyAQ=` is 9@0.
+   Base 64 is RFC 4648 section 4. Refused with 5, here and by muon_read, is what it does not have: a `=` with another character behind it,
+   more than two `=`, and bits left over that are not zero. As number@place: in the Blob call `0xyAA== AAAA` is 5@0, `0xy====` is 5@0,
+   `0xyAB==` is 5@0 and `0xyAAB=` is 5@0. Read as texts, `0xyAA== AAAA` is 5@0, `0xy====` is 5@0, `(a:0xyAB==)` is 5@3 and `{0xyAAB=}`
+   is 5@1. Digits that do not fill whole bytes, or in base 64 groups of four, are no part of a Blob. In the Blob call `0xxA` is 9@0,
+   `0xyTWF` is 9@0 and `0xyAQ=` is 9@0. Read as texts, with a token behind the Blob, `0xxA` is 6@3, `0xyTWF` is 6@3 and `0xyAQ=` is 6@3.
 
    piece      piece_len bytes, read only; need not end in 0
    buffer     buffer_len bytes; what they held does not matter
