@@ -1,6 +1,6 @@
 //! Reads a file, or standard input if none is named, at level 2 and prints
 //! the bytes of every Blob in it, a line each: `PLACE: A7 05 FF`.  If the text
-//! or a Blob is refused, the reason goes to standard error.
+//! is refused, the reason goes to standard error.
 //!
 //! `cargo run --example blobs -- FILE`
 
@@ -21,20 +21,19 @@ fn input() -> io::Result<Vec<u8>> {
     Ok(text)
 }
 
-/// Prints the Blobs of a text; why and where it went wrong, if it did.
+/// Prints the Blobs of a text; why and where it is refused, if it is.
 fn blobs(text: &[u8]) -> Result<(), (usize, muon::Refusal)> {
     let mut table = [0; muon::TABLE_MAX];
     let answer = muon::read(LEVEL, text, &mut table);
     let count = answer
         .accepted()
         .map_err(|refusal| (answer.place, refusal))?;
-    // No Blob has more bytes than the text.
+    // No Blob has more bytes than the text; so with this much room, a Blob of
+    // an accepted text is never refused.
     let mut buffer = vec![0; text.len()];
     for node in muon::nodes(&table, count).filter(|node| node.kind == muon::kind::BLOB) {
         let first = node.span().start;
-        let bytes = muon::blob(&text[node.span()], &mut buffer)
-            .accepted()
-            .map_err(|refusal| (first, refusal))?;
+        let bytes = muon::blob(&text[node.span()], &mut buffer).count;
         let hex: String = buffer[..bytes]
             .iter()
             .map(|byte| format!(" {byte:02X}"))

@@ -126,8 +126,9 @@ pub enum Refusal {
     NotUtf8 = 3,
     /// No token starts at the place.
     NoToken = 4,
-    /// A bad value in the literal that begins at the place; [`blob`](crate::blob)
-    /// gives it for more base-64 literals than [`read`](crate::read).
+    /// A bad value in the literal that begins at the place: a code point
+    /// outside 0..D7FF and E000..10FFFF, denominator 0, radix below 2, or a
+    /// base-64 Blob that RFC 4648 does not have.
     BadValue = 5,
     /// The token that begins at the place stands where none such may; the
     /// end of the text is a token at the text's length.

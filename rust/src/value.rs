@@ -83,7 +83,8 @@ pub fn text(piece: &[u8], buffer: &mut [u8]) -> Answer {
 /// section 4).  Accepted, exactly the first `count` bytes are written; refused,
 /// none.  What the buffer held doesn't matter; one as long as the piece is
 /// always enough.  Refusals are tested in the order 2, 3, 9, 5, 8; no other is
-/// given.
+/// given.  What is refused with 5, [`read`](crate::read) refuses so, too: a
+/// Blob of an accepted text always has its bytes.
 ///
 /// ```
 /// use muon::Refusal;
@@ -99,6 +100,7 @@ pub fn text(piece: &[u8], buffer: &mut [u8]) -> Answer {
 /// for piece in [&b"0xyA==="[..], b"0xyTWF="] {
 ///     let answer = muon::blob(piece, &mut buffer);
 ///     assert_eq!(answer.refusal(), Some(Refusal::BadValue));
+///     assert_eq!(muon::read(1, piece, &mut [0; 6]), answer);
 /// }
 /// ```
 pub fn blob(piece: &[u8], buffer: &mut [u8]) -> Answer {

@@ -295,14 +295,64 @@ fn the_longest_bits_and_blob() {
     assert_eq!(blob(&longest("0xy ", "QUFB")), Ok(vec![b'A'; 24_573]));
 }
 
-/// A Blob's node is read with padding that the call refuses.
+/// The answer at both levels, and the Blobs of the text.
+fn blobs_read(text: &[u8]) -> (Answer, Vec<&[u8]>) {
+    let mut table = [0; muon::TABLE_MAX];
+    let answer = muon::read(1, text, &mut table);
+    assert_eq!(muon::read(2, text, &mut table), answer);
+    let count = answer.accepted().unwrap_or(0);
+    let blobs = muon::nodes(&table, count).filter(|node| node.kind == muon::kind::BLOB);
+    (answer, blobs.map(|node| &text[node.span()]).collect())
+}
+
+/// A Blob that the call refuses is none of a node's: the reader refuses it at
+/// its first byte.
 #[test]
 fn padding_of_a_node() {
-    let text = b"(mark : 0xyAB==)";
-    let mut table = [0; muon::TABLE_MAX];
-    let answer = muon::read(2, text, &mut table);
-    let node = muon::nodes(&table, answer.count)
-        .find(|node| node.kind == muon::kind::BLOB)
-        .expect("a Blob");
-    assert_eq!(blob(&text[node.span()]), Err((Refusal::BadValue, 0)));
+    for piece in [
+        "0xy====",
+        "0xyA===",
+        "0xyAB==",
+        "0xyAAB=",
+        "0xyAA=A",
+        "0xyAAA=_====",
+        "0xyAA== AAAA",
+    ] {
+        assert_eq!(blob(piece.as_bytes()), Err((Refusal::BadValue, 0)));
+        for (front, rear) in [("", ""), ("(mark : ", ")"), ("{0xyAA==, ", ",,"), ("(", "")] {
+            let text = format!("{front}{piece}{rear}");
+            let refused = Answer {
+                number: Refusal::BadValue.number(),
+                place: front.len(),
+                count: 0,
+            };
+            assert_eq!(blobs_read(text.as_bytes()), (refused, vec![]), "{text}");
+        }
+    }
+}
+
+#[test]
+fn every_blob_of_a_text_has_bytes() {
+    let text = b"{0xy : 0xyAA==, 0xyAAA= : 0xy TWFu_TWE=, 0xxA7 : 0xb}";
+    let (answer, blobs) = blobs_read(text);
+    assert!(answer.is_accepted());
+    let bytes: Vec<Outcome> = blobs.into_iter().map(blob).collect();
+    let expected: [&[u8]; 6] = [b"", b"\0", b"\0\0", b"ManMa", b"\xA7", b""];
+    assert_eq!(bytes, expected.map(|bytes| Ok(bytes.to_vec())));
+}
+
+/// What fills no group of four is not part of the Blob.
+#[test]
+fn no_group_of_four() {
+    for (text, refusal, place) in [
+        ("0xyTWF", Refusal::WrongPlace, 3),
+        ("0xyAAAAA", Refusal::WrongPlace, 7),
+        ("0xyAA=", Refusal::WrongPlace, 3),
+        ("0xy=", Refusal::NoToken, 3),
+    ] {
+        let (answer, _) = blobs_read(text.as_bytes());
+        assert_eq!((answer.refusal(), answer.place), (Some(refusal), place));
+        let call = blob(text.as_bytes());
+        assert_eq!(call, Err((Refusal::NotTheLiteral, 0)), "{text}");
+    }
 }
