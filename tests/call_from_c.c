@@ -196,6 +196,30 @@ static void refuses(void (*run)(void), const char *piece, uint32_t number, size_
     expect_bytes(run, piece, 0, number, place, 0, "", 0);
 }
 
+/* A piece in the Blob call, which refuses at 0, and then as a text at both levels, where an accepted one has one node. */
+static void expect_blob(const char *piece, uint32_t by_call, uint32_t by_reader, size_t place, const char *value, size_t written) {
+    if (by_call == MUON_ACCEPTED)
+        accepts(blob_of_it, piece, value, written);
+    else
+        refuses(blob_of_it, piece, by_call, 0);
+    for (uint32_t level = 1; level <= 2; level++) expect(level, piece, WORDS, by_reader, place, by_reader == MUON_ACCEPTED);
+}
+
+/* The padding of base 64. */
+static void paddings(void) {
+    static const char *const bad[] = {"0xy====", "0xyA===", "0xyAB==", "0xyAAB=", "0xyAAA=_====", "0xyAA== AAAA"};
+    for (size_t i = 0; i < sizeof bad / sizeof *bad; i++)
+        expect_blob(bad[i], MUON_REFUSED_BAD_VALUE, MUON_REFUSED_BAD_VALUE, 0, "", 0);
+    expect_blob("0xyAA==", MUON_ACCEPTED, MUON_ACCEPTED, 7, "\0", 1);
+    expect_blob("0xyAAA=", MUON_ACCEPTED, MUON_ACCEPTED, 7, "\0\0", 2);
+    expect_blob("0xy", MUON_ACCEPTED, MUON_ACCEPTED, 3, "", 0);
+    /* no group of four */
+    expect_blob("0xyTWF", MUON_REFUSED_NOT_THE_LITERAL, MUON_REFUSED_WRONG_PLACE, 3, "", 0);
+    expect_blob("0xyAAAAA", MUON_REFUSED_NOT_THE_LITERAL, MUON_REFUSED_WRONG_PLACE, 7, "", 0);
+    expect_blob("0xyAA=", MUON_REFUSED_NOT_THE_LITERAL, MUON_REFUSED_WRONG_PLACE, 3, "", 0);
+    expect_blob("0xy=", MUON_REFUSED_NOT_THE_LITERAL, MUON_REFUSED_NO_TOKEN, 3, "", 0);
+}
+
 static void blobs(void) {
     accepts(blob_of_it, "0xb00000001", "\1", 1);
     accepts(blob_of_it, "0xxA7_05 FF", "\xA7\x05\xFF", 3);
@@ -203,11 +227,6 @@ static void blobs(void) {
     accepts(blob_of_it, "0xyAQ==", "\1", 1);
     accepts(blob_of_it, "0xyTWE=", "Ma", 2);
     accepts(blob_of_it, "0xyTWFu_+/+/", "Man\xFB\xFF\xBF", 6);
-    accepts(blob_of_it, "0xy", "", 0);
-    refuses(blob_of_it, "0xyAB==", MUON_REFUSED_BAD_VALUE, 0);
-    refuses(blob_of_it, "0xyAAB=", MUON_REFUSED_BAD_VALUE, 0);
-    refuses(blob_of_it, "0xy====", MUON_REFUSED_BAD_VALUE, 0);
-    refuses(blob_of_it, "0xyAA== AAAA", MUON_REFUSED_BAD_VALUE, 0);
     refuses(blob_of_it, "0xxA", MUON_REFUSED_NOT_THE_LITERAL, 0);
     refuses(blob_of_it, "0xx ", MUON_REFUSED_NOT_THE_LITERAL, 0);
     refuses(blob_of_it, "0bb1", MUON_REFUSED_NOT_THE_LITERAL, 0);
@@ -339,6 +358,7 @@ int main(void) {
     integers();
     texts();
     blobs();
+    paddings();
     bits();
     utf8();
     printf("muon_read %zu\n", most_touched_by_a_reading());
