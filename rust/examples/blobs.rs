@@ -33,7 +33,9 @@ fn blobs(text: &[u8]) -> Result<(), (usize, muon::Refusal)> {
     let mut buffer = vec![0; text.len()];
     for node in muon::nodes(&table, count).filter(|node| node.kind == muon::kind::BLOB) {
         let first = node.span().start;
-        let bytes = muon::blob(&text[node.span()], &mut buffer).count;
+        let bytes = muon::blob(&text[node.span()], &mut buffer)
+            .accepted()
+            .expect("the bytes of a Blob of an accepted text");
         let hex: String = buffer[..bytes]
             .iter()
             .map(|byte| format!(" {byte:02X}"))
