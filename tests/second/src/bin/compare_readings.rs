@@ -5,14 +5,16 @@
 //!
 //! The texts are every sample, broken off at every byte and with bits
 //! flipped, texts made by the grammar or nearly, random bytes, rows of bytes
-//! that may be read at once, every two groups of some base-64 characters, and
-//! long ones.
+//! that may be read at once, every two groups of some base-64 characters,
+//! every two characters before padding, and long ones.
 //!
 //! Exits with 1 at the first disagreement.
 
 use second::answer::{Answer, DEPTH_MAX, NEWER_FORM, NODE_WORDS, NO_ROOM, TEXT_MAX};
 use second::compare::{finish, same, Compared, Difference};
-use second::generate::{flipped, long_texts, random_bytes, row_texts, texts, two_groups, Random};
+use second::generate::{
+    flipped, long_texts, paddings, random_bytes, row_texts, texts, two_groups, Random,
+};
 use second::{samples, tree};
 use std::process::ExitCode;
 use std::time::{Duration, Instant};
@@ -274,7 +276,7 @@ fn run(counts: &mut Counts) -> Compared {
     for text in row_texts().iter().step_by(SPARSELY) {
         counts.text(text)?;
     }
-    for text in two_groups() {
+    for text in two_groups().into_iter().chain(paddings()) {
         counts.literal(&text)?;
     }
     for text in sized_texts().into_iter().chain(long_texts()) {

@@ -17,7 +17,7 @@ pub use encoded::{around, encoded_texts, BAD, LONGER, RUN_MAX};
 pub use flip::flipped;
 pub use grammar::Made;
 pub use long::{long_shapes, long_texts, Shape};
-pub use packed::{long_packed_pieces, packed_pieces, random_packed_pieces, two_groups};
+pub use packed::{long_packed_pieces, packed_pieces, paddings, random_packed_pieces, two_groups};
 pub use pieces::{long_pieces, pieces, sample_pieces, short_pieces};
 pub use random::Random;
 pub use rows::{framed, row, row_texts, FRAMES};

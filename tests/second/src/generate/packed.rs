@@ -166,7 +166,7 @@ fn strangers() -> Vec<Vec<u8>> {
 /// Base 64, in its last group all characters that may have bits left over,
 /// behind no group and behind a full one; and `=` in every order, but for the
 /// two groups by themselves.
-fn paddings() -> Vec<Vec<u8>> {
+pub fn paddings() -> Vec<Vec<u8>> {
     let mut all = Vec::new();
     for front in ["0xy", "0xyTWFu", "0xy TWFu_", "0xyTWE="] {
         for &a in BASE64 {

@@ -359,7 +359,7 @@ pub const EXAMPLES: &[(&str, &[Sample])] = &[
         &[both(b"0xyAA=", no(6, 3)), both(b"0xy=", no(4, 3))],
     ),
     (
-        "5 of a Blob beside other faults",
+        "not from there: 5 of a Blob beside other faults, in 01's order",
         &[
             both(b"(a:0xyAB==)", no(5, 3)),
             both(b"(0xy====,", no(5, 1)),
