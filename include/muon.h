@@ -34,9 +34,9 @@ extern "C" {
 #define MUON_BITS_MAX (4 * MUON_TEXT_MAX)
 
 /* The stack that a call needs at most, in bytes, whatever the input. Behind it: the frames of muon_read times the open brackets that
-   there may be come to 28,432 bytes in the archive as built today, those of muon_integer to 560, of muon_text to 880, of muon_blob and of
+   there may be come to 28,464 bytes in the archive as built today, those of muon_integer to 560, of muon_text to 880, of muon_blob and of
    muon_bits to 800 each and of muon_utf8 to 376; the most that was measured, over the deepest texts and the longest ways through a literal,
-   is 28,060, 556, 880, 796, 796 and 232 (tests/stack prints them and fails if one exceeds the number here).
+   is 28,092, 556, 880, 796, 796 and 232 (tests/stack prints them and fails if one exceeds the number here).
    No call takes memory from anywhere else. */
 #define MUON_STACK_MAX 32768
 
