@@ -30,7 +30,7 @@ use Rattle.grammar.specs.Nodes.{NodeKind, Node, anIgnorance, aBoolean, anIntege
 use Rattle.grammar.specs.Nodes.{aPair, aTuple, aLot, anArray, aSet, aBag, anInterval}
 use Rattle.grammar.specs.Leaves.{Written, isLiteral}
 use Rattle.grammar.specs.Leaves as Leaves
-use Rattle.grammar.proofs.Leaves.{TokenOf, IfLiteral, table-leaves}
+use Rattle.grammar.proofs.Nodes.{TokenOf, IfLiteral, table-leaves}
 use Rattle.reading.specs.declared.Answer.{Answer}
 use Rattle.reading.specs.declared.Limits.{Limits}
 use Rattle.reading.specs.declared.Rules.{Rules}

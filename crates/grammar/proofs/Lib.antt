@@ -16,5 +16,6 @@ pub mod Levels
 pub mod FirstNewer
 pub mod Compared
 pub mod NodeLaws
-pub mod Leaves
+pub mod Nodes
+pub mod Bounds
 pub mod Examples

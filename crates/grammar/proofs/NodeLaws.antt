@@ -1,13 +1,17 @@
--- Laws of the nodes of a derivation: the role is the first node's alone, and neither it nor the indices tell how many nodes there are.
--- Assumes nothing.
+-- Laws of the nodes of a derivation: how many words they have; the role is the first node's alone, and neither it nor the indices tell how
+-- many nodes there are. Assumes nothing.
 use mathlib.Core.Path.{_≡_, refl, sym, ap, ap₂, _∙_}
 use mathlib.Core.List.{List, [], _∷_}
-use Prim.Native.Nat.{ℕ, suc, _+_, _≤_}
+use Prim.Native.Nat.{ℕ, suc, _+_, _*_, _≤_}
 use native.Mathlib.Omega.{arith}
 use lib.ListN.{length, length-append}
 use Rattle.grammar.specs.Tree
 use Rattle.grammar.specs.Tree.{PlainName, textName, nestingName, Name, plainName, bareName, Measure, Count, Style, Value, Plain, Item, Row, Listing, Attributes, Bounds}
-use Rattle.grammar.specs.Nodes.{Node, Role, this, thatAfter, name, value, low, high, leftRole, rightRole, joinerLeft, joinerRight, both, nodes, nodesPlain, nodesPlainName, nodesName, nodesCount, nodesItem, nodesRow, nodesListing, nodesAttributes, nodesBounds}
+use Rattle.grammar.specs.Nodes.{Node, words, nodeWords, tableWords, Role, this, thatAfter, name, value, low, high, leftRole, rightRole, joinerLeft, joinerRight, both, nodes, nodesPlain, nodesPlainName, nodesName, nodesCount, nodesItem, nodesRow, nodesListing, nodesAttributes, nodesBounds}
+
+pub tableWords-length : (ns : List Node) → length (tableWords ns) ≡ length ns * nodeWords
+tableWords-length [] = refl
+tableWords-length (n ∷ ns) = omega (arith, length-append (words n) (tableWords ns), tableWords-length ns)
 
 -- the first node with another role
 abbrev pub roled : Role → List Node → List Node

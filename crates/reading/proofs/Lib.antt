@@ -8,3 +8,4 @@ pub mod Stands
 pub mod At
 pub mod Agree
 pub mod Depth
+pub mod Within

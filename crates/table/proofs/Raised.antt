@@ -10,9 +10,8 @@ use Rattle.rules.proofs.Over.{over-length, over-append, over-again, over-at}
 use Rattle.grammar.specs.Tree.{Value}
 use Rattle.grammar.specs.Nodes as Nodes
 use Rattle.grammar.specs.Nodes.{Node, words, nodeWords, tableWords, nodes}
-use Rattle.grammar.proofs.NodeLaws.{some-node}
+use Rattle.grammar.proofs.NodeLaws.{tableWords-length, some-node}
 use Rattle.table.specs.Over.{largestWord, capped, parentWord, wordOf, under, lifted, raised, Raised, Reserved, Written}
-use Rattle.table.proofs.Words.{tableWords-length}
 use Rattle.table.proofs.Shifted.{placed, shifted, parented, reparent, shift}
 
 -- ---- lengths

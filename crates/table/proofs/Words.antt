@@ -3,15 +3,11 @@ use mathlib.Core.Path.{_≡_, refl, sym, ap, _∙_}
 use mathlib.Core.List.{List, [], _∷_, _++_, append-assoc}
 use Prim.Native.Nat.{ℕ, _+_, _*_, _≤_}
 use native.Mathlib.Omega.{arith}
-use lib.ListN.{length, set, length-append}
+use lib.ListN.{length, set}
 use Rattle.rules.proofs.Over.{set-behind}
 use Rattle.grammar.specs.Nodes.{Node, Role, words, nodeWords, tableWords, roleNumber}
 use Rattle.moves.specs.Means.{roled}
 use Rattle.table.specs.Over.{roleWord}
-
-pub tableWords-length : (ns : List Node) → length (tableWords ns) ≡ length ns * nodeWords
-tableWords-length [] = refl
-tableWords-length (n ∷ ns) = omega (arith, length-append (words n) (tableWords ns), tableWords-length ns)
 
 pub tableWords-append : (ns ms : List Node) → tableWords (ns ++ ms) ≡ tableWords ns ++ tableWords ms
 tableWords-append [] ms = refl
