@@ -1,13 +1,16 @@
 -- Tests put together: each says whether something holds. Assumes nothing.
-use mathlib.Core.Path.{_≡_, refl}
+use mathlib.Core.Path.{_≡_, refl, ap, _∙_}
 use mathlib.Core.Logic.{_⊎_, inl, inr, ⊎-elim}
 use mathlib.Core.Bool.{Bool, true, false, not, _&&_, _||_}
+use mathlib.Core.List.{List, [], _∷_}
 use Prim.Native.Nat.{ℕ, _≤_, _<_}
+use native.Mathlib.Omega.{arith}
 use borrow.Author.Tests.{leb-true, ltb-true, eqb-true, eq-eqb, le-leb, lt-ltb}
 use lib.Dec.{leb, ltb, eqb}
+use lib.ListN.{length, getD, drop}
 use Rattle.rules.specs.Test.{Says}
 use Rattle.rules.proofs.Bools.{and-left, and-right, and-both, or-cases, or-left, or-right, decide, not-both}
-use Rattle.rules.proofs.Tests.{refuted}
+use Rattle.rules.proofs.Tests.{says-no, says-yes, refuted}
 use Rattle.lexicon.specs.declared.Base.{Base}
 use Rattle.lexicon.specs.declared.Base.the-variants.{Two, Eight, Ten, Sixteen}
 
@@ -50,6 +53,24 @@ below a b = record { true-holds = λ e. ltb-true a b e; holds-true = λ h. lt-lt
 
 pub equal : (a b : ℕ) → Says (eqb a b) (a ≡ b)
 equal a b = record { true-holds = λ e. eqb-true a b e; holds-true = λ h. eq-eqb a b h }
+
+-- ---- lists of numbers
+
+abbrev pub sameAs : List ℕ → List ℕ → Bool
+sameAs [] [] = true
+sameAs [] (d ∷ ds) = false
+sameAs (e ∷ es) [] = false
+sameAs (e ∷ es) (d ∷ ds) = eqb d e && sameAs es ds
+
+pub same-as : (es ds : List ℕ) → Says (sameAs es ds) (ds ≡ es)
+same-as [] [] = says-yes refl
+same-as [] (d ∷ ds) = says-no (λ e. omega (arith, ap length e))
+same-as (e ∷ es) [] = says-no (λ x. omega (arith, ap length x))
+same-as (e ∷ es) (d ∷ ds) =
+    by
+    (λ x. ap (λ (n : ℕ). n ∷ ds) (x .0) ∙ ap (λ (l : List ℕ). e ∷ l) (x .1))
+    (λ x. (ap (λ (l : List ℕ). getD l 0 0) x, ap (λ (l : List ℕ). drop 1 l) x))
+    (and (equal d e) (same-as es ds))
 
 -- ---- bases
 

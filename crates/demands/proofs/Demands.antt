@@ -22,7 +22,7 @@ use Rattle.values.proofs.Texts.{text-settled}
 use Rattle.values.proofs.BitsAndBlobs.{bits-settled, blob-settled}
 use Rattle.demands.specs.Demands.{OneOf, ValueAnswers, Answered, Demand1, Demand2, Demand3, Demands}
 use Rattle.demands.proofs.Derived.{decides}
-use Rattle.demands.proofs.Exists.{some-reading}
+use Rattle.demands.proofs.Exists.{some-answer}
 use Rattle.demands.proofs.Pieces.{pieces}
 
 module _ (rules : Rules) (bytes lent : List ℕ) {number : ℕ} where
@@ -44,7 +44,7 @@ module _ (rules : Rules) (bytes lent : List ℕ) {number : ℕ} where
       }
 
 pub every-answer : Demand1
-every-answer rules bytes lent number = let x = some-reading rules bytes lent number in (x .0, x .1, answered rules bytes lent (x .2))
+every-answer rules bytes lent number = let x = some-answer rules bytes lent number in (x .0, x .1, answered rules bytes lent (x .2))
 
 bytes-answered : (call : Call) → Settled call → (rules : Rules) (piece lent : List ℕ) → OneOf call rules piece lent
 bytes-answered call settled rules piece lent =

@@ -83,42 +83,43 @@ module _ (limits : Limits) (bytes : List ℕ) (l : Level) where
 
 -- ---- the answer
 
-module _ (rules : Rules) (bytes lent : List ℕ) where
-  -- some answer
-  abbrev pub Answered : ℕ → Type 0
-  Answered number = (r : Answer) × (t : List ℕ) × Answers rules bytes lent number r t
+module _ (rules : Rules) (bytes : List ℕ) where
+  module _ (room number : ℕ) where
+    -- some answer where there is room for so many nodes
+    abbrev Answered : Type 0
+    Answered = (r : Answer) × (t : Option Value) × Reading rules bytes room number r t
 
-  pub some-reading : (number : ℕ) → Answered number
-  some-reading number = level (level-or-not number)
-    where
-      given : {r : Answer} {t : Option Value} → Reading rules bytes (room rules (length lent)) number r t → Answered number
-      given x = (_, _, record { tree = _; reading = x; left-is = refl })
+    pub some-reading : Answered
+    some-reading = level (level-or-not number)
+      where
+        roomy : {l : Level} → LevelOf number l → length bytes ≤ rules .text → WellFormed bytes → (v : Value) → Accepted (rules .limits) bytes l v → Order room (length (table v)) → Answered
+        roomy o h w v a (equal e) = (_, _, accepted o h w a (omega (arith, e)))
+        roomy o h w v a (less g) = (_, _, noRoom o h w a g)
+        roomy o h w v a (more g) = (_, _, accepted o h w a (omega (arith, g)))
 
-      roomy : {l : Level} → LevelOf number l → length bytes ≤ rules .text → WellFormed bytes → (v : Value) → Accepted (rules .limits) bytes l v → Order (room rules (length lent)) (length (table v)) → Answered number
-      roomy o h w v a (equal e) = given (accepted o h w a (omega (arith, e)))
-      roomy o h w v a (less g) = given (noRoom o h w a g)
-      roomy o h w v a (more g) = given (accepted o h w a (omega (arith, g)))
+        judged : {l : Level} → LevelOf number l → length bytes ≤ rules .text → WellFormed bytes → Outcome (rules .limits) bytes l → Answered
+        judged o h w (stopped n q f) = (_, _, faulty o h w f)
+        judged {l} o h w (finished {ts} s a) =
+            roomy o h w (s .tree) (record { of-level = s .of-level; passed = subst (AllPassed (rules .limits) l bytes) (sym (s .yields)) a }) (order room (length (table (s .tree))))
 
-      judged : {l : Level} → LevelOf number l → length bytes ≤ rules .text → WellFormed bytes → Outcome (rules .limits) bytes l → Answered number
-      judged o h w (stopped n q f) = given (faulty o h w f)
-      judged {l} o h w (finished {ts} s a) =
-          roomy o h w (s .tree) (record { of-level = s .of-level; passed = subst (AllPassed (rules .limits) l bytes) (sym (s .yields)) a }) (order (room rules (length lent)) (length (table (s .tree))))
+        formed : {l : Level} → LevelOf number l → length bytes ≤ rules .text → (r : Encoding) → Encoded bytes r → Answered
+        formed {l} o h Encoding.WellFormed w = judged o h w (outcome (rules .limits) bytes l (front bytes .0) (front bytes .1))
+        formed o h (Encoding.BadAt p) b = (_, _, notUtf8 o h b)
 
-      formed : {l : Level} → LevelOf number l → length bytes ≤ rules .text → (r : Encoding) → Encoded bytes r → Answered number
-      formed {l} o h Encoding.WellFormed w = judged o h w (outcome (rules .limits) bytes l (front bytes .0) (front bytes .1))
-      formed o h (Encoding.BadAt p) b = given (notUtf8 o h b)
+        long : {l : Level} → LevelOf number l → Order (rules .text) (length bytes) → Answered
+        long o (equal e) = formed o (omega (arith, e)) (encoded bytes .0) (encoded bytes .1)
+        long o (less h) = (_, _, tooLong o h)
+        long o (more h) = formed o (omega (arith, h)) (encoded bytes .0) (encoded bytes .1)
 
-      long : {l : Level} → LevelOf number l → Order (rules .text) (length bytes) → Answered number
-      long o (equal e) = formed o (omega (arith, e)) (encoded bytes .0) (encoded bytes .1)
-      long o (less h) = given (tooLong o h)
-      long o (more h) = formed o (omega (arith, h)) (encoded bytes .0) (encoded bytes .1)
+        level : ((l : Level) × LevelOf number l) ⊎ ((l : Level) → LevelOf number l → ⊥) → Answered
+        level (inl x) = long (x .1) (order (rules .text) (length bytes))
+        level (inr f) = (_, _, noLevel f)
 
-      level : ((l : Level) × LevelOf number l) ⊎ ((l : Level) → LevelOf number l → ⊥) → Answered number
-      level (inl x) = long (x .1) (order (rules .text) (length bytes))
-      level (inr f) = given (noLevel f)
+  module _ (lent : List ℕ) (number : ℕ) where
+    -- with the table as well
+    pub some-answer : (r : Answer) × (t : List ℕ) × Answers rules bytes lent number r t
+    some-answer = let x = some-reading (room rules (length lent)) number in (x .0, _, record { tree = x .1; reading = x .2; left-is = refl })
 
-  -- and it is the one
-  pub exactly-one : (number : ℕ) → (r : Answer) × (t : List ℕ) × Answers rules bytes lent number r t × ((s : Answer) (u : List ℕ) → Answers rules bytes lent number s u → (r ≡ s) × (t ≡ u))
-  exactly-one number =
-      let x = some-reading number in
-      (x .0, x .1, x .2, λ s u a. one-answer rules bytes lent (x .2) a)
+    -- and it is the one
+    pub exactly-one : (r : Answer) × (t : List ℕ) × Answers rules bytes lent number r t × ((s : Answer) (u : List ℕ) → Answers rules bytes lent number s u → (r ≡ s) × (t ≡ u))
+    exactly-one = let x = some-answer in (x .0, x .1, x .2, λ s u a. one-answer rules bytes lent (x .2) a)

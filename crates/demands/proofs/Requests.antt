@@ -22,7 +22,7 @@ use Rattle.values.specs.Utf8 as Utf8
 use Rattle.values.specs.Utf8.{Utf8Answers, wellFormed}
 use Rattle.values.proofs.Utf8.{exactly-one}
 use Rattle.demands.specs.Requests.{OneTest, PlainSteps, SameRefusal, SameRefusals, Padding, OneFive, FiveInside}
-use Rattle.demands.proofs.Derived.{fault-number}
+use Rattle.reading.proofs.Numbers.{fault-number}
 use Rattle.demands.proofs.Blobs.{from-reader, from-call, inside}
 
 -- ---- 2. The steps of the UTF-8 test

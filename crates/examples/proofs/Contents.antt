@@ -1,58 +1,40 @@
 -- The answers of the Blob and Bits calls for the pieces of the table, each by tests that compute. Assumes nothing.
-use mathlib.Core.Path.{_≡_, refl, ap, subst, _∙_}
+use mathlib.Core.Path.{_≡_, refl, ap, subst}
 use mathlib.Core.Bool.{Bool, true, false, _&&_}
 use mathlib.Core.List.{List, [], _∷_}
-use Prim.Native.Nat.{ℕ, suc, _≤_, _<_}
+use Prim.Native.Nat.{ℕ, suc, _<_}
 use Prim.Native.String.{String}
 use native.Mathlib.Omega.{arith}
-use borrow.Author.Tests.{leb-true, ltb-true}
-use lib.Dec.{leb, eqb, ltb}
-use lib.ListN.{length, getD, drop}
+use borrow.Author.Tests.{ltb-true}
+use lib.Dec.{ltb}
+use lib.ListN.{length, getD}
 use Rattle.rules.specs.Class.{Class, has, byteOf, codes}
-use Rattle.rules.specs.Test.{Says}
 use Rattle.rules.specs.Every.{Every, none, also}
 use Rattle.rules.specs.Rule.{Rule, _then_, opt, lit}
 use Rattle.rules.proofs.Bools.{and-left, and-right}
-use Rattle.rules.proofs.Tests.{says-no, says-yes, refuted}
+use Rattle.rules.proofs.Tests.{refuted}
 use Rattle.lexicon.specs.Bytes.{binary, octal, hexadecimal, base64}
 use Rattle.lexicon.specs.Space.{sp}
 use Rattle.lexicon.specs.Base64.{character, Encodes}
 use Rattle.lexicon.specs.Values.{Digits, Behind, markAlone, markDigits, BitsOf, BlobOf}
 use Rattle.lexicon.specs.Padding.{BadBase64, notAtEnd, moreThanTwo, bitsLeft}
 use Rattle.lexicon.proofs.Unfit.{bad-no-bytes}
-use Rattle.decisions.proofs.Tests.{by, and, equal}
+use Rattle.decisions.proofs.Tests.{sameAs, same-as}
 use Rattle.decisions.proofs.Cuts.{reaches, takes, leads, cut}
 use Rattle.decisions.proofs.Digits.{rows, row}
-use Rattle.decisions.proofs.Utf8.{formed, formed-is}
-use Rattle.reading.specs.Sizes.{base}
 use Rattle.values.specs.Exactly.{Exactly}
 use Rattle.values.specs.Bytes.{Call, BadPiece, PieceBytes, notTheLiteral, accepted}
 use Rattle.values.specs.Bytes as Bytes
 use Rattle.values.specs.Blob.{blobCall}
 use Rattle.values.specs.Bits.{bitsCall}
 use Rattle.examples.specs.Contents.{Hands, Refuses, Contents}
+use Rattle.examples.proofs.Readable.{readable, is-short, is-formed}
 
 -- ---- what a piece is
 
 -- short enough and UTF-8, and the rule takes all of it
 abbrev whole : Rule → List ℕ → Bool
-whole r bytes = (leb (length bytes) (base .text) && formed bytes) && reaches bytes r 0 (length bytes)
-
-abbrev sameAs : List ℕ → List ℕ → Bool
-sameAs [] [] = true
-sameAs [] (d ∷ ds) = false
-sameAs (e ∷ es) [] = false
-sameAs (e ∷ es) (d ∷ ds) = eqb d e && sameAs es ds
-
-same-as : (es ds : List ℕ) → Says (sameAs es ds) (ds ≡ es)
-same-as [] [] = says-yes refl
-same-as [] (d ∷ ds) = says-no (λ e. omega (arith, ap length e))
-same-as (e ∷ es) [] = says-no (λ x. omega (arith, ap length x))
-same-as (e ∷ es) (d ∷ ds) =
-    by
-    (λ x. ap (λ (n : ℕ). n ∷ ds) (x .0) ∙ ap (λ (l : List ℕ). e ∷ l) (x .1))
-    (λ x. (ap (λ (l : List ℕ). getD l 0 0) x, ap (λ (l : List ℕ). drop 1 l) x))
-    (and (equal d e) (same-as es ds))
+whole r bytes = readable bytes && reaches bytes r 0 (length bytes)
 
 -- the mark, and digits in units of n + 1 that are these
 abbrev digitsAre : List ℕ → String → ℕ → Class → List ℕ → Bool
@@ -74,28 +56,24 @@ module _ (call : Call) (text : String) where
   bytes = codes text
 
   module _ (w : whole (call .literal) bytes ≡ true) where
-    front : (leb (length bytes) (base .text) && formed bytes) ≡ true
-    front = and-left (leb (length bytes) (base .text) && formed bytes) (reaches bytes (call .literal) 0 (length bytes)) w
-
-    short : length bytes ≤ base .text
-    short = leb-true (length bytes) (base .text) (and-left (leb (length bytes) (base .text)) (formed bytes) front)
+    front : readable bytes ≡ true
+    front = and-left (readable bytes) (reaches bytes (call .literal) 0 (length bytes)) w
 
     exact : Exactly (call .literal) bytes
     exact =
         takes bytes (call .literal) 0 (length bytes) .true-holds
-        (and-right (leb (length bytes) (base .text) && formed bytes) (reaches bytes (call .literal) 0 (length bytes)) w)
+        (and-right (readable bytes) (reaches bytes (call .literal) 0 (length bytes)) w)
 
     hands : (bs : List ℕ) → (BadPiece call bytes → ⊥) → PieceBytes call bytes bs → Hands call text bs
-    hands bs good b lent room = accepted short (formed-is bytes (and-right (leb (length bytes) (base .text)) (formed bytes) front)) exact good b room
+    hands bs good b lent room = accepted (is-short bytes front) (is-formed bytes front) exact good b room
 
     five : BadPiece call bytes → Refuses call text 5
-    five b lent = Bytes.bad short (formed-is bytes (and-right (leb (length bytes) (base .text)) (formed bytes) front)) exact b
+    five b lent = Bytes.bad (is-short bytes front) (is-formed bytes front) exact b
 
   -- no literal of the call
-  nine : (leb (length bytes) (base .text) && formed bytes) ≡ true → reaches bytes (call .literal) 0 (length bytes) ≡ false → Refuses call text 9
+  nine : readable bytes ≡ true → reaches bytes (call .literal) 0 (length bytes) ≡ false → Refuses call text 9
   nine e f lent =
-      notTheLiteral (leb-true (length bytes) (base .text) (and-left (leb (length bytes) (base .text)) (formed bytes) e))
-      (formed-is bytes (and-right (leb (length bytes) (base .text)) (formed bytes) e)) (refuted (takes bytes (call .literal) 0 (length bytes)) f)
+      notTheLiteral (is-short bytes e) (is-formed bytes e) (refuted (takes bytes (call .literal) 0 (length bytes)) f)
 
 blob-hands : (text : String) (bs : List ℕ) → whole (blobCall .literal) (codes text) ≡ true → BlobOf (codes text) 0 (length (codes text)) bs → Hands blobCall text bs
 blob-hands text bs w b = hands blobCall text w bs (λ n. n bs b) b

@@ -1,4 +1,5 @@
 -- The executable reading and the tables' proofs.
+pub mod Readable
 pub mod Integers
 pub mod Reading
 pub mod Starred

@@ -4,8 +4,8 @@ use mathlib.Core.Bool.{Bool, true, false, _&&_, false≢true}
 use mathlib.Core.List.{List, [], _∷_, _++_}
 use mathlib.Core.Option.{Option, none, some}
 use Prim.Native.Nat.{ℕ, zero, suc, _*_, _≤_}
-use borrow.Author.Tests.{leb-true, eqb-true}
-use lib.Dec.{leb, eqb}
+use borrow.Author.Tests.{eqb-true}
+use lib.Dec.{eqb}
 use lib.IntN.{ℤ, pos, negsuc, natAbs}
 use lib.ListN.{length, drop}
 use Rattle.rules.specs.Class.{has, codes}
@@ -14,30 +14,16 @@ use Rattle.lexicon.specs.Utf8.{WellFormed}
 use Rattle.lexicon.specs.Values.{IntegerOf}
 use Rattle.grammar.specs.Level.{Level, level1, level2}
 use Rattle.grammar.specs.Nodes.{table, tableWords, nodeWords}
-use Rattle.decisions.proofs.Utf8.{formed, formed-is}
+use Rattle.decisions.proofs.Tests.{sameAs, same-as}
 use Rattle.reading.specs.Sizes.{baseLimits, base, room}
 use Rattle.reading.specs.Answers as Answers
 use Rattle.reading.specs.Answers.{LevelOf, answer, Answers, faulty}
 use Rattle.examples.specs.Starred.{Row, wordsOf, Outcome, Example, Ends, Means, Holds, AllHold, starred}
+use Rattle.examples.proofs.Readable.{readable, is-short, is-formed}
 use Rattle.examples.proofs.Integers.{signedAt, sizeIs, integer-is}
 use Rattle.examples.proofs.Reading.{Sound, Verdict, refused, holds, Right, verdict, verdict-is}
 
--- ---- equal numbers
-
-abbrev sameWords : List ℕ → List ℕ → Bool
-sameWords [] [] = true
-sameWords [] (y ∷ b) = false
-sameWords (x ∷ a) [] = false
-sameWords (x ∷ a) (y ∷ b) = eqb x y && sameWords a b
-
-same-words : (a b : List ℕ) → sameWords a b ≡ true → a ≡ b
-same-words [] [] e = refl
-same-words [] (y ∷ b) e = absurd (false≢true e)
-same-words (x ∷ a) [] e = absurd (false≢true e)
-same-words (x ∷ a) (y ∷ b) e =
-    let p = eqb-true x y (and-left (eqb x y) (sameWords a b) e) in
-    let q = same-words a b (and-right (eqb x y) (sameWords a b) e) in
-    λ i. p i ∷ q i
+-- ---- equal integers
 
 abbrev sameInteger : ℤ → ℤ → Bool
 sameInteger (pos a) (pos b) = eqb a b
@@ -73,11 +59,11 @@ none-of (n ∷ ns) = false
 abbrev fits : ℕ → Option Verdict → ℕ → ℕ → List Row → Bool
 fits len none n p ns = false
 fits len (some (refused m q)) n p ns = (eqb m n && eqb q p) && none-of ns
-fits len (some (holds v)) n p ns = (eqb 0 n && eqb len p) && (eqb (length (table v)) (length ns) && sameWords (tableWords (table v)) (wordsOf ns))
+fits len (some (holds v)) n p ns = (eqb 0 n && eqb len p) && (eqb (length (table v)) (length ns) && sameAs (wordsOf ns) (tableWords (table v)))
 
 abbrev fitsAt : List ℕ → Option Level → Outcome → Bool
 fitsAt bytes none o = false
-fitsAt bytes (some l) o = (leb (length bytes) (base .text) && formed bytes) && fits (length bytes) (verdict bytes baseLimits l) (o .number) (o .place) (o .nodes)
+fitsAt bytes (some l) o = readable bytes && fits (length bytes) (verdict bytes baseLimits l) (o .number) (o .place) (o .nodes)
 
 abbrev means : List ℕ → Option ℤ → List Row → Bool
 means bytes none ns = true
@@ -105,13 +91,13 @@ module _ (bytes : List ℕ) (number : ℕ) where
     fits-ends (some (refused m q)) n p (r ∷ ns) s e = absurd (false≢true (and-right (eqb m n && eqb q p) false e))
     fits-ends (some (holds v)) n p ns s e =
         let size = eqb (length (table v)) (length ns) in
-        let same = sameWords (tableWords (table v)) (wordsOf ns) in
+        let same = sameAs (wordsOf ns) (tableWords (table v)) in
         let front = and-left (eqb 0 n && eqb (length bytes) p) (size && same) e in
         let back = and-right (eqb 0 n && eqb (length bytes) p) (size && same) e in
         let is-zero = eqb-true 0 n (and-left (eqb 0 n) (eqb (length bytes) p) front) in
         let is-end = eqb-true (length bytes) p (and-right (eqb 0 n) (eqb (length bytes) p) front) in
         let as-many = eqb-true (length (table v)) (length ns) (and-left size same back) in
-        let alike = same-words (tableWords (table v)) (wordsOf ns) (and-right size same back) in
+        let alike = same-as (wordsOf ns) (tableWords (table v)) .true-holds (and-right size same back) in
         λ lent h.
         subst (λ (x : ℕ). Answers base bytes lent number (answer x p (length ns)) (wordsOf ns ++ drop (nodeWords * length ns) lent)) is-zero
         (subst (λ (x : ℕ). Answers base bytes lent number (answer 0 x (length ns)) (wordsOf ns ++ drop (nodeWords * length ns) lent)) is-end
@@ -123,10 +109,9 @@ module _ (bytes : List ℕ) (number : ℕ) where
   ends-at none o s e = absurd (false≢true e)
   ends-at (some l) o s e =
       let test = fits (length bytes) (verdict bytes baseLimits l) (o .number) (o .place) (o .nodes) in
-      let front = and-left (leb (length bytes) (base .text) && formed bytes) test e in
-      fits-ends l s (leb-true (length bytes) (base .text) (and-left (leb (length bytes) (base .text)) (formed bytes) front))
-      (formed-is bytes (and-right (leb (length bytes) (base .text)) (formed bytes) front)) (verdict bytes baseLimits l) (o .number) (o .place) (o .nodes)
-      (verdict-is bytes baseLimits l) (and-right (leb (length bytes) (base .text) && formed bytes) test e)
+      let front = and-left (readable bytes) test e in
+      fits-ends l s (is-short bytes front) (is-formed bytes front) (verdict bytes baseLimits l) (o .number) (o .place) (o .nodes)
+      (verdict-is bytes baseLimits l) (and-right (readable bytes) test e)
 
 means-so : (bytes : List ℕ) (m : Option ℤ) (ns : List Row) → means bytes m ns ≡ true → Means bytes m ns
 means-so bytes none ns e = tt

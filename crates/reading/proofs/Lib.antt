@@ -3,6 +3,7 @@ pub mod Tests
 pub mod Rows
 pub mod First
 pub mod Unique
+pub mod Numbers
 pub mod Decide
 pub mod Stands
 pub mod At
