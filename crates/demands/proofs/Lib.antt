@@ -4,4 +4,5 @@ pub mod Exists
 pub mod Pieces
 pub mod Demands
 pub mod Blobs
+pub mod Higher
 pub mod Requests

@@ -1,10 +1,11 @@
 -- What the customer's requests promise, proved in their order. Assumes nothing.
-use mathlib.Core.Path.{_≡_, refl}
+use mathlib.Core.Path.{_≡_, refl, ap}
 use mathlib.Core.Logic.{_⊎_, inl, inr}
 use mathlib.Core.List.{List}
 use mathlib.Core.Option.{Option}
 use Prim.Native.Nat.{ℕ}
 use native.Mathlib.Omega.{arith}
+use lib.ListN.{drop}
 use Rattle.lexicon.specs.Utf8.{BadAt}
 use Rattle.lexicon.proofs.Determined.{formed-or-bad, one-bad}
 use Rattle.lexicon.proofs.Steps as Steps
@@ -13,6 +14,7 @@ use Rattle.grammar.specs.Tree.{Value}
 use Rattle.reading.specs.declared.Answer.{Answer}
 use Rattle.reading.specs.declared.Rules.{Rules}
 use Rattle.reading.specs.Answers.{Reading, noLevel, tooLong, notUtf8, faulty, noRoom, accepted}
+use Rattle.reading.proofs.Numbers.{fault-number}
 use Rattle.values.specs.declared.IntegerAnswer.{IntegerAnswer}
 use Rattle.values.specs.Integer as Integer
 use Rattle.values.specs.Integer.{IntegerAnswers}
@@ -21,8 +23,16 @@ use Rattle.values.specs.Bytes.{Call, BytesAnswers}
 use Rattle.values.specs.Utf8 as Utf8
 use Rattle.values.specs.Utf8.{Utf8Answers, wellFormed}
 use Rattle.values.proofs.Utf8.{exactly-one}
-use Rattle.demands.specs.Requests.{OneTest, PlainSteps, SameRefusal, SameRefusals, Padding, OneFive, FiveInside}
-use Rattle.reading.proofs.Numbers.{fault-number}
+use Rattle.files.proofs.Determined.{one-writing, one-checking, one-stored, whatever-text}
+use Rattle.files.proofs.Exists.{some-writing, some-checking}
+use Rattle.files.proofs.Exactly as Exactly
+use Rattle.files.proofs.Room.{reader-eight}
+use Rattle.files.proofs.SixteenBits.{row-fits}
+use Rattle.files.proofs.ReadBack.{one-row}
+use Rattle.files.proofs.AsRead.{stored-as-read}
+use Rattle.demands.specs.Requests.{OneTest, PlainSteps, SameRefusal, SameRefusals, Padding, OneFive, FiveInside, OneWrite, OneCheck, TextUnseen, AcceptsExactly, WrittenAccepted, RoomEnough, OneFile, SixteenBits, SameNumbers, AsRead}
+use Rattle.demands.proofs.Exists.{some-reading}
+use Rattle.demands.proofs.Higher.{at-level-2}
 use Rattle.demands.proofs.Blobs.{from-reader, from-call, inside}
 
 -- ---- 2. The steps of the UTF-8 test
@@ -113,3 +123,42 @@ one-five rules text table buffer level l r c left kept x y a b = ((λ e. from-re
 
 pub five-inside : FiveInside
 five-inside rules text table buffer level j r c left kept a e is b = inside rules text table level a e is b
+
+-- ---- 4. Stored files
+
+pub one-write : OneWrite
+one-write rules text lent =
+    let x = some-writing rules text (some-reading rules text (rules .nodes) 2 .2) lent in (x .0, x .1, x .2, λ s u w. one-writing rules text (x .2) w)
+
+pub one-check : OneCheck
+one-check rules text bytes =
+    let x = some-checking rules text (some-reading rules text (rules .nodes) 2 .2) bytes in (x .0, x .1, λ s c. one-checking rules text (x .1) c)
+
+pub text-unseen : TextUnseen
+text-unseen rules text other bytes r c e = whatever-text rules text other c e
+
+pub accepts-exactly : AcceptsExactly
+accepts-exactly rules text bytes r c = (
+  λ e. Exactly.stored-produced rules text (Exactly.accepted-stored rules text c e),
+  λ p. Exactly.produced-accepted rules text (p bytes (omega arith)) c,
+)
+
+pub written-accepted : WrittenAccepted
+written-accepted rules text lent r left w e = Exactly.written-accepted rules text w e
+
+pub room-enough : RoomEnough
+room-enough rules text lent r left h w e = reader-eight rules text h w e
+
+pub one-file : OneFile
+one-file rules text a b r s c d e f = one-stored rules text (Exactly.accepted-stored rules text c e) (Exactly.accepted-stored rules text d f)
+
+pub sixteen-bits : SixteenBits
+sixteen-bits rules text a v s n x = row-fits rules text s n x
+
+pub same-numbers : SameNumbers
+same-numbers rules text other a b v w s n x y e = one-row (row-fits rules text s n x) (row-fits rules other s n y) (ap (λ (l : List ℕ). drop 3 l) e)
+
+pub as-read : AsRead
+as-read rules text bytes lent left level r s c z a e =
+    let k = stored-as-read rules text (Exactly.accepted-stored rules text c z) (at-level-2 rules text lent a e) e in
+    record { so-long = k .0; nodes-at-5 = k .1; length-at-7 = k .2; words-from-9 = k .3 }

@@ -2,9 +2,10 @@
 -- Each promise is a statement here, and proofs/Requests.antt proves it under the name beside it. Assumes nothing.
 use mathlib.Core.Path.{_≡_}
 use mathlib.Core.Logic.{_⊎_}
-use mathlib.Core.List.{List}
-use Prim.Native.Nat.{ℕ, _+_, _/_, _%_, _<_}
-use lib.ListN.{length}
+use mathlib.Core.List.{List, _++_}
+use mathlib.Core.Option.{none, some}
+use Prim.Native.Nat.{ℕ, _+_, _*_, _/_, _%_, _^_, _≤_, _<_}
+use lib.ListN.{length, getD, take, drop}
 use Rattle.rules.specs.Every.{Every}
 use Rattle.rules.specs.Plain.{between}
 use Rattle.lexicon.specs.declared.Kind.the-variants.{Blob}
@@ -13,7 +14,9 @@ use Rattle.lexicon.specs.Literals.{blob}
 use Rattle.lexicon.specs.Values.{Behind}
 use Rattle.lexicon.specs.Padding.{BadBase64}
 use Rattle.lexicon.specs.Token.{Is, Bad}
+use Rattle.grammar.specs.Tree.{Value}
 use Rattle.grammar.specs.Level.{Level}
+use Rattle.grammar.specs.Nodes.{nodeWords}
 use Rattle.reading.specs.declared.Answer.{Answer}
 use Rattle.reading.specs.declared.Rules.{Rules}
 use Rattle.reading.specs.Answers.{LevelOf, answer, Answers}
@@ -23,6 +26,9 @@ use Rattle.values.specs.Exactly.{Exactly}
 use Rattle.values.specs.Bytes.{Call, BytesAnswers}
 use Rattle.values.specs.Blob.{BlobAnswers}
 use Rattle.values.specs.Utf8.{Utf8Answers}
+use Rattle.files.specs.File.{number, row, file}
+use Rattle.files.specs.Writes.{Read, Writes}
+use Rattle.files.specs.Checks.{Checks}
 
 -- ---- 2. 'The UTF-8 test takes eight plain ASCII bytes in one step wherever eight come next, else one sequence, and
 -- also hands back the steps taken up to its place: for n bytes, all plain ASCII, n / 8 rounded down plus the remainder.
@@ -85,3 +91,87 @@ FiveInside =
     (rules : Rules) (text table buffer : List ℕ) (level j : ℕ) (r c : Answer) (left kept : List ℕ) →
     Answers rules text table level r left → r .number ≡ 5 → Is text Blob (r .place) j →
     BlobAnswers rules (between text (r .place) j) buffer c kept → c ≡ answer 5 0 0
+
+-- ---- 4. 'The insurer wants what the box read stored beside the text. … every number 16 bits, high byte first. We want
+-- both the writer and the checker. … It accepts exactly what the writer would produce.'
+
+-- the writer has an answer for every text and buffer, and no other: `one-write`
+abbrev pub OneWrite : Type 0
+OneWrite =
+    (rules : Rules) (text lent : List ℕ) →
+    (r : Answer) × (left : List ℕ) × Writes rules text lent r left ×
+    ((s : Answer) (u : List ℕ) → Writes rules text lent s u → (r ≡ s) × (left ≡ u))
+
+-- and so has the checker for every text and file: `one-check`
+abbrev pub OneCheck : Type 0
+OneCheck =
+    (rules : Rules) (text bytes : List ℕ) →
+    (r : Answer) × Checks rules text bytes r × ((s : Answer) → Checks rules text bytes s → r ≡ s)
+
+-- 'in this order': under 12 and 13 the text is not looked at: `text-unseen`
+abbrev pub TextUnseen : Type 0
+TextUnseen =
+    (rules : Rules) (text other bytes : List ℕ) (r : Answer) → Checks rules text bytes r →
+    (r .number ≡ 12) ⊎ (r .number ≡ 13) → Checks rules other bytes r
+
+-- the writer produces these bytes: into every buffer with room for them it writes them, and behind them leaves what
+-- stood there
+abbrev pub Produces : Rules → (text bytes : List ℕ) → Type 0
+Produces rules text bytes =
+    (lent : List ℕ) → length bytes ≤ length lent →
+    Writes rules text lent (answer 0 (length text) (length bytes)) (bytes ++ drop (length bytes) lent)
+
+-- 'It accepts exactly what the writer would produce': `accepts-exactly`
+abbrev pub AcceptsExactly : Type 0
+AcceptsExactly =
+    (rules : Rules) (text bytes : List ℕ) (r : Answer) → Checks rules text bytes r →
+    (r .number ≡ 0 → Produces rules text bytes) × (Produces rules text bytes → r .number ≡ 0)
+
+-- so what a call of the writer has written is accepted, with the writer's own answer: `written-accepted`
+abbrev pub WrittenAccepted : Type 0
+WrittenAccepted =
+    (rules : Rules) (text lent : List ℕ) (r : Answer) (left : List ℕ) → Writes rules text lent r left →
+    r .number ≡ 0 → Checks rules text (take (r .count) left) r
+
+-- and into a buffer with room for the file of the largest table every file fits: an 8 is then the reader's own:
+-- `room-enough`
+abbrev pub RoomEnough : Type 0
+RoomEnough =
+    (rules : Rules) (text lent : List ℕ) (r : Answer) (left : List ℕ) → 9 + 12 * rules .nodes ≤ length lent →
+    Writes rules text lent r left → r .number ≡ 8 → Read rules text r none
+
+-- and of one text no two files are accepted: `one-file`
+abbrev pub OneFile : Type 0
+OneFile =
+    (rules : Rules) (text a b : List ℕ) (r s : Answer) → Checks rules text a r → Checks rules text b s →
+    r .number ≡ 0 → s .number ≡ 0 → a ≡ b
+
+-- 'every number 16 bits': where the sizes of text and table are below 2 ^ 16, as 01's 32,768 bytes and 1,024 nodes are,
+-- so is every number that is stored, and none is cut to fit its two bytes: `sixteen-bits`
+abbrev pub SixteenBits : Type 0
+SixteenBits =
+    (rules : Rules) (text : List ℕ) (a : Answer) (v : Value) → rules .text < 2 ^ 16 → rules .nodes < 2 ^ 16 →
+    Read rules text a (some v) → Every (λ (n : ℕ). n < 2 ^ 16) (row text v)
+
+-- what is stored can be read back: two texts with one file have equal lengths, equally many nodes and the same words of
+-- each: `same-numbers`
+abbrev pub SameNumbers : Type 0
+SameNumbers =
+    (rules : Rules) (text other : List ℕ) (a b : Answer) (v w : Value) → rules .text < 2 ^ 16 → rules .nodes < 2 ^ 16 →
+    Read rules text a (some v) → Read rules other b (some w) → file text v ≡ file other w → row text v ≡ row other w
+
+-- 'what the box read stored beside the text': the bytes by their places, where a reading of the text left so many nodes
+-- in the table t
+pub record Keeps (text t : List ℕ) (nodes : ℕ) (bytes : List ℕ) : Type 0 where
+  pub so-long : length bytes ≡ 9 + 12 * nodes
+  pub nodes-at-5 : take 2 (drop 5 bytes) ≡ number 2 nodes
+  pub length-at-7 : take 2 (drop 7 bytes) ≡ number 2 (length text)
+  -- word k of node i
+  pub words-from-9 : (i k : ℕ) → i < nodes → k < 6 →
+      take 2 (drop (9 + 12 * i + 2 * k) bytes) ≡ number 2 (getD t (nodeWords * i + k) 0)
+
+-- an accepted file keeps what a reading of the text leaves in its table, at whichever level it is accepted: `as-read`
+abbrev pub AsRead : Type 0
+AsRead =
+    (rules : Rules) (text bytes lent left : List ℕ) (level : ℕ) (r s : Answer) → Checks rules text bytes r →
+    r .number ≡ 0 → Answers rules text lent level s left → s .number ≡ 0 → Keeps text left (s .count) bytes

@@ -7,3 +7,4 @@ pub mod Values
 pub mod Padding
 pub mod Contents
 pub mod Steps
+pub mod Files

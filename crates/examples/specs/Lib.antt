@@ -1,7 +1,8 @@
 -- The texts that document 01 marks with a star, texts with bad values, base-64 Blobs, pieces of the Blob and Bits
--- calls, and texts with the steps of the UTF-8 test.
+-- calls, texts with the steps of the UTF-8 test, and stored files.
 pub mod Starred
 pub mod Values
 pub mod Padding
 pub mod Contents
 pub mod Steps
+pub mod Files
