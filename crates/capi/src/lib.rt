@@ -7,6 +7,8 @@ ghost use Rattle.values.specs.Integer.{IntegerAnswers};
 ghost use Rattle.values.specs.Text.{TextAnswers};
 ghost use Rattle.values.specs.Blob.{BlobAnswers};
 ghost use Rattle.values.specs.Bits.{BitsAnswers};
+ghost use Rattle.files.specs.Writes.{Writes};
+ghost use Rattle.files.specs.Checks.{Checks};
 
 // uint32_t muon_read(uint32_t level, const uint8_t *text, size_t text_len, uint32_t *table, size_t table_len, size_t *place, size_t *count);
 // The answer's number is returned, its place and count are written, and the nodes stand in the table.
@@ -115,4 +117,38 @@ pub extern "C" fn muon_bits(
     *place = read.place;
     *count = read.count;
     read.number
+}
+
+// uint32_t muon_file_write(const uint8_t *text, size_t text_len, uint8_t *buffer, size_t buffer_len, size_t *place, size_t *count);
+// The stored file of a text, read at level 2, from the buffer's start on.
+#[no_mangle]
+pub extern "C" fn muon_file_write(
+    text: &[u8],
+    buffer: &mut [u8],
+    place: &mut usize,
+    count: &mut usize,
+) -> u32
+    ensures { λ r. ⌜ Writes base (now (text .entry)) (now (buffer .entry)) (answer r (now (place .exit)) (now (count .exit))) (now (buffer .exit)) ⌝ }
+{
+    let written = stored::write(text, buffer);
+    *place = written.place;
+    *count = written.count;
+    written.number
+}
+
+// uint32_t muon_file_check(const uint8_t *text, size_t text_len, const uint8_t *file, size_t file_len, size_t *place, size_t *count);
+// Whether the file is exactly the stored file of the text.
+#[no_mangle]
+pub extern "C" fn muon_file_check(
+    text: &[u8],
+    file: &[u8],
+    place: &mut usize,
+    count: &mut usize,
+) -> u32
+    ensures { λ r. ⌜ Checks base (now (text .entry)) (now (file .entry)) (answer r (now (place .exit)) (now (count .exit))) ⌝ }
+{
+    let checked = stored::check(text, file);
+    *place = checked.place;
+    *count = checked.count;
+    checked.number
 }

@@ -1,10 +1,9 @@
 // Reads standard input at level 2 and writes the listing. A read or write that fails is said on standard error.
-use grammar::NODE_WORDS;
 use libc::STDIN_FILENO;
 use libc::STDOUT_FILENO;
 use listing::LONGEST;
 use listing::list;
-use reading::NODES;
+use reading::TABLE;
 use reading::TEXT;
 ghost use Rattle.muon.specs.Input.{Within};
 
@@ -12,9 +11,6 @@ const LEVEL: u32 = 2;
 
 // The longest text and one byte more: a full buffer is a text too long.
 const INPUT: usize = TEXT + 1;
-
-// Words of the longest table.
-const TABLE: usize = NODES * NODE_WORDS;
 
 // What standard input gave: that many bytes, or an error.
 enum Input {

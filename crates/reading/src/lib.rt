@@ -1,4 +1,5 @@
 // What a reading answers, and the rules that it judges by: number, place, count and the lent table, case by case. Definitions only; no code.
+use grammar::NODE_WORDS;
 
 // The answer of a reading: its number (0 accepted), its place, and its count.
 pub struct Answer {
@@ -25,6 +26,9 @@ pub const TEXT: usize = 32768;
 pub const NODES: usize = 1024;
 
 pub const DEPTH: usize = 32;
+
+// Words of the longest table that is made use of.
+pub const TABLE: usize = NODES * NODE_WORDS;
 
 pub const BASE: Rules = Rules {
     text: TEXT,
