@@ -20,6 +20,9 @@ pub const NO_ROOM: u32 = 8;
 pub const NOT_THE_LITERAL: u32 = 9;
 pub const OUT_OF_RANGE: u32 = 10;
 pub const TOO_DEEP: u32 = 11;
+pub const NOT_THE_MARK: u32 = 12;
+pub const OTHER_VERSION: u32 = 13;
+pub const NOT_THE_FILE: u32 = 14;
 
 /// Number 0 means accepted.
 #[derive(Clone, Copy, Debug, PartialEq, Eq)]

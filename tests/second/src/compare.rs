@@ -19,6 +19,18 @@ pub fn same<T: PartialEq + Debug>(what: &str, text: &[u8], ours: T, theirs: T) -
     )))
 }
 
+/// How many calls there were, and how many of them with each of these answers.
+pub fn listed(answers: &[usize], numbers: &[usize]) -> String {
+    let each = numbers
+        .iter()
+        .map(|number| format!("{number}: {}", answers[*number]));
+    format!(
+        "{} calls, answers {}",
+        answers.iter().sum::<usize>(),
+        each.collect::<Vec<String>>().join(", ")
+    )
+}
+
 /// Prints how much was compared, and the disagreement if there is one.
 pub fn finish(name: &str, compared: &str, outcome: Compared) -> ExitCode {
     match outcome {

@@ -16,6 +16,7 @@ pub mod archive;
 mod base64;
 pub mod compare;
 pub mod docs;
+pub mod file;
 pub mod front;
 pub mod generate;
 pub mod listing;

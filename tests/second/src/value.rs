@@ -56,8 +56,8 @@ pub fn text(piece: &[u8], buffer: &mut [u8]) -> Answer {
     written(piece, text_bytes(piece), buffer)
 }
 
-/// Writes what a piece stands for, if there is room.
-fn written(piece: &[u8], bytes: Result<Vec<u8>, Answer>, buffer: &mut [u8]) -> Answer {
+/// Writes what a text or piece gives, if there is room.
+pub(crate) fn written(piece: &[u8], bytes: Result<Vec<u8>, Answer>, buffer: &mut [u8]) -> Answer {
     let bytes = match bytes {
         Ok(bytes) => bytes,
         Err(refusal) => return refusal,

@@ -5,7 +5,7 @@
 //! Exits with 1 at the first disagreement.
 
 use second::answer::{Answer, BAD_VALUE, NO_ROOM};
-use second::compare::{finish, same, Compared, Difference};
+use second::compare::{finish, listed, same, Compared, Difference};
 use second::generate::{
     long_packed_pieces, long_pieces, packed_pieces, pieces, random_packed_pieces, row_texts,
     sample_pieces, short_pieces, two_groups, Random,
@@ -243,17 +243,6 @@ fn met(call: &str, answers: &[usize; 12], numbers: &[usize]) -> Compared {
         None => Ok(()),
         Some(number) => Err(Difference(format!("no {call} call answered {number}"))),
     }
-}
-
-fn listed(answers: &[usize; 12], numbers: &[usize]) -> String {
-    let each = numbers
-        .iter()
-        .map(|number| format!("{number}: {}", answers[*number]));
-    format!(
-        "{} calls, answers {}",
-        answers.iter().sum::<usize>(),
-        each.collect::<Vec<String>>().join(", ")
-    )
 }
 
 fn run(counts: &mut Counts) -> Compared {

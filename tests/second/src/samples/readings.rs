@@ -1,4 +1,4 @@
-//! The settled readings, sections A to D and R1 to R3, transcribed example by
+//! The settled readings, sections A to D and R1 to R4, transcribed example by
 //! example; where a request changes an answer of before, the new one.
 
 use super::{both, count, each, lacks, no, ok, Sample, Want};
@@ -836,6 +836,31 @@ pub const BITS: &[BytesCall] = &[
     (b"0bxA", 64, 0, 4, 4, b"\x01\0\x01\0"),
     (b"0bb1_0 1", 64, 0, 8, 3, b"\x01\0\x01"),
     (b"0xx", 64, 9, 0, 0, b""),
+];
+
+/// Text, buffer length, number, place, count and bytes of the stored file.
+pub const FILES: &[BytesCall] = &[
+    (
+        b"(x:y)",
+        64,
+        0,
+        5,
+        45,
+        b"FNT\0\x01\0\x03\0\x05\0\x09\0\0\0\x05\0\0\0\0\0\0\
+          \0\x07\0\x01\0\x02\0\0\0\x01\0\x02\0\x07\0\x03\0\x04\0\0\0\x02\0\x02",
+    ),
+    (b"(x", 64, 6, 2, 0, b""),
+];
+
+/// Text, file and the number with which it is refused; place and count are 0.
+pub const CHECKS: &[(&[u8], &[u8], u32)] = &[
+    (b"x", b"FNT\0", 12),
+    (b"x", b"FNX\0\x01\0", 12),
+    (b"x", b"FNT\0\x02", 13),
+    (b"x", b"FNT\0\x01", 14),
+    (b"(", b"FNT\0\x01", 14),
+    (b"\xFF", b"FNT\0\x02", 13),
+    (b"\xFF", b"FNT\0\x01\0\0\0\x01", 14),
 ];
 
 /// Standard input and output of the program.

@@ -1,0 +1,430 @@
+//! Compares this package's stored files with those of the verified archive:
+//! of the writer number, place, count and every byte of the lent buffer; of
+//! the checker number, place and count.  Checks of the archive that its writer
+//! stores what its own reader answers and writes to a table.
+//!
+//! The texts are every sample, broken off at every byte, generated and damaged
+//! ones, random bytes, and long ones.  The files are those of these texts, whole
+//! and changed, broken off and longer, under their own and under other texts,
+//! and bytes that are no file.
+//!
+//! Exits with 1 at the first disagreement.
+
+use second::answer::{Answer, NODES_MAX, TEXT_MAX};
+use second::compare::{finish, listed, same, Compared, Difference};
+use second::file::{self, FILE_MAX};
+use second::generate::{good_texts, long_texts, random_bytes, texts, Random};
+use second::samples;
+use std::collections::HashMap;
+use std::process::ExitCode;
+
+const SEED: u64 = 20_261_119;
+const GENERATED: usize = 12_000;
+const GOOD: usize = 6_000;
+const RANDOM_BYTES: usize = 200_000;
+/// Bytes behind the lent buffer, which no call may touch.
+const GUARD: usize = 8;
+/// Mark, version, node count and text length.
+const HEAD: usize = 9;
+/// A node's bytes.
+const NODE: usize = 12;
+/// The answers that the writer and the checker can give.
+const WRITTEN: [usize; 9] = [0, 2, 3, 4, 5, 6, 7, 8, 11];
+const CHECKED: [usize; 4] = [0, 12, 13, 14];
+/// Bytes that are no file of version 1, and the front of one.
+const FRONTS: [&[u8]; 16] = [
+    b"",
+    b"F",
+    b"FN",
+    b"FNT",
+    b"FNT\0",
+    b"FNT\x01",
+    b"FNT\0\0",
+    b"FNT\0\x01",
+    b"FNT\0\x02",
+    b"FNT\x01\0",
+    b"FNT\x01\x01",
+    b"fnt\0\x01",
+    b"FNX\0\x01",
+    b"TNF\0\x01",
+    b"\0FNT\0\x01",
+    b"FNT\0\x01\0\0\0\0",
+];
+
+type Write = fn(&[u8], &mut [u8]) -> Answer;
+
+/// The calls of the archive, by the package that wraps it.
+mod archive {
+    use second::answer::Answer;
+
+    fn plain(answer: muon::Answer) -> Answer {
+        Answer {
+            number: answer.number,
+            place: answer.place,
+            count: answer.count,
+        }
+    }
+
+    pub fn read(text: &[u8], table: &mut [u32]) -> Answer {
+        plain(muon::read(2, text, table))
+    }
+
+    pub fn write(text: &[u8], buffer: &mut [u8]) -> Answer {
+        plain(muon::file::write(text, buffer))
+    }
+
+    pub fn check(text: &[u8], file: &[u8]) -> Answer {
+        plain(muon::file::check(text, file))
+    }
+}
+
+/// The answer, and the buffer with its guard as they are then.  The bytes lent
+/// vary; with another `turn` each is another, so a byte that is not written
+/// shows with one of them, whatever it should be.
+fn written(call: Write, text: &[u8], length: usize, turn: u8) -> (Answer, Vec<u8>) {
+    let mut bytes: Vec<u8> = (0..length + GUARD)
+        .map(|at| (at as u8).wrapping_mul(37) ^ turn)
+        .collect();
+    let answer = call(text, &mut bytes[..length]);
+    (answer, bytes)
+}
+
+/// How thoroughly a file is changed.
+#[derive(Clone, Copy, PartialEq)]
+enum Care {
+    /// Every byte of the head to every other value, every other byte to some,
+    /// every length.
+    Every,
+    /// Bytes and lengths at random, so many of each.
+    Some(usize),
+}
+
+/// What was compared.
+struct Counts {
+    random: Random,
+    texts: usize,
+    written: [usize; 15],
+    checked: [usize; 15],
+    /// Texts whose file is what the archive's own reader wrote.
+    as_read: usize,
+    /// Files of accepted texts by the text's length: the last one each.
+    stored: HashMap<usize, Vec<u8>>,
+    /// The last file, whatever its text.
+    last: Vec<u8>,
+}
+
+impl Counts {
+    fn new() -> Counts {
+        Counts {
+            random: Random::new(SEED),
+            texts: 0,
+            written: [0; 15],
+            checked: [0; 15],
+            as_read: 0,
+            stored: HashMap::new(),
+            last: Vec::new(),
+        }
+    }
+
+    fn write(&mut self, text: &[u8], length: usize) -> Compared {
+        for turn in [0, 0xFF] {
+            let (ours, our_bytes) = written(file::write, text, length, turn);
+            let (theirs, their_bytes) = written(archive::write, text, length, turn);
+            self.written[ours.number as usize] += 1;
+            let what = || format!("file in {length} bytes");
+            if ours != theirs {
+                same(&what(), text, ours, theirs)?;
+            }
+            for (index, (ours, theirs)) in our_bytes.iter().zip(&their_bytes).enumerate() {
+                if ours != theirs {
+                    same(&format!("{}: byte {index}", what()), text, ours, theirs)?;
+                }
+            }
+        }
+        Ok(())
+    }
+
+    fn check(&mut self, text: &[u8], stored: &[u8]) -> Compared {
+        let ours = file::check(text, stored);
+        let theirs = archive::check(text, stored);
+        self.checked[ours.number as usize] += 1;
+        if ours == theirs {
+            return Ok(());
+        }
+        let what = format!("check of b\"{}\" as the file", stored.escape_ascii());
+        same(&what, text, ours, theirs)
+    }
+
+    /// None, every length around what the file needs, the head's, the longest,
+    /// and some.
+    fn lengths(&mut self, need: usize) -> Vec<usize> {
+        let mut lengths = vec![0, 1, HEAD, FILE_MAX, FILE_MAX + 1];
+        lengths.extend(need.saturating_sub(2)..=need + 2);
+        lengths.push(self.random.below(2 * need + 40));
+        lengths.sort_unstable();
+        lengths.dedup();
+        lengths
+    }
+
+    /// The text's file, if it has one, with buffers of several lengths; and
+    /// that it is what the archive reads.
+    fn writings(&mut self, text: &[u8]) -> Result<Option<Vec<u8>>, Difference> {
+        self.texts += 1;
+        let need = file::write(text, &mut []).count;
+        for length in self.lengths(need) {
+            self.write(text, length)?;
+        }
+        as_read(text)?;
+        self.as_read += 1;
+        let mut stored = vec![0; FILE_MAX];
+        let answer = file::write(text, &mut stored);
+        stored.truncate(answer.count);
+        Ok((answer.number == 0).then_some(stored))
+    }
+
+    /// A file written by either is accepted by both.
+    fn both_accept(&mut self, text: &[u8], ours: &[u8]) -> Compared {
+        let mut theirs = vec![0; FILE_MAX];
+        let count = archive::write(text, &mut theirs).count;
+        theirs.truncate(count);
+        same("file", text, ours, &theirs[..])?;
+        let want = Answer::accepted(text.len(), ours.len());
+        same(
+            "own check of its file",
+            text,
+            want,
+            archive::check(text, &theirs),
+        )?;
+        if file::check(text, ours) != want {
+            let shown = text.escape_ascii();
+            return Err(Difference(format!(
+                "this package does not accept its own file of b\"{shown}\""
+            )));
+        }
+        self.check(text, ours)
+    }
+
+    /// One byte changed.
+    fn changed(&mut self, text: &[u8], whole: &[u8], care: Care) -> Compared {
+        let mut other = whole.to_vec();
+        let mut with = |counts: &mut Counts, at: usize, byte: u8| {
+            let before = std::mem::replace(&mut other[at], byte);
+            let compared = counts.check(text, &other);
+            other[at] = before;
+            compared
+        };
+        match care {
+            Care::Every => {
+                for at in 0..HEAD {
+                    (0..=u8::MAX).try_for_each(|byte| with(self, at, byte))?;
+                }
+                for (at, byte) in whole.iter().enumerate().skip(HEAD) {
+                    for other in [byte ^ 1, byte ^ 0x80, self.random.byte()] {
+                        with(self, at, other)?;
+                    }
+                }
+            }
+            Care::Some(times) => {
+                for _ in 0..times {
+                    let (head, any) = (self.random.below(HEAD), self.random.below(whole.len()));
+                    let (byte, bit) = (self.random.byte(), 1 << self.random.below(8));
+                    with(self, head, byte)?;
+                    with(self, any, whole[any] ^ bit)?;
+                }
+                with(self, whole.len() - 1, whole[whole.len() - 1] ^ 1)?;
+            }
+        }
+        Ok(())
+    }
+
+    /// Cut off, and with bytes behind it.
+    fn cut(&mut self, text: &[u8], whole: &[u8], care: Care) -> Compared {
+        match care {
+            Care::Every => {
+                for length in 0..whole.len() {
+                    self.check(text, &whole[..length])?;
+                }
+            }
+            Care::Some(times) => {
+                for _ in 0..times {
+                    let length = self.random.below(whole.len());
+                    self.check(text, &whole[..length])?;
+                }
+                self.check(text, &whole[..whole.len() - 1])?;
+                self.check(text, &whole[..whole.len() - NODE])?;
+            }
+        }
+        let last_node = &whole[whole.len() - NODE..];
+        for more in [&[0][..], &[self.random.byte()], last_node, whole] {
+            self.check(text, &[whole, more].concat())?;
+        }
+        Ok(())
+    }
+
+    /// Files that are sound in themselves and tell another reading: a node
+    /// more or less, another text length, nodes exchanged, bytes exchanged.
+    fn told_otherwise(&mut self, text: &[u8], whole: &[u8]) -> Compared {
+        let nodes = (whole.len() - HEAD) / NODE;
+        let with_count = |count: usize, rest: &[u8]| {
+            let mut other = whole[..HEAD].to_vec();
+            other[5..7].copy_from_slice(&(count as u16).to_be_bytes());
+            other.extend(rest);
+            other
+        };
+        let all = &whole[HEAD..];
+        let last = &all[all.len() - NODE..];
+        self.check(text, &with_count(nodes + 1, &[all, last].concat()))?;
+        self.check(text, &with_count(nodes + 1, &[all, &[0; NODE]].concat()))?;
+        self.check(text, &with_count(nodes - 1, &all[..all.len() - NODE]))?;
+        self.check(text, &with_count(nodes - 1, &all[NODE..]))?;
+        self.check(text, &with_count(0, &[]))?;
+        for length in [text.len() + 1, text.len().wrapping_sub(1), 0] {
+            let mut other = whole.to_vec();
+            other[7..HEAD].copy_from_slice(&(length as u16).to_be_bytes());
+            self.check(text, &other)?;
+        }
+        // low byte first
+        let mut low_first = whole.to_vec();
+        low_first[3..].chunks_exact_mut(2).for_each(<[u8]>::reverse);
+        self.check(text, &low_first)?;
+        low_first[..HEAD].copy_from_slice(&whole[..HEAD]);
+        self.check(text, &low_first)?;
+        // two nodes in each other's place
+        let mut exchanged = whole.to_vec();
+        let (first, second) = (self.random.below(nodes), self.random.below(nodes));
+        for at in 0..NODE {
+            exchanged.swap(HEAD + first * NODE + at, HEAD + second * NODE + at);
+        }
+        self.check(text, &exchanged)
+    }
+
+    /// Bytes that are hardly a file of the text: too few, another version, and
+    /// random ones, plain and behind what may be right.
+    fn no_files(&mut self, text: &[u8]) -> Compared {
+        for front in FRONTS {
+            self.check(text, front)?;
+        }
+        let length = self.random.below(60);
+        let random: Vec<u8> = (0..length).map(|_| self.random.byte()).collect();
+        self.check(text, &random)?;
+        self.check(text, &[b"FNT\0\x01", &random[..]].concat())?;
+        let told = (text.len() as u16).to_be_bytes();
+        self.check(text, &[b"FNT\0\x01\0\0", &told[..]].concat())?;
+        self.check(text, &[b"FNT\0\x01\0\x01", &told[..], &random].concat())
+    }
+
+    /// The files of other texts: the last one, and the last of this length.
+    fn files_of_others(&mut self, text: &[u8]) -> Compared {
+        let last = self.last.clone();
+        self.check(text, &last)?;
+        match self.stored.get(&text.len()).cloned() {
+            Some(stored) => self.check(text, &stored),
+            None => Ok(()),
+        }
+    }
+
+    fn text(&mut self, text: &[u8], care: Care) -> Compared {
+        let stored = self.writings(text)?;
+        self.files_of_others(text)?;
+        self.no_files(text)?;
+        let Some(whole) = stored else {
+            return Ok(());
+        };
+        self.both_accept(text, &whole)?;
+        self.changed(text, &whole, care)?;
+        self.cut(text, &whole, care)?;
+        self.told_otherwise(text, &whole)?;
+        self.stored.insert(text.len(), whole.clone());
+        self.last = whole;
+        Ok(())
+    }
+
+    fn every_answer(&self) -> Compared {
+        let answers = [
+            ("writer", &self.written, &WRITTEN[..]),
+            ("checker", &self.checked, &CHECKED),
+        ];
+        for (name, answers, numbers) in answers {
+            if let Some(number) = numbers.iter().find(|number| answers[**number] == 0) {
+                return Err(Difference(format!("the {name} never answered {number}")));
+            }
+        }
+        Ok(())
+    }
+
+    fn summary(&self) -> String {
+        format!(
+            "{} texts, writer ({}), checker ({}), {} as read",
+            self.texts,
+            listed(&self.written, &WRITTEN),
+            listed(&self.checked, &CHECKED),
+            self.as_read
+        )
+    }
+}
+
+/// That the archive's file has the words that its reader writes to a table of
+/// 1,024 nodes, or that both refuse the text alike.
+fn as_read(text: &[u8]) -> Compared {
+    let mut table = [0; muon::TABLE_MAX];
+    let read = archive::read(text, &mut table);
+    let mut stored = vec![0; FILE_MAX];
+    let answer = archive::write(text, &mut stored);
+    if read.number != 0 {
+        return same("refusal of the archive's writer", text, read, answer);
+    }
+    let words = &table[..read.count * muon::NODE_WORDS];
+    let head = [1, read.count as u32, text.len() as u32];
+    let numbers = head.iter().chain(words);
+    let bytes = numbers.flat_map(|number| [(number >> 8) as u8, *number as u8]);
+    let want: Vec<u8> = b"FNT".iter().copied().chain(bytes).collect();
+    let answered = Answer::accepted(text.len(), want.len());
+    same("answer of the archive's writer", text, answered, answer)?;
+    stored.truncate(answer.count);
+    same("file of what the archive read", text, want, stored)
+}
+
+/// Around 1,024 nodes and around the longest text.
+fn sized_texts() -> Vec<Vec<u8>> {
+    let lots = [2 * NODES_MAX - 2, 2 * NODES_MAX, 2 * NODES_MAX + 2];
+    let mut all: Vec<Vec<u8>> = lots.map(samples::members).to_vec();
+    all.extend([TEXT_MAX, TEXT_MAX + 2].map(samples::members));
+    let many = format!("{{{}}}", format!("{},", "a".repeat(30)).repeat(1_000));
+    all.push(many.into_bytes());
+    for length in [255, 256, 257, TEXT_MAX - 1, TEXT_MAX, TEXT_MAX + 1] {
+        let mut first = vec![b' '; length];
+        let mut last = first.clone();
+        first[0] = b'5';
+        last[length - 1] = b'5';
+        all.extend([first, last]);
+    }
+    all
+}
+
+fn run(counts: &mut Counts) -> Compared {
+    for sample in samples::all() {
+        counts.text(sample.text, Care::Every)?;
+        for length in 0..sample.text.len() {
+            counts.writings(&sample.text[..length])?;
+        }
+    }
+    for text in texts(SEED, GENERATED) {
+        counts.text(&text, Care::Some(6))?;
+    }
+    for made in good_texts(SEED, GOOD) {
+        counts.text(&made.text, Care::Some(6))?;
+    }
+    for text in random_bytes(SEED, RANDOM_BYTES) {
+        counts.text(&text, Care::Some(2))?;
+    }
+    for text in sized_texts().iter().chain(&long_texts()) {
+        counts.text(text, Care::Some(30))?;
+    }
+    counts.every_answer()
+}
+
+fn main() -> ExitCode {
+    let mut counts = Counts::new();
+    let outcome = run(&mut counts);
+    finish("compare_files", &counts.summary(), outcome)
+}
