@@ -1,7 +1,9 @@
 /* A proved reader of MUON plain text (Muldis Object Notation 0.300.0) at the levels 1 and 2: muon_read gives the nodes
-   of a text, muon_integer, muon_text, muon_blob and muon_bits give the value of one literal, and muon_utf8 tests bytes for UTF-8 alone.
+   of a text, muon_integer, muon_text, muon_blob and muon_bits give the value of one literal, muon_file_write and muon_file_check keep
+   what was read in a file beside the text, and muon_utf8 tests bytes for UTF-8 alone.
 
-   The archive is target/staticlib/libcapi.a, written by `rt staticlib capi` (x86-64); it needs no other library. Linking:
+   The archive is target/staticlib/libcapi.a, written by `rt staticlib capi` (x86-64); it needs no other library, but for memset, which a C
+   compiler's own code needs as well. Linking:
 
        cc -Iinclude program.c target/staticlib/libcapi.a
 
@@ -30,22 +32,29 @@ extern "C" {
 #define MUON_NODES_MAX 1024
 /* The longest table that is made use of: 6,144 words. */
 #define MUON_TABLE_MAX (MUON_NODES_MAX * MUON_NODE_WORDS)
-/* The longest buffer that muon_bits makes use of, for no piece has more bits; the other calls need no more bytes than the piece has. */
+/* The longest buffer that muon_bits makes use of, for no piece has more bits; muon_text and muon_blob need no more bytes than a piece. */
 #define MUON_BITS_MAX (4 * MUON_TEXT_MAX)
+/* The bytes of the stored file of a text with so many nodes, and those of the longest one: 12,297 bytes. */
+#define MUON_FILE_BYTES(nodes) (9 + 12 * (nodes))
+#define MUON_FILE_MAX MUON_FILE_BYTES(MUON_NODES_MAX)
 
-/* The stack that a call needs at most, in bytes, whatever the input. Behind it: the frames of muon_read times the open brackets that
-   there may be come to 28,464 bytes in the archive as built today, those of muon_integer to 560, of muon_text to 880, of muon_blob and of
-   muon_bits to 800 each and of muon_utf8 to 376; the most that was measured, over the deepest texts and the longest ways through a literal,
-   is 28,092, 556, 880, 796, 796 and 232 (tests/stack prints them and fails if one exceeds the number here).
+/* The stack that a call needs at most, in bytes, whatever the input; muon_file_write and muon_file_check have a number of their own. Behind
+   it: the frames of muon_read times the open brackets that there may be come to 28,464 bytes in the archive as built today, those of
+   muon_integer to 560, of muon_text to 880, of muon_blob and of muon_bits to 800 each and of muon_utf8 to 376; the most that was measured,
+   over the deepest texts and the longest ways through a literal, is 28,092, 556, 880, 796, 796 and 232 (tests/stack prints them and fails
+   if one exceeds the number here).
    No call takes memory from anywhere else. */
 #define MUON_STACK_MAX 32768
+/* The stack that muon_file_write and muon_file_check need at most, since each reads the text into a table on its stack. For either call,
+   its frame with those of the reading comes to 53,040 bytes, and 52,652 were measured (tests/stack, too). */
+#define MUON_FILE_STACK_MAX (MUON_STACK_MAX + 4 * MUON_TABLE_MAX)
 
 /* ---- The answer ------------------------------------------------------------------------------------------------------------- */
 
 /* A call returns the answer's number, and writes its place and its count, muon_utf8 its steps in place of a count, in every case.
 
    Accepted is 0: the place is the length of the text or piece, and the count is the number of nodes written by muon_read, of bytes
-   written by muon_text, muon_blob and muon_bits, and 0 for muon_integer.
+   written by muon_text, muon_blob, muon_bits and muon_file_write, of the file's bytes for muon_file_check, and 0 for muon_integer.
    A refusal leaves the table or buffer as it was. Its count is 0, except under MUON_REFUSED_NO_ROOM. */
 #define MUON_ACCEPTED 0
 
@@ -76,16 +85,26 @@ extern "C" {
 #define MUON_REFUSED_OUT_OF_RANGE 10
 /* More than MUON_DEPTH_MAX brackets. The bracket that would be the 33rd open. */
 #define MUON_REFUSED_TOO_DEEP 11
+/* Not a stored file: it has fewer than five bytes, or does not begin with the mark. Place 0. */
+#define MUON_REFUSED_NOT_THE_MARK 12
+/* A stored file of another version than MUON_FILE_VERSION. Place 0. */
+#define MUON_REFUSED_OTHER_VERSION 13
+/* Not the stored file of the text. Place 0. */
+#define MUON_REFUSED_NOT_THE_FILE 14
 
 /* Which refusal is given.
 
    muon_read: 1, 2 and 3 are tested in this order over the whole text. Then the tokens are judged from left to right, and the first
    faulty one decides: at one token 4, 6, 7, 5, 11 in this order. 8 comes last, so a text that gets it is accepted with a table of
-   count * MUON_NODE_WORDS words, if the count is at most MUON_NODES_MAX. Never 9 or 10.
+   count * MUON_NODE_WORDS words, if the count is at most MUON_NODES_MAX. No other.
    muon_integer: 2, 3, 9, 10 in this order, and no other.
    muon_text, muon_blob: 2, 3, 9, 5, 8 in this order, and no other. A piece that gets 8 is accepted with a buffer of count bytes
    (proved; `told-room` in `crates/values/proofs/Fits.antt`).
    muon_bits: the same without 5.
+   muon_file_write: those of muon_read at level 2 with a table of MUON_TABLE_MAX words, with their places and counts; so never 1, and 8 with
+   the nodes if they are more than MUON_NODES_MAX. Then 8 with the file's bytes if the buffer is shorter.
+   muon_file_check: 12, 13, 14 in this order, and no other, all with place 0 and count 0. Under 12 and 13 the text is not looked at; a text
+   that the reader refuses is 14, whatever its number.
    muon_utf8: 3, and no other. */
 
 /* ---- The nodes -------------------------------------------------------------------------------------------------------------- */
@@ -154,13 +173,29 @@ extern "C" {
 #define MUON_DETAIL_UNLIMITED 10  /* [*]       */
 #define MUON_DETAIL_DOTS 11       /* [a..b]    */
 
+/* ---- The stored file ------------------------------------------------------------------------------------------------------- */
+
+/* The nodes of a text as bytes, to be kept beside it. Behind the mark, every number has two bytes, the high one first.
+
+       from byte     bytes
+       0             3        the mark, the letters FNT: hexadecimal 46 4E 54
+       3             2        the version, MUON_FILE_VERSION
+       5             2        the number of nodes, n
+       7             2        the length of the text
+       9 + 12 * i    12       the node with index i, counted from 0: its six words, two bytes each, in the order of the table
+
+   So word w of node i begins at byte MUON_FILE_BYTES(i) + 2 * w, with w = MUON_NODE_KIND, ..., MUON_NODE_DETAIL. Behind the last node
+   nothing follows: the file has MUON_FILE_BYTES(n) bytes. `(x:y)` has the file 46 4E 54 00 01 00 03 00 05
+   00 09 00 00 00 05 00 00 00 00 00 00 00 07 00 01 00 02 00 00 00 01 00 02 00 07 00 03 00 04 00 00 00 02 00 02. */
+#define MUON_FILE_VERSION 1
+
 /* ---- The calls -------------------------------------------------------------------------------------------------------------- */
 
 /* Memory, for every call: all of it stays the caller's. Nothing is kept when the call returns, nothing is allocated, and there is no
    global state, so calls may run in several threads, each with memory of its own to be written; what is only read may be shared.
    The caller sees to it that what is lent is of the lengths told, aligned as C has it for its type, does not overlap, and is not changed
-   by another thread during the call. value, place, count and steps must not be NULL. With length 0 text, table, piece or buffer is not
-   followed and may be NULL. */
+   by another thread during the call. value, place, count and steps must not be NULL. With length 0 text, table, piece, buffer or file is
+   not followed and may be NULL. */
 
 /* Reads a text at a level, and writes its nodes to a lent table.
 
@@ -235,6 +270,33 @@ uint32_t muon_blob(const uint8_t *piece, size_t piece_len, uint8_t *buffer, size
    4 * piece_len bytes are room enough for every piece, and so MUON_BITS_MAX are for any (proved; `bits-bounded` in
    `crates/values/proofs/BitsAndBlobs.antt` with `enough-room` in `crates/values/proofs/Fits.antt`). */
 uint32_t muon_bits(const uint8_t *piece, size_t piece_len, uint8_t *buffer, size_t buffer_len, size_t *place, size_t *count);
+
+/* Reads a text at level 2, and writes its stored file from the start of a lent buffer on.
+
+   text       text_len bytes, read only; need not end in 0
+   buffer     buffer_len bytes; what they held does not matter
+   place      one size_t, written in every case
+   count      one size_t, written in every case
+
+   Accepted, exactly the first *count bytes of the buffer are written, and *count is MUON_FILE_BYTES of the nodes. Refused, none.
+   MUON_FILE_MAX bytes are room enough for every text that has a file: with as many, 8 is given only where there are more than
+   MUON_NODES_MAX nodes, and the count tells them. With fewer, the count alone does not tell whether nodes or bytes are meant. */
+uint32_t muon_file_write(const uint8_t *text, size_t text_len, uint8_t *buffer, size_t buffer_len, size_t *place, size_t *count);
+
+/* Tests whether a file is the stored file of a text: it is accepted exactly when muon_file_write would give it for the text, all of it and
+   nothing behind it. Nothing but place and count is written.
+
+   The file tells what was read, and not the text's bytes. A text with other bytes, but of the same length and with the same nodes, has the
+   same file: `x` has the file 46 4E 54 00 01 00 01 00 01 00 07 00 00 00 01 00 00 00 00 00 02, and so `y` has the file 46 4E 54 00 01 00 01
+   00 01 00 07 00 00 00 01 00 00 00 00 00 02. To know that no byte of the text was changed, keep a check sum of the text, too.
+
+   With the file 46 4E 54 00, `x` is 12@0; with the file 46 4E 54 00 02, `x` is 13@0; with the file 46 4E 54 00 01, `x` is 14@0.
+
+   text       text_len bytes, read only; need not end in 0
+   file       file_len bytes, read only, of any number
+   place      one size_t, written in every case
+   count      one size_t, written in every case */
+uint32_t muon_file_check(const uint8_t *text, size_t text_len, const uint8_t *file, size_t file_len, size_t *place, size_t *count);
 
 /* The UTF-8 test alone: MUON_ACCEPTED, with the length for the place, or MUON_REFUSED_NOT_UTF8, with the first byte at which, reading
    well-formed sequences from the front, none begins. It is the test that every other call makes before it gives that refusal, with the

@@ -1,6 +1,6 @@
 /* The library as a C program meets it: the header's own words tried, and the stack measured.
-   Prints for each call the most bytes of stack that it touched, muon_read over the deepest texts; exits with 1 if an answer is not the
-   one expected. */
+   Prints for each call the most bytes of stack that it touched, those that read a text over the deepest texts; exits with 1 if an answer is
+   not the one expected. */
 #include "muon.h"
 
 #include <stdio.h>
@@ -45,6 +45,18 @@ static void blob_of_it(void) {
 
 static void bits_of_it(void) {
     call.number = muon_bits((const uint8_t *)call.text, call.length, buffer, call.bytes, &call.place, &call.count);
+}
+
+/* into a buffer of so many bytes, at most MUON_FILE_MAX */
+static uint8_t stored[MUON_FILE_MAX];
+
+static void write_file_of_it(void) {
+    call.number = muon_file_write((const uint8_t *)call.text, call.length, stored, call.bytes, &call.place, &call.count);
+}
+
+/* what was stored, so many bytes */
+static void check_file_of_it(void) {
+    call.number = muon_file_check((const uint8_t *)call.text, call.length, stored, call.bytes, &call.place, &call.count);
 }
 
 /* the steps as the count */
@@ -266,6 +278,103 @@ static void bits(void) {
     if (room[0] != 1 || room[count - 1] != 1 || room[count] != 0) exit(1);
 }
 
+static void expect_answer(const char *what, uint32_t number, size_t place, size_t count) {
+    if (call.number == number && call.place == place && call.count == count) return;
+    printf("%s of %.40s with %zu bytes: %u %zu %zu\n", what, call.text, call.bytes, (unsigned)call.number, call.place, call.count);
+    exit(1);
+}
+
+/* Under a refusal nothing is stored. */
+static void expect_written(const char *text, size_t bytes, uint32_t number, size_t place, size_t count) {
+    static uint8_t before[MUON_FILE_MAX];
+    memset(stored, PAINT, sizeof stored);
+    memset(before, PAINT, sizeof before);
+    call.text = text;
+    call.length = strlen(text);
+    call.bytes = bytes;
+    write_file_of_it();
+    expect_answer("file", number, place, count);
+    size_t written = number == MUON_ACCEPTED ? count : 0;
+    if (memcmp(stored + written, before, sizeof stored - written) != 0) exit(1);
+}
+
+static void expect_checked(const char *text, size_t bytes, uint32_t number) {
+    call.text = text;
+    call.length = strlen(text);
+    call.bytes = bytes;
+    check_file_of_it();
+    int good = number == MUON_ACCEPTED;
+    expect_answer("check", number, good ? call.length : 0, good ? bytes : 0);
+}
+
+/* The number of two bytes, the high one first. */
+static unsigned number_at(size_t byte) { return 256u * stored[byte] + stored[byte + 1]; }
+
+static void files(void) {
+    static const uint8_t pair[] = {
+        'F', 'N', 'T', 0, MUON_FILE_VERSION, 0, 3, 0, 5,
+        0, MUON_KIND_PAIR, 0, 0, 0, 5, 0, 0, 0, MUON_ROLE_ROOT, 0, 0,
+        0, MUON_KIND_TEXT, 0, 1, 0, 2, 0, 0, 0, MUON_ROLE_THIS, 0, MUON_DETAIL_WORD,
+        0, MUON_KIND_TEXT, 0, 3, 0, 4, 0, 0, 0, MUON_ROLE_THAT_AFTER, 0, MUON_DETAIL_WORD,
+    };
+    if (sizeof pair != MUON_FILE_BYTES(3) || MUON_FILE_MAX != 12297) exit(1);
+    expect_written("(x:y)", sizeof pair, MUON_ACCEPTED, 5, sizeof pair);
+    expect_written("(x:y)", sizeof pair - 1, MUON_REFUSED_NO_ROOM, 5, sizeof pair);
+    expect_written("(x:y)", 0, MUON_REFUSED_NO_ROOM, 5, sizeof pair);
+    expect_written("(x", 64, MUON_REFUSED_WRONG_PLACE, 2, 0);
+    expect_written("(x", 0, MUON_REFUSED_WRONG_PLACE, 2, 0);
+    expect_written("1/0", 64, MUON_REFUSED_BAD_VALUE, 0, 0);
+    /* a form of level 2, and one beyond it */
+    expect_written("[1..10]", 64, MUON_ACCEPTED, 7, MUON_FILE_BYTES(3));
+    expect_written("(Mix:{})", 64, MUON_REFUSED_NEWER_FORM, 0, 0);
+    expect_written("(x:y)", MUON_FILE_MAX, MUON_ACCEPTED, 5, sizeof pair);
+    if (memcmp(stored, pair, sizeof pair) != 0) exit(1);
+    /* a word of a node, found as the header has it */
+    if (number_at(MUON_FILE_BYTES(2) + 2 * MUON_NODE_ROLE) != MUON_ROLE_THAT_AFTER) exit(1);
+    /* texts of other bytes with the same nodes, and other texts */
+    expect_checked("(x:y)", sizeof pair, MUON_ACCEPTED);
+    expect_checked("(a:b)", sizeof pair, MUON_ACCEPTED);
+    expect_checked("(x,y)", sizeof pair, MUON_REFUSED_NOT_THE_FILE);
+    expect_checked("(x:y) ", sizeof pair, MUON_REFUSED_NOT_THE_FILE);
+    expect_checked("(x", sizeof pair, MUON_REFUSED_NOT_THE_FILE);
+    expect_checked("\xFF", sizeof pair, MUON_REFUSED_NOT_THE_FILE);
+    expect_checked("(x:y)", sizeof pair + 1, MUON_REFUSED_NOT_THE_FILE);
+    expect_checked("(x:y)", sizeof pair - 1, MUON_REFUSED_NOT_THE_FILE);
+    expect_checked("(x:y)", 5, MUON_REFUSED_NOT_THE_FILE);
+    expect_checked("(x:y)", 4, MUON_REFUSED_NOT_THE_MARK);
+    stored[sizeof pair - 1] ^= 1;
+    expect_checked("(x:y)", sizeof pair, MUON_REFUSED_NOT_THE_FILE);
+    /* version and mark, whatever the text */
+    stored[4] = 2;
+    expect_checked("(x:y)", sizeof pair, MUON_REFUSED_OTHER_VERSION);
+    expect_checked("\xFF", 5, MUON_REFUSED_OTHER_VERSION);
+    stored[3] = stored[4] = 1;
+    expect_checked("(x:y)", sizeof pair, MUON_REFUSED_OTHER_VERSION);
+    stored[2] = 't';
+    expect_checked("(x:y)", sizeof pair, MUON_REFUSED_NOT_THE_MARK);
+    /* nothing lent */
+    size_t place = 1, count = 1;
+    if (muon_file_write(NULL, 0, NULL, 0, &place, &count) != MUON_REFUSED_WRONG_PLACE || place != 0 || count != 0) exit(1);
+    if (muon_file_write((const uint8_t *)"5", 1, NULL, 0, &place, &count) != MUON_REFUSED_NO_ROOM || place != 1 || count != 21) exit(1);
+    if (muon_file_check(NULL, 0, NULL, 0, &place, &count) != MUON_REFUSED_NOT_THE_MARK || place != 0 || count != 0) exit(1);
+    /* a byte too many, and the longest text */
+    static uint8_t spaces[MUON_TEXT_MAX + 1];
+    memset(spaces, ' ', sizeof spaces);
+    spaces[MUON_TEXT_MAX - 1] = '5';
+    if (muon_file_write(spaces, sizeof spaces, stored, sizeof stored, &place, &count) != MUON_REFUSED_TOO_LONG || place != 0) exit(1);
+    if (muon_file_write(spaces, MUON_TEXT_MAX, stored, sizeof stored, &place, &count) != MUON_ACCEPTED || count != 21) exit(1);
+    if (number_at(7) != MUON_TEXT_MAX || number_at(MUON_FILE_BYTES(0) + 2 * MUON_NODE_END) != MUON_TEXT_MAX) exit(1);
+    if (muon_file_check(spaces, MUON_TEXT_MAX, stored, 21, &place, &count) != MUON_ACCEPTED || place != MUON_TEXT_MAX) exit(1);
+    /* the most nodes, and one more */
+    static char most[2 * MUON_NODES_MAX + 3] = "{";
+    for (size_t i = 1; i < MUON_NODES_MAX; i++) strcat(most, "a,");
+    strcat(most, "}");
+    expect_written(most, MUON_FILE_MAX, MUON_ACCEPTED, 2 * MUON_NODES_MAX, MUON_FILE_MAX);
+    expect_checked(most, MUON_FILE_MAX, MUON_ACCEPTED);
+    strcpy(most + 2 * MUON_NODES_MAX - 1, "a,}");
+    expect_written(most, MUON_FILE_MAX, MUON_REFUSED_NO_ROOM, 2 * MUON_NODES_MAX + 2, MUON_NODES_MAX + 1);
+}
+
 static void expect_utf8(const char *text, uint32_t number, size_t place, size_t steps) {
     call.text = text;
     call.length = strlen(text);
@@ -319,8 +428,43 @@ static size_t most_touched_by(void (*run)(void)) {
     return most;
 }
 
+/* By a call of the reader, at both levels, with no table and with one. */
+static size_t most_touched_reading_it(void) {
+    size_t most = 0;
+    for (call.level = 1; call.level <= 2; call.level++) {
+        for (call.words = 0; call.words <= WORDS; call.words += WORDS) {
+            size_t bytes = touched(read_it);
+            if (bytes > most) most = bytes;
+        }
+    }
+    return most;
+}
+
+static size_t most_touched_writing_its_file(void) {
+    size_t most = 0;
+    for (call.bytes = 0; call.bytes <= MUON_FILE_MAX; call.bytes += MUON_FILE_MAX) {
+        size_t bytes = touched(write_file_of_it);
+        if (bytes > most) most = bytes;
+    }
+    return most;
+}
+
+/* Its own file if it has one, and else what has a mark and a version. */
+static size_t most_touched_checking_its_file(void) {
+    call.bytes = MUON_FILE_MAX;
+    write_file_of_it();
+    if (call.number == MUON_ACCEPTED) {
+        call.bytes = call.count;
+    } else {
+        static const uint8_t front[] = {'F', 'N', 'T', 0, MUON_FILE_VERSION};
+        memcpy(stored, front, sizeof front);
+        call.bytes = sizeof front;
+    }
+    return touched(check_file_of_it);
+}
+
 /* As many brackets as may be open around the literals. */
-static size_t most_touched_by_a_reading(void) {
+static size_t most_touched_by_a_reading(size_t (*most_by)(void)) {
     static const char *const openers[][2] = {
         {"(", ")"},      {"{", "}"},         {"[", "]"},      {"(a,", ")"},     {"(,", ")"},         {"(a:", ")"},
         {"(a->", ")"},   {"(b<-", ")"},      {"{a:", "}"},    {"{a,", "}"},     {"{,", "}"},         {"[a..", "]"},
@@ -341,12 +485,8 @@ static size_t most_touched_by_a_reading(void) {
                 for (size_t i = 0; i < times; i++) strcat(text, close);
                 call.text = text;
                 call.length = strlen(text);
-                for (call.level = 1; call.level <= 2; call.level++) {
-                    for (call.words = 0; call.words <= WORDS; call.words += WORDS) {
-                        size_t bytes = touched(read_it) - none;
-                        if (bytes > most) most = bytes;
-                    }
-                }
+                size_t bytes = most_by() - none;
+                if (bytes > most) most = bytes;
             }
         }
     }
@@ -360,12 +500,15 @@ int main(void) {
     blobs();
     paddings();
     bits();
+    files();
     utf8();
-    printf("muon_read %zu\n", most_touched_by_a_reading());
+    printf("muon_read %zu\n", most_touched_by_a_reading(most_touched_reading_it));
     printf("muon_integer %zu\n", most_touched_by(integer_of_it));
     printf("muon_text %zu\n", most_touched_by(text_of_it));
     printf("muon_blob %zu\n", most_touched_by(blob_of_it));
     printf("muon_bits %zu\n", most_touched_by(bits_of_it));
+    printf("muon_file_write %zu\n", most_touched_by_a_reading(most_touched_writing_its_file));
+    printf("muon_file_check %zu\n", most_touched_by_a_reading(most_touched_checking_its_file));
     printf("muon_utf8 %zu\n", most_touched_by(utf8_of_it));
     return 0;
 }

@@ -1,7 +1,8 @@
 # From `objdump -dr` of an archive: the stack that a call of each exported function needs at most, in bytes.
 # A function's frame is its return address, what it pushes and what it takes off the stack pointer. Calls are followed; where functions
 # call each other in a circle, each may stand on the stack once for each open bracket and once more, which is what the code promises
-# (the depth is tested before the next bracket is read). A red zone is added for the last function.
+# (the depth is tested before the next bracket is read). A red zone is added for the last function. A long frame is taken page by page,
+# perhaps in a loop up to a goal. memset is the C library's, and is taken to need its return address and a red zone.
 # Variables: depth (open brackets), exported (names, separated by spaces).
 
 function number(hex,    value, i) {
@@ -79,6 +80,7 @@ function deepest(name,    all, n, i, j, ring, names, best, below, sum) {
     most[here] = 8
     extra = 8
     opening = 1
+    goal = 0
     next
 }
 
@@ -87,6 +89,11 @@ function deepest(name,    all, n, i, j, ring, names, best, below, sum) {
     else if ($2 == "pop") extra -= 8
     else if ($2 == "sub" && $3 ~ /,%rsp$/) { split($3, part, /[$,]/); grow(number(part[2])) }
     else if ($2 == "add" && $3 ~ /,%rsp$/) { split($3, part, /[$,]/); extra -= number(part[2]) }
+    else if ($2 == "mov" && $3 == "%rsp,%r11") goal = extra
+    else if ($2 == "sub" && $3 ~ /,%r11$/ && goal) { split($3, part, /[$,]/); goal += number(part[2]) }
+    else if ($2 == "lea" && $3 ~ /^-0x[0-9a-f]+\(%rsp\),%r11$/) { split($3, part, /[-(]/); goal = extra + number(part[2]) }
+    else if ($2 == "cmp" && $3 == "%r11,%rsp" && goal) { grow(goal - extra); goal = 0; looping = 1; next }
+    else if ($2 == "jne" && looping) { looping = 0; next }
     else if (($2 == "lea" || $2 == "and" || $2 == "mov") && $3 ~ /,%rsp$/) { print "cannot follow: " $0; failed = 1; exit 1 }
     else if ($2 == "call" && $3 ~ /^\*/) { print "cannot follow: " $0; failed = 1; exit 1 }
     else if ($2 == "call" && $4 !~ /\+/) { name = $4; gsub(/[<>]/, "", name); calls(name) }
@@ -100,6 +107,7 @@ function deepest(name,    all, n, i, j, ring, names, best, below, sum) {
     name = $3
     sub(/[-+]0x[0-9a-f]+$/, "", name)
     if (name ~ /^\.text\./) { sub(/^\.text\./, "", name); calls(name) }
+    else if (name ~ /^memset$/) { most[name] = 8; calls(name) }
     else if (name !~ /^\./) { print "calls what the archive has not: " name; failed = 1; exit 1 }
 }
 

@@ -1,13 +1,15 @@
-//! Reads a sample of texts, asks for the values of a sample of pieces and
-//! tests a sample of UTF-8, through the C interface out of and into memory of
-//! exactly the size lent, to be run under valgrind: a read or write outside of
-//! it is an error there, and so is an answer that depends on what the table or
-//! buffer held, since nothing is written to it before.
+//! Reads a sample of texts, writes and checks their stored files, asks for the
+//! values of a sample of pieces and tests a sample of UTF-8, through the C
+//! interface out of and into memory of exactly the size lent, to be run under
+//! valgrind: a read or write outside of it is an error there, and so is an
+//! answer that depends on what the table or buffer held, since nothing is
+//! written to it before.
 //!
-//! Exits with 1 if an answer, a written word or byte, the text or the piece is
-//! not as it should be.  `lent_memory overstated` tells one byte more than there is, which
-//! valgrind must report: so it is known to look.  So does `lent_memory overstated-word`, where
-//! that byte is the last of eight that the UTF-8 test may read at once.
+//! Exits with 1 if an answer, a written word or byte, the text, the piece or
+//! the file is not as it should be.  `lent_memory overstated` tells one byte
+//! more than there is, which valgrind must report: so it is known to look.  So
+//! does `lent_memory overstated-word`, where that byte is the last of eight
+//! that the UTF-8 test may read at once.
 
 // links the archive
 use muon as _;
@@ -19,7 +21,7 @@ use second::generate::{
     random_bytes, random_packed_pieces, row, sample_pieces, texts, Random, FRAMES, RUN_MAX,
 };
 use second::utf8::{self, Tested};
-use second::{samples, tree, value};
+use second::{file, samples, tree, value};
 use std::alloc::{alloc, dealloc, handle_alloc_error, Layout};
 use std::process::ExitCode;
 use std::ptr::NonNull;
@@ -70,6 +72,22 @@ extern "C" {
         place: *mut usize,
         count: *mut usize,
     ) -> u32;
+    fn muon_file_write(
+        text: *const u8,
+        text_len: usize,
+        buffer: *mut u8,
+        buffer_len: usize,
+        place: *mut usize,
+        count: *mut usize,
+    ) -> u32;
+    fn muon_file_check(
+        text: *const u8,
+        text_len: usize,
+        file: *const u8,
+        file_len: usize,
+        place: *mut usize,
+        count: *mut usize,
+    ) -> u32;
     fn muon_utf8(text: *const u8, text_len: usize, place: *mut usize, steps: *mut usize) -> u32;
 }
 
@@ -83,6 +101,7 @@ const WRITING: [(&str, Writing, Ours); 3] = [
     ("blob", muon_blob, value::blob),
     ("bits", muon_bits, value::bits),
 ];
+const FILE: (&str, Writing, Ours) = ("file", muon_file_write, file::write);
 
 /// Memory of its own for so many items, with none of them written.
 struct Lent<T> {
@@ -271,6 +290,58 @@ fn piece(piece: &[u8], values: &mut usize) -> Compared {
     Ok(())
 }
 
+/// The check of a file, held against the second program's.
+fn compare_check(text: &[u8], stored: &[u8]) -> Compared {
+    let lent = Lent::holding(text);
+    let kept = Lent::holding(stored);
+    // SAFETY: each pointer is to memory of its own, of the length that is told.
+    let proved = answered(|place, count| unsafe {
+        let (start, file_start) = (lent.start.as_ptr(), kept.start.as_ptr());
+        muon_file_check(start, text.len(), file_start, stored.len(), place, count)
+    });
+    let what = format!("check of b\"{}\" as the file", stored.escape_ascii());
+    same(&what, text, file::check(text, stored), proved)?;
+    // SAFETY: both are as long.
+    let (text_after, file_after) =
+        unsafe { (lent.written(text.len()), kept.written(stored.len())) };
+    same(&format!("{what}: the text"), text, text, text_after)?;
+    same(&format!("{what}: the file"), text, stored, file_after)
+}
+
+/// A text's file with no buffer, with what it needs, a byte less and a byte
+/// more; and checks of it: whole, a byte longer, cut off in its head, by a byte
+/// and by a node, and with its first, its middle and its last byte changed.
+fn stored(text: &[u8], files: &mut usize) -> Compared {
+    let need = file::write(text, &mut []).count;
+    for length in [0, need.saturating_sub(1), need, need + 1] {
+        *files += 1;
+        compare_value(&FILE, text, length)?;
+    }
+    let mut whole = vec![0; file::FILE_MAX];
+    let answer = file::write(text, &mut whole);
+    if answer.number != 0 {
+        // another text's
+        whole = b"FNT\0\x01\0\x01\0\x01\0\x07\0\0\0\x01\0\0\0\0\0\x02".to_vec();
+    } else {
+        whole.truncate(answer.count);
+    }
+    let mut check = |bytes: &[u8]| {
+        *files += 1;
+        compare_check(text, bytes)
+    };
+    check(&whole)?;
+    check(&[&whole[..], &[0]].concat())?;
+    for length in (0..=file::length(0)).chain([whole.len() - 12, whole.len() - 1]) {
+        check(&whole[..length])?;
+    }
+    for at in [0, 4, whole.len() / 2, whole.len() - 1] {
+        let mut other = whole.clone();
+        other[at] ^= 1;
+        check(&other)?;
+    }
+    Ok(())
+}
+
 /// At every level, with no table, the longest, what the text needs, and a
 /// word less.
 fn text(text: &[u8], readings: &mut usize) -> Compared {
@@ -360,6 +431,25 @@ fn all_tests(tests: &mut usize) -> Compared {
     Ok(())
 }
 
+fn all_files(files: &mut usize) -> Compared {
+    for sample in samples::all() {
+        stored(sample.text, files)?;
+    }
+    for generated in texts(SEED, GENERATED) {
+        stored(&generated, files)?;
+    }
+    for deep in deep_texts() {
+        stored(&deep, files)?;
+    }
+    for long in long_texts().iter().step_by(LONG_SPARSELY) {
+        stored(long, files)?;
+    }
+    for length in [2 * NODES_MAX, 2 * NODES_MAX + 2, TEXT_MAX, TEXT_MAX + 2] {
+        stored(&samples::members(length), files)?;
+    }
+    Ok(())
+}
+
 fn all_readings(readings: &mut usize) -> Compared {
     let mut random = Random::new(SEED);
     for sample in samples::all() {
@@ -413,10 +503,13 @@ fn main() -> ExitCode {
         }
         _ => {}
     }
-    let (mut readings, mut values, mut tests) = (0, 0, 0);
+    let (mut readings, mut files, mut values, mut tests) = (0, 0, 0, 0);
     let outcome = all_readings(&mut readings)
+        .and_then(|()| all_files(&mut files))
         .and_then(|()| all_values(&mut values))
         .and_then(|()| all_tests(&mut tests));
-    let compared = format!("{readings} readings, {values} values, {tests} UTF-8 tests");
+    let compared = format!(
+        "{readings} readings, {files} writings and checks of files, {values} values, {tests} UTF-8 tests"
+    );
     finish("lent_memory", &compared, outcome)
 }

@@ -1,0 +1,56 @@
+/* Stored files from C: `store write TEXT FILE` reads the file TEXT and writes its stored file to FILE; `store check TEXT FILE` tells
+   whether FILE is the stored file of TEXT. All memory is of fixed size, and the stack that the two calls need is MUON_FILE_STACK_MAX.
+   Prints `ok` and the bytes of FILE, or `no`, number and place; exits with 1 if text or file is refused, and with 2 if it cannot be read
+   or written. */
+#include "muon.h"
+
+#include <stdio.h>
+#include <string.h>
+
+/* One byte more than a text or a file may have, so that one that is too long is seen to be. */
+static uint8_t text[MUON_TEXT_MAX + 1];
+static uint8_t file[MUON_FILE_MAX + 1];
+
+static int get(const char *path, uint8_t *bytes, size_t most, size_t *len) {
+    FILE *in = fopen(path, "rb");
+    if (in == NULL) return 0;
+    *len = fread(bytes, 1, most, in);
+    int good = !ferror(in);
+    return fclose(in) == 0 && good;
+}
+
+static int put(const char *path, const uint8_t *bytes, size_t len) {
+    FILE *out = fopen(path, "wb");
+    if (out == NULL) return 0;
+    int good = fwrite(bytes, 1, len, out) == len;
+    return fclose(out) == 0 && good;
+}
+
+static int failed(const char *path) {
+    perror(path);
+    return 2;
+}
+
+int main(int argc, char **argv) {
+    int writes = argc == 4 && strcmp(argv[1], "write") == 0;
+    if (!writes && !(argc == 4 && strcmp(argv[1], "check") == 0)) {
+        fputs("store write|check TEXT FILE\n", stderr);
+        return 2;
+    }
+    size_t text_len, file_len, place, count;
+    uint32_t number;
+    if (!get(argv[2], text, sizeof text, &text_len)) return failed(argv[2]);
+    if (writes) {
+        number = muon_file_write(text, text_len, file, MUON_FILE_MAX, &place, &count);
+        if (number == MUON_ACCEPTED && !put(argv[3], file, count)) return failed(argv[3]);
+    } else {
+        if (!get(argv[3], file, sizeof file, &file_len)) return failed(argv[3]);
+        number = muon_file_check(text, text_len, file, file_len, &place, &count);
+    }
+    if (number != MUON_ACCEPTED) {
+        printf("no %u %zu\n", (unsigned)number, place);
+        return 1;
+    }
+    printf("ok %zu\n", count);
+    return 0;
+}
