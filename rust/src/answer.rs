@@ -11,13 +11,13 @@ pub struct Answer {
     /// The length of the text or piece if accepted, else the refusal's place
     /// in bytes.
     pub place: usize,
-    /// The nodes or bytes written; under [`Refusal::NoRoom`] those needed;
-    /// else 0.
+    /// The nodes or bytes written, or the bytes of the file that was checked;
+    /// under [`Refusal::NoRoom`] those needed; else 0.
     pub count: usize,
 }
 
 impl Answer {
-    /// Whether the text or piece was accepted.
+    /// Whether the text, piece or file was accepted.
     pub fn is_accepted(&self) -> bool {
         self.number == 0
     }
@@ -147,11 +147,19 @@ pub enum Refusal {
     OutOfRange = 10,
     /// The bracket at the place would be the 33rd open.
     TooDeep = 11,
+    /// The file has fewer than five bytes, or does not begin with the mark;
+    /// place 0.  This and the next two are of [`check`](crate::file::check)
+    /// only.
+    NotTheMark = 12,
+    /// The file is of another version than 1; place 0.
+    OtherVersion = 13,
+    /// The file is not the one of the text; place 0.
+    NotTheFile = 14,
 }
 
 impl Refusal {
     /// All refusals in the order of their numbers, which begin at 1.
-    pub const ALL: [Refusal; 11] = [
+    pub const ALL: [Refusal; 14] = [
         Refusal::Level,
         Refusal::TooLong,
         Refusal::NotUtf8,
@@ -163,6 +171,9 @@ impl Refusal {
         Refusal::NotTheLiteral,
         Refusal::OutOfRange,
         Refusal::TooDeep,
+        Refusal::NotTheMark,
+        Refusal::OtherVersion,
+        Refusal::NotTheFile,
     ];
 
     /// The refusal with this number; none for 0 and for what no call answers.
@@ -191,6 +202,9 @@ impl fmt::Display for Refusal {
             Refusal::NotTheLiteral => "not exactly one literal of the asked kind",
             Refusal::OutOfRange => "integer out of range",
             Refusal::TooDeep => "too deep",
+            Refusal::NotTheMark => "not a stored file",
+            Refusal::OtherVersion => "a stored file of another version",
+            Refusal::NotTheFile => "not the stored file of the text",
         })
     }
 }

@@ -46,6 +46,20 @@
 //! # Ok::<(), muon::Refusal>(())
 //! ```
 //!
+//! [`mod@file`] keeps what was read in a stored file beside the text, and tells
+//! later whether a file is the one of a text:
+//!
+//! ```
+//! use muon::{file, Refusal};
+//!
+//! let mut buffer = [0; file::MAX];
+//! let count = file::write(b"(x:y)", &mut buffer).accepted()?;
+//! let stored = &buffer[..count];
+//! assert_eq!(file::check(b"(x:y)", stored).accepted(), Ok(45));
+//! assert_eq!(file::check(b"(x,y)", stored).accepted(), Err(Refusal::NotTheFile));
+//! # Ok::<(), muon::Refusal>(())
+//! ```
+//!
 //! [`utf8`] is the UTF-8 test alone, for a text of any length; it tells its
 //! steps, too:
 //!
@@ -54,8 +68,8 @@
 //! assert_eq!(answer.accepted(), Ok(4));
 //! ```
 //!
-//! Every input has an answer: no text, level, table, piece or buffer makes a
-//! call fail in another way.  The proofs stand in the repository's crates;
+//! Every input has an answer: no text, level, table, piece, buffer or file
+//! makes a call fail in another way.  The proofs stand in the repository's crates;
 //! this package adds the `unsafe` calls, whose pointers and lengths are
 //! those of slices and numbers.
 //!
@@ -67,6 +81,7 @@
 #![warn(missing_docs)]
 
 mod answer;
+pub mod file;
 mod node;
 mod raw;
 mod reading;

@@ -46,6 +46,24 @@ extern "C" {
         count: *mut usize,
     ) -> u32;
 
+    pub fn muon_file_write(
+        text: *const u8,
+        text_len: usize,
+        buffer: *mut u8,
+        buffer_len: usize,
+        place: *mut usize,
+        count: *mut usize,
+    ) -> u32;
+
+    pub fn muon_file_check(
+        text: *const u8,
+        text_len: usize,
+        file: *const u8,
+        file_len: usize,
+        place: *mut usize,
+        count: *mut usize,
+    ) -> u32;
+
     pub fn muon_utf8(text: *const u8, text_len: usize, place: *mut usize, steps: *mut usize)
         -> u32;
 }

@@ -136,7 +136,7 @@ pub fn bits(piece: &[u8], buffer: &mut [u8]) -> Answer {
 type Writing =
     unsafe extern "C" fn(*const u8, usize, *mut u8, usize, *mut usize, *mut usize) -> u32;
 
-fn writing(call: Writing, piece: &[u8], buffer: &mut [u8]) -> Answer {
+pub(crate) fn writing(call: Writing, piece: &[u8], buffer: &mut [u8]) -> Answer {
     // What the call did not write would not look like an answer.
     let (mut place, mut count) = (usize::MAX, usize::MAX);
     // SAFETY: pointers and lengths are those of live slices and numbers, and

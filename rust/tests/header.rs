@@ -1,6 +1,6 @@
 //! The numbers here are those of the C header.
 
-use muon::{detail, kind, role, Refusal};
+use muon::{detail, file, kind, role, Refusal};
 
 const HEADER: &str = include_str!("../../include/muon.h");
 
@@ -19,21 +19,34 @@ fn sizes() {
         ("NODE_WORDS", muon::NODE_WORDS),
         ("NODES_MAX", muon::NODES_MAX),
         ("STACK_MAX", muon::STACK_MAX),
+        ("FILE_VERSION", usize::from(file::VERSION)),
     ] {
         assert_eq!(defined(name), Some(number), "{name}");
     }
 }
 
 #[test]
-fn products() {
-    let defined_as = |name: &str, factors: &str| {
-        let define = format!("#define MUON_{name} ({factors})");
+fn formulas() {
+    let defined_as = |name: &str, formula: &str| {
+        let define = format!("#define MUON_{name} {formula}");
         HEADER.lines().any(|line| line == define)
     };
-    assert!(defined_as("TABLE_MAX", "MUON_NODES_MAX * MUON_NODE_WORDS"));
+    assert!(defined_as(
+        "TABLE_MAX",
+        "(MUON_NODES_MAX * MUON_NODE_WORDS)"
+    ));
     assert_eq!(muon::TABLE_MAX, muon::NODES_MAX * muon::NODE_WORDS);
-    assert!(defined_as("BITS_MAX", "4 * MUON_TEXT_MAX"));
+    assert!(defined_as("BITS_MAX", "(4 * MUON_TEXT_MAX)"));
     assert_eq!(muon::BITS_MAX, 4 * muon::TEXT_MAX);
+    assert!(defined_as("FILE_BYTES(nodes)", "(9 + 12 * (nodes))"));
+    assert_eq!(file::bytes(5), 9 + 12 * 5);
+    assert!(defined_as("FILE_MAX", "MUON_FILE_BYTES(MUON_NODES_MAX)"));
+    assert_eq!(file::MAX, file::bytes(muon::NODES_MAX));
+    assert!(defined_as(
+        "FILE_STACK_MAX",
+        "(MUON_STACK_MAX + 4 * MUON_TABLE_MAX)"
+    ));
+    assert_eq!(file::STACK_MAX, muon::STACK_MAX + 4 * muon::TABLE_MAX);
 }
 
 #[test]
@@ -65,13 +78,18 @@ fn refusals() {
         ("REFUSED_NOT_THE_LITERAL", Refusal::NotTheLiteral),
         ("REFUSED_OUT_OF_RANGE", Refusal::OutOfRange),
         ("REFUSED_TOO_DEEP", Refusal::TooDeep),
+        ("REFUSED_NOT_THE_MARK", Refusal::NotTheMark),
+        ("REFUSED_OTHER_VERSION", Refusal::OtherVersion),
+        ("REFUSED_NOT_THE_FILE", Refusal::NotTheFile),
     ] {
         assert_eq!(defined(name), Some(refusal.number() as usize), "{name}");
     }
+    let told = HEADER.matches("#define MUON_REFUSED_").count();
+    assert_eq!(told, Refusal::ALL.len());
     for refusal in Refusal::ALL {
         assert_eq!(Refusal::from_number(refusal.number()), Some(refusal));
     }
-    for number in [0, 12, u32::MAX] {
+    for number in [0, 15, u32::MAX] {
         assert_eq!(Refusal::from_number(number), None);
     }
 }
