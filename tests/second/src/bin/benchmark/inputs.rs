@@ -46,6 +46,10 @@ pub const UTF8_SHAPES: [(&str, Shape); 4] = [
     ("utf8-threes", |size| filled("霜の夜", size).into_bytes()),
 ];
 
+/// The settings again, for what keeps them.
+pub const WRITE_SHAPES: [(&str, Shape); 1] = [("file-written", settings)];
+pub const CHECK_SHAPES: [(&str, Shape); 1] = [("file-checked", settings)];
+
 /// Plain ASCII.
 const PLAIN: &str = "A page of the manual, pasted whole. ";
 /// A character of two bytes to some ten letters.

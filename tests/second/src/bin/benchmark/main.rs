@@ -7,10 +7,13 @@
 
 mod inputs;
 
-use inputs::{grouped, Shape, BITS_SHAPES, BLOB_SHAPES, SHAPES, SIZES, UTF8_SHAPES};
+use inputs::{
+    grouped, Shape, BITS_SHAPES, BLOB_SHAPES, CHECK_SHAPES, SHAPES, SIZES, UTF8_SHAPES,
+    WRITE_SHAPES,
+};
 use second::answer::DEPTH_MAX;
 use second::generate::long_shapes;
-use second::{tree, utf8, value};
+use second::{file, tree, utf8, value};
 use std::hint::black_box;
 use std::process::ExitCode;
 use std::time::{Duration, Instant};
@@ -19,17 +22,21 @@ const LEVEL: u32 = 2;
 /// A call is timed for so long; the fastest of its rounds counts.
 const LONG_ENOUGH: Duration = Duration::from_millis(200);
 
-/// What is lent to the calls: the longest table and the longest buffer.
+/// What is lent to the calls: the longest table, the longest buffer, and the
+/// stored file of the text.
 struct Lent {
     table: [u32; muon::TABLE_MAX],
     buffer: [u8; muon::BITS_MAX],
+    stored: Vec<u8>,
 }
 
 impl Lent {
-    fn new() -> Lent {
+    /// For a text; one that has no file needs none.
+    fn new(text: &[u8]) -> Lent {
         Lent {
             table: [0; muon::TABLE_MAX],
             buffer: [0; muon::BITS_MAX],
+            stored: muon::file::to_vec(text).unwrap_or_default(),
         }
     }
 }
@@ -64,6 +71,22 @@ const BITS: Calls = [
         value::bits(piece, &mut lent.buffer).number
     }),
 ];
+const WRITE: Calls = [
+    ("proved", |text, lent| {
+        muon::file::write(text, &mut lent.buffer).number
+    }),
+    ("second", |text, lent| {
+        file::write(text, &mut lent.buffer).number
+    }),
+];
+const CHECK: Calls = [
+    ("proved", |text, lent| {
+        muon::file::check(text, &lent.stored).number
+    }),
+    ("second", |text, lent| {
+        file::check(text, &lent.stored).number
+    }),
+];
 const UTF8: Calls = [
     ("proved", |text, _| muon::utf8(text).number),
     ("second", |text, _| utf8::test(text).number),
@@ -79,13 +102,15 @@ fn shapes() -> Vec<(&'static str, Shape, Calls)> {
         with(&SHAPES, READ),
         with(&BLOB_SHAPES, BLOB),
         with(&BITS_SHAPES, BITS),
+        with(&WRITE_SHAPES, WRITE),
+        with(&CHECK_SHAPES, CHECK),
         with(&UTF8_SHAPES, UTF8),
     ]
     .concat()
 }
 
 fn bytes_per_second(call: Call, text: &[u8]) -> f64 {
-    let mut lent = Lent::new();
+    let mut lent = Lent::new(text);
     let times = 1 + 65_536 / text.len();
     let begin = Instant::now();
     let mut best = Duration::MAX;
@@ -118,10 +143,10 @@ fn counted(call: Call, text: &[u8], lent: &mut Lent) -> u32 {
 /// Every shape that is accepted, by both; then the long texts, most of them
 /// refused, plain and in groups, at two sizes.
 fn readings() {
-    let mut lent = Lent::new();
     for (name, shape, calls) in shapes() {
         for size in SIZES {
             let text = shape(size);
+            let mut lent = Lent::new(&text);
             for (who, call) in calls {
                 let number = counted(call, &text, &mut lent);
                 assert_eq!(number, 0, "{name} of {size} bytes");
@@ -129,6 +154,7 @@ fn readings() {
             }
         }
     }
+    let mut lent = Lent::new(b"");
     let [_, small, large] = SIZES;
     for (index, shape) in long_shapes().iter().enumerate() {
         for (name, wrap) in [
