@@ -47,6 +47,15 @@ impl Library for Proved {
         written(muon::bits, piece)
     }
 
+    fn file(&self, text: &[u8]) -> (u32, usize, Vec<u8>) {
+        written(muon::file::write, text)
+    }
+
+    fn check(&self, text: &[u8], file: &[u8]) -> (u32, usize) {
+        let answer = muon::file::check(text, file);
+        (answer.number, answer.place)
+    }
+
     fn utf8(&self, text: &[u8]) -> (u32, usize, usize) {
         let answer = muon::utf8(text);
         (answer.number, answer.place, answer.steps)
@@ -68,7 +77,8 @@ impl Library for Proved {
 }
 
 fn written(call: fn(&[u8], &mut [u8]) -> muon::Answer, piece: &[u8]) -> (u32, usize, Vec<u8>) {
-    let mut buffer = vec![0; 4 * piece.len()];
+    // room enough for the bits of any piece, and for any file
+    let mut buffer = vec![0; (4 * piece.len()).max(muon::file::MAX)];
     let answer = call(piece, &mut buffer);
     buffer.truncate(answer.count);
     (answer.number, answer.place, buffer)
@@ -207,6 +217,8 @@ fn self_test(repository: &Repository, root: &Path) -> Result<(), String> {
         "`29 56` has the value 29",
         "`0xxA705` has the bytes A7 50",
         "`seventeen letters` has 4 steps",
+        "`x` has the file 46 4E 54 00 01",
+        "With the file 46 4E 54 00, `x` is 13@0",
         "`1..10` has the tokens `1.`, `.10`",
         "    $ printf '5' | target/bin/muon\n    ok 2 2\n",
     ];
@@ -216,6 +228,8 @@ fn self_test(repository: &Repository, root: &Path) -> Result<(), String> {
         "`1..10` has the tokens `1`, `..`, `10`",
         "`0xxA705` has the bytes A7 05, `0bo17` has the bits 0 0 1 1 1 1",
         "`seventeen` has 2 steps, in the UTF-8 call `a\\xFF` is 3@1",
+        "`x` has the file 46 4E 54 00 01 00 01 00 01 00 07 00 00 00 01 00 00 00 00 00 02",
+        "With the file 46 4E 54 00, `x` is 12@0; as a text to be stored `(x` is 6@2",
         "    $ printf '5' | target/bin/muon\n    ok 2 1\n    3 0 1 0 0 0\n",
     ];
     if let Some(text) = wrong.iter().find(|text| findings(text) == 0) {

@@ -11,7 +11,10 @@
 //!   or "TEXT has no bits", by the Bits call; where the sentence names a call
 //!   before, "TEXT is 9@0" is that call's;
 //! * "TEXT has 3 steps" and, where the sentence names it, "TEXT is 3@8 after 1
-//!   step", by the UTF-8 call. There `\xFF` in a text is that byte.
+//!   step", by the UTF-8 call. There `\xFF` in a text is that byte;
+//! * "TEXT has the file 46 4E 54", by the writer of stored files, whose refusal
+//!   is "TEXT is 6@2" where the sentence says "to be stored" before; and "TEXT
+//!   is 12@0", by their checker, where it says "with the file 46 4E" before.
 //!
 //! In a table with the columns "text", "old reader" and "new reader" or "both
 //! readers": an answer, nodes, a number of nodes, or "the same" as before.
@@ -20,8 +23,9 @@
 use super::markup::{one_spaced, Block, Part, Passage};
 use super::{Document, Finding};
 use crate::answer::{Answer, NODES_MAX, NODE_WORDS, NO_TOKEN};
+use crate::file::FILE_MAX;
 use crate::token::Lexed;
-use crate::{front, token, tree, utf8, value};
+use crate::{file, front, token, tree, utf8, value};
 
 #[derive(Clone, Debug, PartialEq, Eq)]
 pub enum Call {
@@ -32,6 +36,9 @@ pub enum Call {
     Blob,
     Bits,
     Utf8,
+    File,
+    /// Of these bytes as the file.
+    Check(Vec<u8>),
     /// The text is a command.
     Shell,
 }
@@ -50,7 +57,7 @@ pub enum Want {
     Tokens(Vec<String>, Option<(u32, usize)>),
     Value(i64),
     Characters(String),
-    /// Of a Blob, or 0 and 1 of Bits.
+    /// Of a Blob or a stored file, or 0 and 1 of Bits.
     Bytes(Vec<u8>),
     /// Of the UTF-8 test.
     Steps(usize),
@@ -76,6 +83,8 @@ enum Asked {
     Blob,
     Bits,
     Utf8,
+    File,
+    Check(Vec<u8>),
 }
 
 impl Asked {
@@ -88,6 +97,8 @@ impl Asked {
             Asked::Blob => vec![Call::Blob],
             Asked::Bits => vec![Call::Bits],
             Asked::Utf8 => vec![Call::Utf8],
+            Asked::File => vec![Call::File],
+            Asked::Check(bytes) => vec![Call::Check(bytes.clone())],
         }
     }
 }
@@ -211,9 +222,14 @@ fn leading_bytes(text: &str, digits: usize) -> Vec<u8> {
     bytes
 }
 
-/// What is said of a Blob or of Bits: the call, and its bytes.
+/// What is said of a Blob, of Bits or of a text to be stored: the call, and its
+/// bytes.
 fn leading_value(text: &str) -> Option<(Call, Vec<u8>)> {
-    for (call, name, digits) in [(Call::Blob, "bytes", 2), (Call::Bits, "bits", 1)] {
+    for (call, name, digits) in [
+        (Call::Blob, "bytes", 2),
+        (Call::Bits, "bits", 1),
+        (Call::File, "file", 2),
+    ] {
         if text.starts_with(&format!("no {name}")) {
             return Some((call, Vec::new()));
         }
@@ -233,11 +249,12 @@ fn leading_count(text: &str, noun: &str) -> Option<usize> {
         .flatten()
 }
 
-/// Whether steps are told by what stands behind a text, which may look like
-/// a name.
-pub fn tells_steps(behind: &str) -> bool {
+/// Whether what stands behind a text, which may look like a name, tells its
+/// steps or its file.
+pub fn tells_answer(behind: &str) -> bool {
     let told = behind.strip_prefix(" has ");
-    told.and_then(|rest| leading_count(rest, "step")).is_some()
+    let of_text = |rest| leading_count(rest, "step").is_some() || rest.starts_with("the file ");
+    told.is_some_and(of_text)
 }
 
 /// The bytes of a text, in which `\xFF` is that byte.
@@ -277,11 +294,15 @@ fn asked(before: Asked, prose: &str) -> Asked {
         ("Blob call", Asked::Blob),
         ("Bits call", Asked::Bits),
         ("UTF-8 call", Asked::Utf8),
+        ("to be stored", Asked::File),
     ];
     for (phrase, call) in phrases {
         if sentence.contains(phrase) {
             asked = call;
         }
+    }
+    if let Some((_, bytes)) = sentence.split_once("ith the file ") {
+        asked = Asked::Check(leading_bytes(bytes, 2));
     }
     asked
 }
@@ -472,6 +493,9 @@ pub trait Library {
     fn text(&self, piece: &[u8]) -> (u32, usize, Vec<u8>);
     fn blob(&self, piece: &[u8]) -> (u32, usize, Vec<u8>);
     fn bits(&self, piece: &[u8]) -> (u32, usize, Vec<u8>);
+    fn file(&self, text: &[u8]) -> (u32, usize, Vec<u8>);
+    /// Number and place.
+    fn check(&self, text: &[u8], file: &[u8]) -> (u32, usize);
     /// Number, place and steps.
     fn utf8(&self, text: &[u8]) -> (u32, usize, usize);
     /// Spans of the tokens, and the place where none starts.
@@ -506,6 +530,15 @@ impl Library for Second {
         written(value::bits, piece)
     }
 
+    fn file(&self, text: &[u8]) -> (u32, usize, Vec<u8>) {
+        written(file::write, text)
+    }
+
+    fn check(&self, text: &[u8], file: &[u8]) -> (u32, usize) {
+        let answer = file::check(text, file);
+        (answer.number, answer.place)
+    }
+
     fn utf8(&self, text: &[u8]) -> (u32, usize, usize) {
         let tested = utf8::test(text);
         (tested.number, tested.place, tested.steps)
@@ -525,7 +558,8 @@ impl Library for Second {
 }
 
 fn written(call: fn(&[u8], &mut [u8]) -> Answer, piece: &[u8]) -> (u32, usize, Vec<u8>) {
-    let mut buffer = vec![0; 4 * piece.len()];
+    // room enough for the bits of any piece, and for any file
+    let mut buffer = vec![0; (4 * piece.len()).max(FILE_MAX)];
     let answer = call(piece, &mut buffer);
     buffer.truncate(answer.count);
     (answer.number, answer.place, buffer)
@@ -542,6 +576,11 @@ pub fn run(example: &Example, library: &dyn Library) -> Result<(), String> {
         Call::Blob => bytes(library.blob(text)),
         Call::Bits => bytes(library.bits(text)),
         Call::Utf8 => steps(&example.want, library.utf8(&unescaped(&example.text))),
+        Call::File => bytes(library.file(text)),
+        Call::Check(file) => {
+            let (number, place) = library.check(text, file);
+            Want::Refused(number, place)
+        }
         Call::Shell => return Ok(()),
     };
     if found == example.want {
@@ -637,9 +676,11 @@ mod tests {
             The Integer call: ` 5` is 9@0. `5` has the nodes `3 0 1 0 0 0`. \
             `0xxA705` has the bytes A7 05, `0xy` has no bytes, and `0bo17` has the bits 0 0 1 1 1 1. \
             `0bb` has no bits. The Blob call: `0xy====` is 5@0. The Bits call: `0xx` is 9@0. \
-            `seventeen letters` has 3 steps. The UTF-8 call: `aaaaaaaa\\xC3\\x41` is 3@8 after 1 step, and `a\\xFF` has 1 step.";
+            `seventeen letters` has 3 steps. The UTF-8 call: `aaaaaaaa\\xC3\\x41` is 3@8 after 1 step, and `a\\xFF` has 1 step. \
+            `x` has the file 46 4E 54 00 01 00 01 00 01 00 07 00 00 00 01 00 00 00 00 00 02. As a text to be stored, `(x` is 6@2. \
+            With the file 46 4E 54 00, `x` is 12@0. With the file 46 4E 54 00 01, `(x` is 14@0.";
         let found = of(text);
-        assert_eq!(found.examples.len(), 22);
+        assert_eq!(found.examples.len(), 26);
         assert_eq!(wrong(text), 0);
     }
 
@@ -661,6 +702,10 @@ mod tests {
             1
         );
         assert_eq!(wrong("The UTF-8 call: `aaaaaaaa\\xC3\\xA9` is 3@8"), 1);
+        assert_eq!(wrong("`x` has the file 46 4E 54 00 01"), 1);
+        assert_eq!(wrong("A text to be stored: `(x` is 6@1"), 1);
+        assert_eq!(wrong("With the file 46 4E 54 00 02, `x` is 12@0"), 1);
+        assert_eq!(wrong("With the file 46 4E 54 00 01, `x` is 13@0"), 1);
         assert_eq!(wrong("an answer, 6@4, without a text"), 1);
     }
 
