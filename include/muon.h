@@ -280,11 +280,12 @@ uint32_t muon_bits(const uint8_t *piece, size_t piece_len, uint8_t *buffer, size
 
    Accepted, exactly the first *count bytes of the buffer are written, and *count is MUON_FILE_BYTES of the nodes. Refused, none.
    MUON_FILE_MAX bytes are room enough for every text that has a file: with as many, 8 is given only where there are more than
-   MUON_NODES_MAX nodes, and the count tells them. With fewer, the count alone does not tell whether nodes or bytes are meant. */
+   MUON_NODES_MAX nodes, and the count tells them (proved; `room-enough` in `crates/demands/proofs/Requests.antt`). With fewer, the count
+   alone does not tell whether nodes or bytes are meant. */
 uint32_t muon_file_write(const uint8_t *text, size_t text_len, uint8_t *buffer, size_t buffer_len, size_t *place, size_t *count);
 
 /* Tests whether a file is the stored file of a text: it is accepted exactly when muon_file_write would give it for the text, all of it and
-   nothing behind it. Nothing but place and count is written.
+   nothing behind it (proved; `accepts-exactly` in `crates/demands/proofs/Requests.antt`). Nothing but place and count is written.
 
    The file tells what was read, and not the text's bytes. A text with other bytes, but of the same length and with the same nodes, has the
    same file: `x` has the file 46 4E 54 00 01 00 01 00 01 00 07 00 00 00 01 00 00 00 00 00 02, and so `y` has the file 46 4E 54 00 01 00 01

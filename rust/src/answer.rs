@@ -17,6 +17,19 @@ pub struct Answer {
 }
 
 impl Answer {
+    /// The answer of a call that returns the number, and writes place and
+    /// count.
+    pub(crate) fn of(call: impl FnOnce(&mut usize, &mut usize) -> u32) -> Answer {
+        // What the call did not write would not look like an answer.
+        let (mut place, mut count) = (usize::MAX, usize::MAX);
+        let number = call(&mut place, &mut count);
+        Answer {
+            number,
+            place,
+            count,
+        }
+    }
+
     /// Whether the text, piece or file was accepted.
     pub fn is_accepted(&self) -> bool {
         self.number == 0

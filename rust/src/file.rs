@@ -96,25 +96,18 @@ pub fn write(text: &[u8], buffer: &mut [u8]) -> Answer {
 /// }
 /// ```
 pub fn check(text: &[u8], file: &[u8]) -> Answer {
-    // What the call did not write would not look like an answer.
-    let (mut place, mut count) = (usize::MAX, usize::MAX);
-    // SAFETY: pointers and lengths are those of live slices, and the numbers
-    // to be written are this function's own.
-    let number = unsafe {
+    // SAFETY: pointers and lengths are those of live slices and numbers, and
+    // what may be written is borrowed by this call alone.
+    Answer::of(|place, count| unsafe {
         raw::muon_file_check(
             text.as_ptr(),
             text.len(),
             file.as_ptr(),
             file.len(),
-            &mut place,
-            &mut count,
+            place,
+            count,
         )
-    };
-    Answer {
-        number,
-        place,
-        count,
-    }
+    })
 }
 
 /// The file of `text` as a vector, or why it has none; for the place, see

@@ -37,24 +37,17 @@ pub const STACK_MAX: usize = 32_768;
 /// assert!(muon::read(2, b"{a, b, c}", &mut table).is_accepted());
 /// ```
 pub fn read(level: u32, text: &[u8], table: &mut [u32]) -> Answer {
-    // What the call did not write would not look like an answer.
-    let (mut place, mut count) = (usize::MAX, usize::MAX);
     // SAFETY: pointers and lengths are those of live slices and numbers, and
     // what may be written is borrowed by this call alone.
-    let number = unsafe {
+    Answer::of(|place, count| unsafe {
         raw::muon_read(
             level,
             text.as_ptr(),
             text.len(),
             table.as_mut_ptr(),
             table.len(),
-            &mut place,
-            &mut count,
+            place,
+            count,
         )
-    };
-    Answer {
-        number,
-        place,
-        count,
-    }
+    })
 }

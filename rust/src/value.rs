@@ -137,23 +137,16 @@ type Writing =
     unsafe extern "C" fn(*const u8, usize, *mut u8, usize, *mut usize, *mut usize) -> u32;
 
 pub(crate) fn writing(call: Writing, piece: &[u8], buffer: &mut [u8]) -> Answer {
-    // What the call did not write would not look like an answer.
-    let (mut place, mut count) = (usize::MAX, usize::MAX);
     // SAFETY: pointers and lengths are those of live slices and numbers, and
     // what may be written is borrowed by this call alone.
-    let number = unsafe {
+    Answer::of(|place, count| unsafe {
         call(
             piece.as_ptr(),
             piece.len(),
             buffer.as_mut_ptr(),
             buffer.len(),
-            &mut place,
-            &mut count,
+            place,
+            count,
         )
-    };
-    Answer {
-        number,
-        place,
-        count,
-    }
+    })
 }
