@@ -1,7 +1,7 @@
--- Laws of the nodes of a derivation: how many words they have; the role is the first node's alone, and neither it nor the indices tell how
+-- Laws of the nodes of a derivation: how many words they have, and the words of two rows; the role is the first node's alone, and neither it nor the indices tell how
 -- many nodes there are. Assumes nothing.
 use mathlib.Core.Path.{_≡_, refl, sym, ap, ap₂, _∙_}
-use mathlib.Core.List.{List, [], _∷_}
+use mathlib.Core.List.{List, [], _∷_, _++_, append-assoc}
 use Prim.Native.Nat.{ℕ, suc, _+_, _*_, _≤_}
 use native.Mathlib.Omega.{arith}
 use lib.ListN.{length, length-append}
@@ -12,6 +12,10 @@ use Rattle.grammar.specs.Nodes.{Node, words, nodeWords, tableWords, Role
 pub tableWords-length : (ns : List Node) → length (tableWords ns) ≡ length ns * nodeWords
 tableWords-length [] = refl
 tableWords-length (n ∷ ns) = omega (arith, length-append (words n) (tableWords ns), tableWords-length ns)
+
+pub tableWords-append : (ns ms : List Node) → tableWords (ns ++ ms) ≡ tableWords ns ++ tableWords ms
+tableWords-append [] ms = refl
+tableWords-append (n ∷ ns) ms = ap (λ (l : List ℕ). words n ++ l) (tableWords-append ns ms) ∙ sym (append-assoc (words n) (tableWords ns) (tableWords ms))
 
 -- the first node with another role
 abbrev pub roled : Role → List Node → List Node

@@ -1,5 +1,6 @@
 -- The laws of the token rules.
 pub mod Answers
+pub mod Variants
 pub mod Limits
 pub mod Bases
 pub mod Spaces
@@ -23,4 +24,5 @@ pub mod Unfit
 pub mod Formed
 pub mod Moved
 pub mod Pieces
+pub mod Segments
 pub mod Examples

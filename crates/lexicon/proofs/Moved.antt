@@ -205,7 +205,7 @@ module _ (a b : List ℕ) (p q n : ℕ) (w : Window a b p q n) where
         behind = on (z .behind) (omega (arith, f, g, h)) k;
       }
 
-  bad-segment : {i j : ℕ} → BadSegment a i j → p ≤ i → j ≤ p + n → BadSegment b (shift p q i) (shift p q j)
+  pub bad-segment : {i j : ℕ} → BadSegment a i j → p ≤ i → j ≤ p + n → BadSegment b (shift p q i) (shift p q j)
   bad-segment z h k =
       let f = forward (z .before) in let g = among-forward (z .content) in let o = forward (z .behind) in
       record {
@@ -219,7 +219,7 @@ module _ (a b : List ℕ) (p q n : ℕ) (w : Window a b p q n) where
   bad-segment-forward : {i j : ℕ} → BadSegment a i j → i ≤ j
   bad-segment-forward z = omega (arith, forward (z .before), among-forward (z .content), forward (z .behind))
 
-  bad-further : {i j : ℕ} → BadFurther a i j → p ≤ i → j ≤ p + n → BadFurther b (shift p q i) (shift p q j)
+  pub bad-further : {i j : ℕ} → BadFurther a i j → p ≤ i → j ≤ p + n → BadFurther b (shift p q i) (shift p q j)
   bad-further z h k =
       let f = forward (z .before) in let g = bad-segment-forward (z .bad) in
       record { start = shift p q (z .start); before = on (z .before) h (omega (arith, g, k)); bad = bad-segment (z .bad) (omega (arith, f, h)) k }

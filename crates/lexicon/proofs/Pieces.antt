@@ -1,4 +1,4 @@
--- The bytes of a token as a text by themselves: the same token, with the same value, well formed if the text is. Assumes nothing.
+-- A token stands inside the text; its bytes as a text by themselves: the same token, with the same value, well formed if the text is. Assumes nothing.
 use mathlib.Core.Path.{_≡_, refl, sym, ap, _∙_}
 use mathlib.Core.Logic.{_⊎_, inl, inr, ⊎-elim}
 use mathlib.Core.Bool.{true}
@@ -12,18 +12,20 @@ use Rattle.rules.specs.Rule.{Rule, one, many, lit, Takes, byte, both, stop, mor
 use Rattle.rules.specs.Plain.{between}
 use Rattle.rules.proofs.Bools.{and-left, and-right}
 use Rattle.rules.proofs.Classes.{includes, inSome}
-use Rattle.rules.proofs.Matches.{inside, ending}
+use Rattle.rules.proofs.Matches.{forward, inside, ending}
 use Rattle.rules.proofs.Ways.{opens, opens-at}
 use Rattle.rules.proofs.Bounds.{closes}
 use Rattle.rules.proofs.Windows.{byte-same, piece-window, piece-length, alone, there, takes-moves}
 use Rattle.lexicon.specs.declared.Form.the-variants.{Quoted, Word, HeadWord, CodePoint}
 use Rattle.lexicon.specs.declared.Kind.{Kind}
 use Rattle.lexicon.specs.declared.Kind.the-variants.{Ignorance, Boolean, Integer, Fraction, Bits, Blob, Text, Later, Symbol, Colon, TwoColons}
+use Rattle.lexicon.specs.declared.Token.{Token}
+use Rattle.lexicon.specs.declared.Next.the-variants as Next
 use Rattle.lexicon.specs.Literals.{plusMinus}
 use Rattle.lexicon.specs.Symbols.{Colons}
 use Rattle.lexicon.specs.Utf8.{WellFormed}
 use Rattle.lexicon.specs.Values.{IntegerOf, BitsOf, BlobOf, TextOf}
-use Rattle.lexicon.specs.Token.{Lexeme, anIgnorance, aBoolean, anInteger, aFraction, aBits, aBlob, aQuoted, aWord, aCodePoint, aLater, aSymbol, rule, Here, Told, Is, Bad}
+use Rattle.lexicon.specs.Token.{Lexeme, anIgnorance, aBoolean, anInteger, aFraction, aBits, aBlob, aQuoted, aWord, aCodePoint, aLater, aSymbol, rule, Here, Told, Is, Comes, Bad}
 use Rattle.lexicon.proofs.Unique.{token-forward}
 use Rattle.lexicon.proofs.Formed.{ascii, edges, whole-formed}
 use Rattle.lexicon.proofs.Moved.{integer-moved, bits-moved, blob-moved, text-moved, bad-moved}
@@ -89,6 +91,10 @@ module _ (text : List ℕ) where
 
     pub token-formed : WellFormed text → WellFormed (between text i j)
     token-formed w = let r = ruled k (is .told) in whole-formed text w (r .of) (r .opening) (r .closing) (r .takes)
+
+  -- at or after the place where it is looked for
+  pub token-bounds : {at : ℕ} {t : Token} → Comes text at (Next.Token t) → (at ≤ t .first) × (t .first < t .end) × (t .end ≤ length text)
+  token-bounds {t = t} c = (forward (c .0 .takes), token-forward text (c .2), token-within (t .kind) (c .2))
 
   -- ---- by itself
 

@@ -14,6 +14,7 @@ use Rattle.lexicon.specs.declared.Next.{Next}
 use Rattle.lexicon.specs.declared.Next.the-variants as Next
 use Rattle.lexicon.specs.Token.{Comes}
 use Rattle.lexicon.proofs.Determined.{one-answer}
+use Rattle.lexicon.proofs.Pieces.{token-bounds}
 use Rattle.look.specs.declared.answer.Got.{Got}
 use Rattle.look.specs.declared.answer.Got.the-variants as Got
 use Rattle.look.specs.declared.names.Further.{Further}
@@ -22,7 +23,6 @@ use Rattle.look.specs.declared.names.Named.{Named}
 use Rattle.look.specs.declared.names.Named.the-variants as Named
 use Rattle.look.specs.Looks.{Gets, NotNext}
 use Rattle.look.specs.Names.{ColonsNext, ColonsHere, NameNext, NameHere, unnamedBy}
-use Rattle.look.proofs.Bounds.{token-bounds}
 
 module _ (text : List ℕ) where
   -- ---- whether `::` comes

@@ -1,5 +1,6 @@
 -- The laws of the vocabulary.
 pub mod Bools
+pub mod Choices
 pub mod Classes
 pub mod Chains
 pub mod Matches

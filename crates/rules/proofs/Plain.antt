@@ -16,20 +16,24 @@ use Rattle.rules.proofs.Matches.{forward, ending}
 module _ (text : List ℕ) where
   -- ---- from places to bytes
 
-  -- between a place and itself, around one byte, and around two parts
-  none-between : (i j : ℕ) → i ≡ j → between text i j ≡ []
+  -- between a place and itself, around one byte, around two parts, and all
+  pub none-between : (i j : ℕ) → i ≡ j → between text i j ≡ []
   unfolding between
   none-between i j e = rw (← e, sub-self)
 
-  one-between : (i : ℕ) → i < length text → between text i (i + 1) ≡ getD text i 0 ∷ []
+  pub one-between : (i : ℕ) → i < length text → between text i (i + 1) ≡ getD text i 0 ∷ []
   unfolding between
   one-between i h = rw (add-sub-cancel-left, drop-cons text i 0)
 
-  joined-between : (i m j : ℕ) → i ≤ m → m ≤ j → between text i m ++ between text m j ≡ between text i j
+  pub joined-between : (i m j : ℕ) → i ≤ m → m ≤ j → between text i m ++ between text m j ≡ between text i j
   unfolding between
   joined-between i m j p q =
       let e : j - i ≡ (m - i) + (j - m) = omega arith in
       rw (e, take-add, drop-drop, add-sub-of-le)
+
+  pub whole-between : between text 0 (length text) ≡ text
+  unfolding between
+  whole-between = rw (sub-zero, take-length)
 
   pub plain : {r : Rule} {i j : ℕ} → Takes text r i j → Matches r (between text i j)
   plain (nothing {i} {j} e) = rw (none-between i j e) noByte
@@ -43,12 +47,14 @@ module _ (text : List ℕ) where
   -- ---- from bytes to places
 
   -- a byte that stands at the front of the text from i on stands at i
-  byte-stands : (c : Class) (b i : ℕ) (y : List ℕ) → In c b → drop i text ≡ b ∷ y → At text c i
-  byte-stands c b i y h e =
-      (omega (arith, length-drop i text, ap length e), subst (In c) (ap (λ (l : List ℕ). getD l 0 0) (sym e) ∙ getD-drop i text 0 0 ∙ ap (λ (n : ℕ). getD text n 0) (add-zero i)) h)
+  pub byte-is : (i : ℕ) {b : ℕ} {y : List ℕ} → drop i text ≡ b ∷ y → getD text i 0 ≡ b
+  byte-is i e = ap (λ (n : ℕ). getD text n 0) (sym (add-zero i)) ∙ sym (getD-drop i text 0 0) ∙ ap (λ (l : List ℕ). getD l 0 0) e
+
+  pub byte-stands : (c : Class) (i : ℕ) {b : ℕ} {y : List ℕ} → In c b → drop i text ≡ b ∷ y → At text c i
+  byte-stands c i h e = (omega (arith, length-drop i text, ap length e), subst (In c) (sym (byte-is i e)) h)
 
   -- what stands behind the first of two
-  second-stands : (a b : List ℕ) (i : ℕ) (y : List ℕ) → drop i text ≡ (a ++ b) ++ y → drop (i + length a) text ≡ b ++ y
+  pub second-stands : (a b : List ℕ) (i : ℕ) (y : List ℕ) → drop i text ≡ (a ++ b) ++ y → drop (i + length a) text ≡ b ++ y
   second-stands a b i y e = sym (drop-drop (length a) i text) ∙ ap (drop (length a)) (e ∙ append-assoc a b y) ∙ drop-append-seam a (b ++ y)
 
   -- where the second of two ends
@@ -58,7 +64,7 @@ module _ (text : List ℕ) where
   -- the rule takes the bytes that it matches wherever they stand
   pub placed : {r : Rule} {a : List ℕ} → Matches r a → (i : ℕ) (y : List ℕ) → drop i text ≡ a ++ y → Takes text r i (i + length a)
   placed noByte i y e = nothing (sym (add-zero i))
-  placed (oneByte {c = c} {b = b} h) i y e = byte (byte-stands c b i y h e) refl
+  placed (oneByte {c = c} h) i y e = byte (byte-stands c i h e) refl
   placed (joined {a = a} {b = b} t u) i y e =
       both (placed t i (b ++ y) (e ∙ append-assoc a b y)) (ending (two-end a b i) (placed u (i + length a) y (second-stands a b i y e)))
   placed (inLeft t) i y e = left (placed t i y e)
@@ -96,12 +102,8 @@ takes-amid r x a y =
 
 -- and as the whole text
 pub takes-whole : (r : Rule) (a : List ℕ) → Takes a r 0 (length a) ↔ Matches r a
-unfolding between
 takes-whole r a =
-    subst (λ (l : List ℕ). Takes a r 0 (length a) ↔ Matches r l) whole (takes-matches a r 0 (length a) (omega arith) (omega arith))
-  where
-    whole : between a 0 (length a) ≡ a
-    whole = rw (sub-zero, take-length)
+    subst (λ (l : List ℕ). Takes a r 0 (length a) ↔ Matches r l) (whole-between a) (takes-matches a r 0 (length a) (omega arith) (omega arith))
 
 -- ---- exactly these bytes
 

@@ -13,12 +13,10 @@ use Rattle.rules.proofs.Matches.{starting}
 use Rattle.rules.proofs.Chains.{Single}
 use Rattle.rules.proofs.Ways.{nullable, never, never-takes, covers, single, grows}
 use Rattle.lexicon.specs.Literals.{unescaped, restricted, escapeLetter, escape, codePoint}
+use Rattle.lexicon.proofs.Marks.{angle-same}
+use Rattle.lexicon.proofs.Segments.{quote}
 use Rattle.string.specs.Parts.{item}
 use Rattle.string.proofs.Among.{Strict}
-use Rattle.lexicon.proofs.Marks.{angle-same}
-
-abbrev pub quote : Class
-quote = just 0x22
 
 abbrev pub backslash : Class
 backslash = just 0x5C

@@ -1,42 +1,35 @@
 -- Segments of a quoted text, and the text. Assumes nothing.
-use mathlib.Core.Path.{_≡_, refl, subst, sym, _∙_}
-use mathlib.Core.Logic.{_⊎_, inl, inr, ⊎-elim}
+use mathlib.Core.Path.{_≡_, refl, subst, sym}
+use mathlib.Core.Logic.{⊎-elim}
 use mathlib.Core.Bool.{Bool, true, false, _||_}
 use mathlib.Core.List.{List}
 use Prim.Native.Nat.{ℕ, _+_, _≤_}
 use native.Mathlib.Omega.{arith}
 use lib.ListN.{getD}
 use Rattle.rules.specs.Test.{Says}
-use Rattle.rules.specs.Rule.{Rule, one, _then_, many, opt, lit, Takes, nothing, byte, both, left, right, stop, more, At, Longest, Fails, Among}
+use Rattle.rules.specs.Rule.{one, _then_, many, lit, Takes, nothing, byte, both, left, right, stop, more, At, Longest, Fails, Among}
 use Rattle.rules.proofs.Bools.{or-cases, or-left, or-right}
 use Rattle.rules.proofs.Classes.{apart, apartSpan, apart-no}
 use Rattle.rules.proofs.Matches.{forward, starting, one-at, move-at, fails-first}
-use Rattle.rules.proofs.Chains.{Single, join, snoc, each, reaches}
-use Rattle.rules.proofs.Ways.{never, never-takes}
+use Rattle.rules.proofs.Chains.{snoc, each, reaches}
+use Rattle.rules.proofs.Ways.{never-takes}
 use Rattle.lexicon.specs.declared.Literal.{Literal}
 use Rattle.lexicon.specs.declared.Literal as Literal
 use Rattle.lexicon.specs.Found.{Judges}
-use Rattle.lexicon.specs.Space.{blank, sp, Skips}
-use Rattle.lexicon.specs.Literals.{plainByte, unescaped, restricted, content, segment, quoted}
+use Rattle.lexicon.specs.Space.{Skips}
+use Rattle.lexicon.specs.Literals.{plainByte, unescaped, content, segment, quoted}
 use Rattle.lexicon.specs.Bad.{BadEscape, BadSegment, BadFurther, BadQuoted, inFirst, inFurther}
-use Rattle.lexicon.proofs.Spaces.{landed, skips-same}
+use Rattle.lexicon.proofs.Segments.{quote, further, segment-begins, segment-single, space-ends, further-rest, further-single, bad-takes}
 use Rattle.string.specs.Parts.{plainRest, item, escapedRest, BadRest}
 use Rattle.rules.proofs.Tests.{says-no}
 use Rattle.string.proofs.Among.{Strict, place, found, kept, none-among, which, said-on}
-use Rattle.rules.proofs.Closed.{closed-single, closes}
-use Rattle.string.proofs.Items.{quote, backslash, backslash-unescaped, quote-restricted, quote-item, restricted-single, item-single, item-strict, strict-of}
+use Rattle.rules.proofs.Closed.{closes}
+use Rattle.string.proofs.Items.{backslash, backslash-unescaped, quote-item, item-single, item-strict, strict-of}
 use Rattle.string.proofs.Escapes.{character-good}
 
 quote-backslash : apart quote backslash ≡ true
 unfolding apart apartSpan
 quote-backslash = refl
-
-quote-blank : never quote blank ≡ true
-unfolding never apart apartSpan
-quote-blank = refl
-
-abbrev pub further : Rule
-further = opt sp then segment
 
 module _ (text : List ℕ) where
   -- ---- the rest of a segment behind its opening quote
@@ -61,18 +54,6 @@ module _ (text : List ℕ) where
   of-plain n (both (stop e) q) = both (left (right (nothing e))) q
   of-plain n (both (more (left t) u) q) = both (left (left (both t u))) q
   of-plain n (both (more (right (byte a e)) u) q) = absurd (n a)
-
-  -- a match tells which
-  which-rest : {m j : ℕ} → Takes text (content then lit "\"") m j → At text backslash m ⊎ (At text backslash m → ⊥)
-  which-rest {m} (both (left (left (both t u))) q) = inr (λ b. never-takes text backslash unescaped backslash-unescaped b t)
-  which-rest {m} (both (left (right (nothing e))) (byte a f)) =
-      inr (λ b. apart-no quote backslash (getD text m 0) quote-backslash (move-at text quote (sym e) a .1) (b .1))
-  which-rest (both (right (both (byte a e) t)) q) = inl a
-
-  rest-same : {m j k : ℕ} → Takes text (content then lit "\"") m j → Takes text (content then lit "\"") m k → j ≡ k
-  rest-same t u =
-      ⊎-elim (λ b. closed-single item quote item-single quote-item .same (to-escaped b t) (to-escaped b u))
-      (λ n. closed-single restricted quote restricted-single quote-restricted .same (to-plain n t) (to-plain n u)) (which-rest t)
 
   -- a run of plain bytes is a row of items, none of which is bad
   pub plain-items : {i j : ℕ} → Takes text (many (one plainByte)) i j → Takes text (many item) i j
@@ -99,20 +80,11 @@ module _ (text : List ℕ) where
 
   -- ---- a segment
 
-  pub segment-single : Single text segment
-  segment-single = record { same = go }
-    where
-      go : {i j k : ℕ} → Takes text segment i j → Takes text segment i k → j ≡ k
-      go (both (byte a e) t) (both (byte b f) u) = rest-same t (starting (f ∙ sym e) u)
-
-  segment-begins : {i j : ℕ} → Takes text segment i j → At text quote i
-  segment-begins (both (byte a e) t) = a
-
   segment-rest : {i j : ℕ} → Takes text segment i j → Takes text (content then lit "\"") (i + 1) j
   segment-rest (both (byte a e) t) = starting e t
 
   pub no-segment : {i : ℕ} → (At text quote i → ⊥) → Fails text segment i
-  no-segment n = record { none = λ t. n (segment-begins t) }
+  no-segment n = record { none = λ t. n (segment-begins text t) }
 
   bad-rest : {i j : ℕ} → BadSegment text i j → At text backslash (i + 1) × BadRest text (i + 2) j
   bad-rest b = go (b .before) (b .content) (b .behind)
@@ -151,44 +123,22 @@ module _ (text : List ℕ) where
 
   -- ---- a further segment
 
-  -- dividing space before a segment ends where all of it ends
-  space-ends : {i u s k : ℕ} → Takes text (opt sp) i u → Takes text segment u k → Skips text i s → u ≡ s
-  space-ends p t y = skips-same (landed quote quote-blank p (segment-begins t)) y
-
-  further-rest : {i s k : ℕ} → Skips text i s → Takes text further i k → Takes text segment s k
-  further-rest y (both p t) = starting (space-ends p t y) t
-
-  further-single : Single text further
-  further-single = record { same = go }
-    where
-      go : {i j k : ℕ} → Takes text further i j → Takes text further i k → j ≡ k
-      go (both p t) u = segment-single .same t (further-rest (landed quote quote-blank p (segment-begins t)) u)
-
   further-strict : Strict text further
   further-strict = strict-of further refl
 
-  among-takes : {r : Rule} {P : ℕ → ℕ → Type 0} {i j : ℕ} → Among text r P i j → Takes text (many r) i j
-  among-takes a = join (a .before) (more (a .match) (a .behind))
-
-  bad-takes : {i j : ℕ} → BadSegment text i j → Takes text segment i j
-  bad-takes b = go (b .before) (among-takes (b .content)) (b .behind)
-    where
-      go : {i s e j : ℕ} → Takes text (lit "\"\\") i s → Takes text (many item) s e → Takes text (lit "\"") e j → Takes text segment i j
-      go (both q w) t z = both q (both (right (both w t)) z)
-
   bad-further : {i s j : ℕ} → Skips text i s → BadFurther text i j → BadSegment text s j
   bad-further {j = j} y b =
-      subst (λ (x : ℕ). BadSegment text x j) (space-ends (b .before) (bad-takes (b .bad)) y) (b .bad)
+      subst (λ (x : ℕ). BadSegment text x j) (space-ends text (b .before) (bad-takes text (b .bad)) y) (b .bad)
 
   further-judged : (i s : ℕ) (r : Literal) → Skips text i s → Judges text segment (BadSegment text) s r → Judges text further (BadFurther text) i r
   further-judged i s (Literal.the-variants.At j bad) p y = (
-    record { takes = both (p .takes) (y .0 .takes); most = λ t. y .0 .most (further-rest p t) },
+    record { takes = both (p .takes) (y .0 .takes); most = λ t. y .0 .most (further-rest text p t) },
     record {
       true-holds = λ e. record { start = s; before = p .takes; bad = y .1 .true-holds e };
       holds-true = λ b. y .1 .holds-true (bad-further p b);
     },
   )
-  further-judged i s Literal.the-variants.Nothing p f = record { none = λ t. f .none (further-rest p t) }
+  further-judged i s Literal.the-variants.Nothing p f = record { none = λ t. f .none (further-rest text p t) }
 
   -- ---- the text
 
@@ -197,22 +147,22 @@ module _ (text : List ℕ) where
 
   module _ {i m : ℕ} (first : Takes text segment i m) where
     first-same : {k : ℕ} → Takes text segment i k → k ≡ m
-    first-same t = segment-single .same t first
+    first-same t = segment-single text .same t first
 
     quoted-ends : {j : ℕ} → Takes text (many further) m j → Fails text further j → Longest text quoted i j
     quoted-ends {j} c f = record { takes = both first c; most = go }
       where
         go : {k : ℕ} → Takes text quoted i k → k ≤ j
-        go (both t u) = forward (reaches further-single c f (starting (first-same t) u))
+        go (both t u) = forward (reaches (further-single text) c f (starting (first-same t) u))
 
     -- nothing but the first segment
     first-said : {b : Bool} → Says b (BadSegment text i m) → Says b (BadQuoted text i m)
     first-said {b} y = record { true-holds = λ e. inFirst (y .true-holds e) (stop refl); holds-true = λ q. go q refl }
       where
         go : {k : ℕ} → BadQuoted text i k → k ≡ m → b ≡ true
-        go (inFirst s t) e = y .holds-true (place (BadSegment text) refl (first-same (bad-takes s)) s)
+        go (inFirst s t) e = y .holds-true (place (BadSegment text) refl (first-same (bad-takes text s)) s)
         go (inFurther t a) e =
-            absurd (none-among text further (BadFurther text) further-single further-strict
+            absurd (none-among text further (BadFurther text) (further-single text) further-strict
             (place (Among text further (BadFurther text)) (first-same t) e a))
 
     -- one more segment
@@ -225,10 +175,10 @@ module _ (text : List ℕ) where
         more-bad (inFurther x a) s = inFurther x (kept a s)
 
         back : BadQuoted text i k → (b || c) ≡ true
-        back (inFirst x u) = or-left b c (y .holds-true (inFirst (place (BadSegment text) refl (first-same (bad-takes x)) x) t))
+        back (inFirst x u) = or-left b c (y .holds-true (inFirst (place (BadSegment text) refl (first-same (bad-takes text x)) x) t))
         back (inFurther x a) =
             ⊎-elim (λ p. or-left b c (y .holds-true (inFurther first p))) (λ p. or-right b c (z .holds-true p))
-            (which text further (BadFurther text) further-single further-strict t s
+            (which text further (BadFurther text) (further-single text) further-strict t s
             (place (Among text further (BadFurther text)) (first-same x) refl a))
 
   pub segment-strict : Strict text segment

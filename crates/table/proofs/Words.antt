@@ -1,6 +1,6 @@
 -- The words of nodes. Assumes nothing.
-use mathlib.Core.Path.{_≡_, refl, sym, ap, _∙_}
-use mathlib.Core.List.{List, [], _∷_, _++_, append-assoc}
+use mathlib.Core.Path.{_≡_, refl, ap, _∙_}
+use mathlib.Core.List.{List, [], _∷_, _++_}
 use Prim.Native.Nat.{ℕ, _+_, _*_, _≤_}
 use native.Mathlib.Omega.{arith}
 use lib.ListN.{length, set}
@@ -8,10 +8,6 @@ use Rattle.rules.proofs.Over.{set-behind}
 use Rattle.grammar.specs.Nodes.{Node, Role, words, nodeWords, tableWords, roleNumber}
 use Rattle.moves.specs.Means.{roled}
 use Rattle.table.specs.Over.{roleWord}
-
-pub tableWords-append : (ns ms : List Node) → tableWords (ns ++ ms) ≡ tableWords ns ++ tableWords ms
-tableWords-append [] ms = refl
-tableWords-append (n ∷ ns) ms = ap (λ (l : List ℕ). words n ++ l) (tableWords-append ns ms) ∙ sym (append-assoc (words n) (tableWords ns) (tableWords ms))
 
 pub roled-length : (r : Role) (ns : List Node) → length (roled r ns) ≡ length ns
 roled-length r [] = refl

@@ -8,13 +8,13 @@ use lib.ListN.{length, set, drop, length-append}
 use Rattle.rules.specs.Over.{over}
 use Rattle.rules.proofs.Over.{over-nothing, over-append, over-swap, over-set, over-start}
 use Rattle.grammar.specs.Nodes.{Node, words, nodeWords, tableWords, roleNumber}
-use Rattle.grammar.proofs.NodeLaws.{tableWords-length}
+use Rattle.grammar.proofs.NodeLaws.{tableWords-length, tableWords-append}
 use Rattle.moves.specs.declared.Role.{Role}
 use Rattle.moves.specs.declared.Role.the-variants as Role
 use Rattle.moves.specs.Means.{roleOf, roled}
 use Rattle.table.specs.declared.Entry.{Entry}
 use Rattle.table.specs.Over.{roleWord, entryWords, Tells, Stored, Put, Assigned, Written}
-use Rattle.table.proofs.Words.{tableWords-append, roled-length, roled-words}
+use Rattle.table.proofs.Words.{roled-length, roled-words}
 use Rattle.table.proofs.Stores.{root-number, number-root}
 
 -- the words that the code has are the node's

@@ -21,13 +21,14 @@ use Rattle.lexicon.proofs.Spaces.{byte-single, skips-same}
 use Rattle.lexicon.proofs.Marks.{angle-most}
 use Rattle.text_value.specs.declared.quoted.Meaning.{Meaning}
 use Rattle.lexicon.specs.Encode.{encode}
+use Rattle.lexicon.proofs.Segments.{quote-not}
 use Rattle.text_value.specs.Letters.{NoMeaning, Means}
 use Rattle.text_value.specs.Parts.{CodeIs, Stands, Wrote, HasQuoted, WroteQuoted}
 use Rattle.values.specs.QuotedBytes.{quote, backslash, notQuote, other, Angled, Item, itself, letter, number, Unescapes}
 use Rattle.values.specs.QuotedBytes.{closed, Copies, SegmentBytes, plain, escaped, QuotedBytes, last}
 use Rattle.values.specs.QuotedBytes as Bytes
 use Rattle.values.proofs.Shapes.{code-takes}
-use Rattle.values.proofs.Spelled.{quote-not, letter-angle, other-backslash, clash, item-same, item-quote, item-short}
+use Rattle.values.proofs.Spelled.{letter-angle, other-backslash, clash, item-same, item-quote, item-short}
 use Rattle.values.proofs.Spelled.{segment-begins, segment-same, segment-short, no-further}
 use Rattle.buffer.specs.Puts.{largest, Puts}
 use Rattle.buffer.proofs.Puts.{puts-then, puts-none, puts-same}

@@ -13,6 +13,7 @@ use Rattle.lexicon.specs.declared.Sign.the-variants as Sign
 use Rattle.lexicon.specs.declared.Kind.{Kind}
 use Rattle.lexicon.specs.declared.Kind.the-variants as Kind
 use Rattle.lexicon.specs.declared.Token as Token
+use Rattle.lexicon.proofs.Pieces.{token-bounds}
 use Rattle.grammar.specs.Tokens
 use Rattle.grammar.specs.Tokens.{Span, Mark, Class, classKind}
 use Rattle.grammar.specs.Tree as Tree
@@ -47,7 +48,6 @@ use Rattle.level.specs.Levels.{Collects}
 use Rattle.begin.specs.Signs.{literal}
 use Rattle.begin.specs.Begins.{Deeper, Begins, aLiteral, aName, aMark, aLater, curly, square, squareNewer, headed, headNewer, round}
 use Rattle.tree.specs.Readers.{spanOf, opened, Stands, Faulty, Asks}
-use Rattle.look.proofs.Bounds.{token-bounds}
 
 module _ (text : List ℕ) where
   -- what comes behind `(`; from where another bracket is read on

@@ -11,6 +11,7 @@ use Rattle.lexicon.specs.declared.Form.the-variants as Form
 use Rattle.lexicon.specs.declared.Kind.{Kind}
 use Rattle.lexicon.specs.declared.Kind.the-variants as Kind
 use Rattle.lexicon.specs.declared.Token as Token
+use Rattle.lexicon.proofs.Pieces.{token-bounds}
 use Rattle.grammar.specs.Tokens
 use Rattle.grammar.specs.Tokens.{Span, Wording, wording, Class, classKind}
 use Rattle.grammar.specs.Tree
@@ -36,7 +37,6 @@ use Rattle.look.specs.Looks.{NotNext}
 use Rattle.tree.specs.Readers.{spanOf, Stands, Faulty, Asks, Nesting}
 use Rattle.look.specs.Names.{ColonsHere, NameNext, NameHere, OtherHere, BadHere, namelessBy}
 use Rattle.look.proofs.Naming.{name-bounds}
-use Rattle.look.proofs.Bounds.{token-bounds}
 
 -- ---- spans
 

@@ -15,6 +15,7 @@ use Rattle.lexicon.specs.declared.Head.{Head}
 use Rattle.lexicon.specs.declared.Token as Token
 use Rattle.lexicon.specs.declared.Next.the-variants as Next
 use Rattle.lexicon.specs.Token.{Comes}
+use Rattle.lexicon.proofs.Pieces.{token-bounds}
 use Rattle.grammar.specs.Tokens
 use Rattle.grammar.specs.Tokens.{Mark, Class, classKind}
 use Rattle.grammar.specs.Tree
@@ -64,7 +65,6 @@ use Rattle.begin.specs.Begins.{Begins as Starts}
 use Rattle.begin.proofs.Signs.{close-class}
 use Rattle.tree.specs.Readers.{spanOf, opened, Fit, Sized, Inner, Turned, Born, Stands, Faulty, Asks, IsValue, Outcome, Reads, Holds, Turns, Bore, Member, Bracketed, Rounded, entering, signs, Ends, Alone, Slim, Literal, Nesting, Taken}
 use Rattle.tree.specs.Turning.{Narrow, Outer}
-use Rattle.look.proofs.Bounds.{token-bounds}
 use Rattle.tree.proofs.Beginning.{From, Entered, Begun, begins-so}
 use Rattle.tree.proofs.Turns.{isBare}
 

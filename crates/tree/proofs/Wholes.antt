@@ -12,6 +12,7 @@ use Rattle.lexicon.specs.declared.Encoding.the-variants as Encoding
 use Rattle.lexicon.specs.Utf8.{WellFormed, BadAt, Encoded}
 use Rattle.lexicon.specs.Front.{Front}
 use Rattle.lexicon.specs.Token.{Comes}
+use Rattle.lexicon.proofs.Pieces.{token-bounds}
 use Rattle.grammar.specs.Tokens
 use Rattle.grammar.specs.Tokens.{Span, Class, classKind}
 use Rattle.grammar.specs.Tree.{Value}
@@ -45,7 +46,6 @@ use Rattle.look.proofs.Looking.{got-token}
 use Rattle.level.specs.Levels.{LevelFound, unleveledBy}
 use Rattle.tree.specs.Readers.{spanOf, Faulty, Fit, IsValue, Outcome, Reads}
 use Rattle.tree.specs.Whole.{Whole, JudgedAs, Judged, Told, refusal}
-use Rattle.look.proofs.Bounds.{token-bounds}
 use Rattle.tree.proofs.Readings.{refused-here}
 
 -- what the room holds are words of the table

@@ -7,18 +7,17 @@ use native.Mathlib.Omega.{arith}
 use lib.ListN.{length, getD}
 use Rattle.rules.specs.Rule.{one, many, At, Takes, byte, both, stop, more}
 use Rattle.rules.proofs.Bounds.{allOf, all-of}
-use Rattle.rules.proofs.Classes.{apart, apartSpan, includes, inSome, in-high}
+use Rattle.rules.proofs.Classes.{includes, inSome, in-high}
 use Rattle.rules.proofs.Chains.{join}
 use Rattle.rules.proofs.Matches.{forward, starting, move-at}
-use Rattle.rules.proofs.Ways.{never}
 use Rattle.lexicon.specs.Literals.{unescaped, restricted, word}
-use Rattle.lexicon.specs.Space.{blank}
 use Rattle.lexicon.specs.Values.{read, Letter, CodeOf, Plain, Escaped, Row, done, Segment, Quoted, lastSegment, nextSegment}
 use Rattle.lexicon.specs.Values as Values
 use Rattle.lexicon.specs.Bad.{Scalar}
 use Rattle.lexicon.proofs.Formed.{ascii}
 use Rattle.lexicon.proofs.Spaces.{landed}
 use Rattle.lexicon.specs.Encode.{encode, encoded}
+use Rattle.lexicon.proofs.Segments.{quote-blank}
 use Rattle.values.specs.QuotedBytes.{quote, backslash, notQuote, other, itself, letter, number, Unescapes, closed, SegmentBytes, plain}
 use Rattle.values.specs.QuotedBytes.{escaped, QuotedBytes, last}
 use Rattle.values.specs.QuotedBytes as Bytes
@@ -59,10 +58,6 @@ unescaped-bytes = refl
 word-bytes : allOf ascii word ≡ true
 unfolding includes inSome
 word-bytes = refl
-
-quote-blank : never quote blank ≡ true
-unfolding never apart apartSpan
-quote-blank = refl
 
 letter-low : {x c : ℕ} → Letter x c → c < 0x80
 letter-low Letter.quotationMark = omega arith

@@ -11,7 +11,7 @@ use Rattle.rules.specs.Rule.{one, plus, At, Takes, byte, both, stop, more, Fail
 use Rattle.rules.proofs.Classes.{apart, apartSpan, apart-no, just-is, inSome, includes, includes-in, in-high}
 use Rattle.rules.proofs.Chains.{longest}
 use Rattle.rules.proofs.Matches.{forward, move-at, longest-same}
-use Rattle.rules.proofs.Ways.{never, begins-none}
+use Rattle.rules.proofs.Ways.{begins-none}
 use Rattle.lexicon.specs.declared.Base.{Base}
 use Rattle.lexicon.specs.declared.Base.the-variants.{Two, Eight, Ten, Sixteen}
 use Rattle.lexicon.specs.Bytes.{digits, radix}
@@ -22,6 +22,7 @@ use Rattle.lexicon.proofs.Formed.{ascii}
 use Rattle.lexicon.proofs.Groups.{read-length}
 use Rattle.lexicon.proofs.Marks.{marked, mark-long, first-digit, angle-same}
 use Rattle.lexicon.specs.Encode.{two, three, four, encode}
+use Rattle.lexicon.proofs.Segments.{quote-not}
 use Rattle.values.specs.QuotedBytes.{quote, backslash, notQuote, other, Angled, Item, itself, letter, number, Unescapes, closed, Copies}
 use Rattle.values.specs.QuotedBytes.{SegmentBytes, plain, escaped, QuotedBytes, last}
 use Rattle.values.specs.QuotedBytes as Bytes
@@ -41,10 +42,6 @@ other-quote = refl
 quote-backslash : apart quote backslash ≡ true
 unfolding apart apartSpan
 quote-backslash = refl
-
-pub quote-not : never quote (one notQuote) ≡ true
-unfolding never apart apartSpan
-quote-not = refl
 
 -- a letter stands for one character, and none of them is an angle
 abbrev character : ℕ → ℕ

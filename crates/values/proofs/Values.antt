@@ -8,9 +8,8 @@ use native.Mathlib.Decide.{decLe}
 use native.Mathlib.Omega.{arith}
 use lib.ListN.{getD}
 use Rattle.rules.specs.Class.{In, just, anyOf}
-use Rattle.rules.specs.Rule.{_then_, _or_, many, opt, lit, At, Takes, nothing, byte, both, left, right, stop, more, Among}
+use Rattle.rules.specs.Rule.{_then_, _or_, many, opt, At, Takes, nothing, byte, both, left, right, stop, more, Among}
 use Rattle.rules.proofs.Classes.{apart, apartSpan, apart-no, just-is, in-cons}
-use Rattle.rules.proofs.Chains.{join}
 use Rattle.rules.proofs.Matches.{move-at}
 use Rattle.rules.proofs.Ways.{never, never-takes, begins-within}
 use Rattle.lexicon.specs.declared.Base.{Base}
@@ -20,6 +19,7 @@ use Rattle.lexicon.specs.Values.{Letter, CodeOf, Plain, Escaped, Row, done, Seg
 use Rattle.lexicon.specs.Values as Values
 use Rattle.lexicon.specs.Bad.{Scalar, BadEscape, BadSegment, BadFurther, BadQuoted, inFirst, inFurther}
 use Rattle.lexicon.proofs.Bases.{some-base}
+use Rattle.lexicon.proofs.Segments.{bad-takes}
 use Rattle.values.specs.QuotedBytes.{quote, backslash}
 use Rattle.values.proofs.Characters.{Scalars, scalars-both}
 use Rattle.values.proofs.Sequences.{unescaped-written, restricted-written}
@@ -146,13 +146,6 @@ module _ (piece : List ℕ) where
   segment-takes (Segment.plain a n (Values.next (Plain.itself (right (byte b e))) r) z) = absurd (n (b .1))
   segment-takes (Segment.escaped (both a b) r z) = both a (both (right (both b (escaped-takes r))) z)
 
-  bad-takes : {i j : ℕ} → BadSegment piece i j → Takes piece segment i j
-  bad-takes b = go (b .before) (join (b .content .before) (more (b .content .match) (b .content .behind))) (b .behind)
-    where
-      go : {i s e j : ℕ} → Takes piece (lit "\"\\") i s → Takes piece (many (unescaped or escape)) s e → Takes piece (lit "\"") e j →
-          Takes piece segment i j
-      go (both q w) t z = both q (both (right (both w t)) z)
-
   further-takes : {i k j : ℕ} {cs : List ℕ} → Takes piece (opt sp) i k → Quoted piece k j cs → Takes piece (many (opt sp then segment)) i j
   further-takes p (lastSegment s) = more (both p (segment-takes s)) (stop refl)
   further-takes p (nextSegment s q u) = more (both p (segment-takes s)) (further-takes q u)
@@ -205,7 +198,7 @@ module _ (piece : List ℕ) where
     where
       behind : BadQuoted piece k j → Among piece (opt sp then segment) (BadFurther piece) m j
       behind (inFirst b t) =
-          record { from = m; upto = _; before = stop refl; match = both p (bad-takes b); holds = record { start = k; before = p; bad = b }; behind = t }
+          record { from = m; upto = _; before = stop refl; match = both p (bad-takes piece b); holds = record { start = k; before = p; bad = b }; behind = t }
       behind (inFurther t a) =
           record { from = a .from; upto = a .upto; before = more (both p t) (a .before); match = a .match; holds = a .holds; behind = a .behind }
 

@@ -1,7 +1,8 @@
 -- `look::head::head_at` meets its contract. Assumes nothing.
 use mathlib.Core.Path.{ap, _∙_}
 use Rattle.lexicon.specs.declared.Kind.the-variants as Kind
-use Rattle.look.proofs.Looking.{no-text, not-head, not-colon, got-token, got-none, headless, no-word, no-sign, no-colon, head-here}
+use Rattle.lexicon.proofs.Variants.{no-text, not-head, not-colon}
+use Rattle.look.proofs.Looking.{got-token, got-none, headless, no-word, no-sign, no-colon, head-here}
 use borrow.Author.Needs.{needs}
 use Rattle.look.proofs.head.head_at.Statement.{statement}
 use Rattle.look.proofs.head.head_at.Tie as tie

@@ -1,5 +1,5 @@
 -- `look::names::name` meets its contract: the Text that comes next ends there, or why none is taken. Assumes nothing.
-use Rattle.look.proofs.Looking.{no-text}
+use Rattle.lexicon.proofs.Variants.{no-text}
 use Rattle.look.proofs.Naming.{unnamed-next, name-other, name-bad, name-good}
 use borrow.Author.Needs.{needs}
 use Rattle.look.proofs.names.name.Statement.{statement}

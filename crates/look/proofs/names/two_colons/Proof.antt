@@ -2,7 +2,7 @@
 use mathlib.Core.Path.{refl, subst}
 use Rattle.lexicon.specs.declared.Next.{Next}
 use Rattle.lexicon.specs.Token.{Comes}
-use Rattle.look.proofs.Looking.{no-token, no-colons}
+use Rattle.lexicon.proofs.Variants.{no-token, no-colons}
 use Rattle.look.proofs.Naming.{other-next, other-kind}
 use borrow.Author.Needs.{needs}
 use Rattle.look.proofs.names.two_colons.Statement.{statement}

@@ -16,7 +16,8 @@ use Rattle.rules.proofs.Tests.{there, not-there}
 use Rattle.string.proofs.Among.{none-said, said}
 use Rattle.rules.proofs.Ways.{begins-within}
 use Rattle.rules.proofs.Closed.{never-closes}
-use Rattle.string.proofs.Items.{quote, quote-item, item-single, item-strict}
+use Rattle.lexicon.proofs.Segments.{quote}
+use Rattle.string.proofs.Items.{quote-item, item-single, item-strict}
 use Rattle.string.proofs.Segments.{plain-items, plain-said, rest-judged}
 use Rattle.lexicon.proofs.Answers.{judged-at, judged-none}
 use Rattle.string.proofs.segment.escaped.Statement.{statement}

@@ -13,7 +13,8 @@ use Rattle.lexicon.proofs.Answers.{found-at, found-none}
 use Rattle.rules.proofs.Tests.{there, not-there}
 use Rattle.rules.proofs.Ways.{begins-within}
 use Rattle.rules.proofs.Closed.{closes, never-closes}
-use Rattle.string.proofs.Items.{quote, quote-restricted, restricted-single, restricted-strict}
+use Rattle.lexicon.proofs.Segments.{quote}
+use Rattle.string.proofs.Items.{quote-restricted, restricted-single, restricted-strict}
 use Rattle.string.proofs.segment.plain.Statement.{statement}
 use Rattle.string.proofs.segment.plain.Tie as tie
 

@@ -5,7 +5,7 @@ use lib.ListN.{length}
 use mathlib.Core.Path.{sym, _∙_}
 use native.Mathlib.Omega.{arith}
 use borrow.Author.Needs.{needs}
-use Rattle.look.proofs.Bounds.{token-bounds}
+use Rattle.lexicon.proofs.Pieces.{token-bounds}
 use Rattle.look.proofs.Looking.{got-token}
 use Rattle.tree.proofs.Readings.{leftAt, rank-falls, byte-falls, inner-fit, fit-slim, enters-at, start-inner, first-inner, begin-from, begin-got, turn-narrow, turn-outer, child-fit, signs-told, value-sized, value-leaf, value-names, value-round, value-bracket, value-refused, round-missing, round-bracket, first-refused, first-open, first-group, first-bracket, child-refused, child-on, member-missing, member-taken, member-child, Going, going-starts, going-less, going-on, going-ends}
 use borrow.Fn.Kinds.{In}
