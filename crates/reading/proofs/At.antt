@@ -175,7 +175,7 @@ opens-good later e = absurd (false≢true e)
 
 -- ---- open brackets
 
-openFrom-one : (n : ℕ) (ts : List Tok) (t : Tok) → openFrom n (ts ++ (t ∷ [])) ≡ openBehind (t .class) (openFrom n ts)
+pub openFrom-one : (n : ℕ) (ts : List Tok) (t : Tok) → openFrom n (ts ++ (t ∷ [])) ≡ openBehind (t .class) (openFrom n ts)
 openFrom-one n [] t = refl
 openFrom-one n (u ∷ ts) t = openFrom-one (openBehind (u .class) n) ts t
 

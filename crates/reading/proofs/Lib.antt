@@ -4,7 +4,11 @@ pub mod Rows
 pub mod First
 pub mod Unique
 pub mod Numbers
+pub mod Found
+pub mod Tabled
+pub mod Buffer
 pub mod Decide
+pub mod Derived
 pub mod Stands
 pub mod At
 pub mod Agree

@@ -3,5 +3,8 @@ pub mod Sizes
 pub mod Tokens
 pub mod Tests
 pub mod Faults
+pub mod Derived
 pub mod Answers
+pub mod Tabled
+pub mod Buffer
 pub mod Agree
