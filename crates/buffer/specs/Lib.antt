@@ -1,2 +1,3 @@
 -- Bytes put into a lent buffer.
 pub mod Puts
+pub mod Wrote
