@@ -5,4 +5,6 @@ pub mod Pieces
 pub mod Demands
 pub mod Blobs
 pub mod Higher
+pub mod Plain
+pub mod Alike
 pub mod Requests

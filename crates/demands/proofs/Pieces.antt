@@ -46,7 +46,8 @@ use Rattle.values.specs.Text.{textCall}
 use Rattle.values.specs.Bits.{bitsCall}
 use Rattle.values.specs.Blob.{blobCall}
 use Rattle.values.proofs.Shapes.{quoted-good, word-good, code-good}
-use Rattle.demands.specs.Derived.{Derived, Shows}
+use Rattle.reading.specs.Derived.{Derived}
+use Rattle.demands.specs.Derived.{Shows}
 use Rattle.demands.proofs.Derived.{decides}
 use Rattle.demands.specs.Pieces.{piece, Lone, GivesInteger, GivesBytes, Gives, NodePiece, Pieces}
 

@@ -5,7 +5,7 @@ use mathlib.Core.List.{List}
 use mathlib.Core.Option.{Option}
 use Prim.Native.Nat.{ℕ}
 use native.Mathlib.Omega.{arith}
-use lib.ListN.{drop}
+use lib.ListN.{length, drop}
 use Rattle.lexicon.specs.Utf8.{BadAt}
 use Rattle.lexicon.proofs.Determined.{formed-or-bad, one-bad}
 use Rattle.lexicon.proofs.Steps as Steps
@@ -13,6 +13,8 @@ use Rattle.lexicon.proofs.Unfit.{bad-no-bytes, no-bytes-only}
 use Rattle.grammar.specs.Tree.{Value}
 use Rattle.reading.specs.declared.Answer.{Answer}
 use Rattle.reading.specs.declared.Rules.{Rules}
+use Rattle.reading.specs.Sizes.{room}
+use Rattle.reading.specs.Tabled.{Tabled}
 use Rattle.reading.specs.Answers.{Reading, noLevel, tooLong, notUtf8, faulty, noRoom, accepted}
 use Rattle.reading.proofs.Numbers.{fault-number}
 use Rattle.values.specs.declared.IntegerAnswer.{IntegerAnswer}
@@ -30,10 +32,17 @@ use Rattle.files.proofs.Room.{reader-eight}
 use Rattle.files.proofs.SixteenBits.{row-fits}
 use Rattle.files.proofs.ReadBack.{one-row}
 use Rattle.files.proofs.AsRead.{stored-as-read}
+use Rattle.reading.proofs.Tabled.{one-tabled}
+use Rattle.form.proofs.Answers as Plain
+use Rattle.form.proofs.Rereads.{reread-at}
+use Rattle.form.proofs.Spellable as Spellable
 use Rattle.demands.specs.Requests.{OneTest, PlainSteps, SameRefusal, SameRefusals, Padding, OneFive, FiveInside, OneWrite, OneCheck, TextUnseen, AcceptsExactly, WrittenAccepted, RoomEnough, OneFile, SixteenBits, SameNumbers, AsRead}
+use Rattle.demands.specs.Requests.{OneJudgement, ChangedTable, OnePlain, NothingWritten, PlainRoom, WrittenReadsBack, AlsoWithoutArrow, EndsAlike, EveryRowSpelled}
 use Rattle.demands.proofs.Exists.{some-reading}
 use Rattle.demands.proofs.Higher.{at-level-2}
 use Rattle.demands.proofs.Blobs.{from-reader, from-call, inside}
+use Rattle.demands.proofs.Plain.{by-reading, reader-own, written-back}
+use Rattle.demands.proofs.Alike.{written-alike}
 
 -- ---- 2. The steps of the UTF-8 test
 
@@ -162,3 +171,41 @@ pub as-read : AsRead
 as-read rules text bytes lent left level r s c z a e =
     let k = stored-as-read rules text (Exactly.accepted-stored rules text c z) (at-level-2 rules text lent a e) e in
     record { so-long = k .0; nodes-at-5 = k .1; length-at-7 = k .2; words-from-9 = k .3 }
+
+-- ---- 5. The plain form
+
+-- every text with its table is judged
+some-tabled : (rules : Rules) (text words : List ℕ) (level : ℕ) → (r : Answer) × (t : Option Value) × Tabled rules text words level r t
+some-tabled rules text words level = let x = some-reading rules text (room rules (length words)) level in Plain.some-tabled rules text words (x .1) (x .2)
+
+pub one-judgement : OneJudgement
+one-judgement rules text words level =
+    let x = some-tabled rules text words level in
+    (x .0, record { tree = x .1; tabled = x .2 }, λ s j. one-tabled rules text words (x .2) (j .tabled) .0)
+
+pub changed-table : ChangedTable
+changed-table rules text words left level a r x j = by-reading rules text words level (x .tree) left (x .reading) (x .left-is) (j .tabled)
+
+pub one-plain : OnePlain
+one-plain rules text words lent level =
+    let x = some-tabled rules text words level in
+    let y = Plain.some-writing rules text words lent (x .1) (x .2) in
+    (y .0, y .1, y .2, λ s u w. Plain.one-writing rules text words lent (y .2) w)
+
+pub nothing-written : NothingWritten
+nothing-written rules text words lent left level r w n = Plain.nothing-written rules text words lent w n
+
+pub plain-room : PlainRoom
+plain-room rules text words lent left level r h w e = reader-own rules text words level (omega (arith, h)) w e
+
+pub reads-back : WrittenReadsBack
+reads-back rules text words lent left level r w e h = written-back rules text words level w e (omega (arith, h))
+
+pub reread : AlsoWithoutArrow
+reread limits text l m v a w = reread-at limits l text v a m w
+
+pub ends-alike : EndsAlike
+ends-alike rules text words lent left level other space r a b t u w e h x y = written-alike rules text words w e h x y
+
+pub spellable : EveryRowSpelled
+spellable l v k = Spellable.spellable l v k

@@ -2,43 +2,18 @@
 -- it has a bad value and it keeps the size rules there. The node table is that derivation, node for node.' Said without
 -- the order in which a reader meets the tokens; proofs/Derived.antt proves it of the answers. Assumes nothing.
 use mathlib.Core.Path.{_≡_}
-use mathlib.Core.Bool.{true}
-use mathlib.Core.List.{List, [], _++_}
+use mathlib.Core.List.{List, _++_}
 use Prim.Native.Nat.{ℕ, _*_, _≤_}
 use lib.ListN.{length, drop}
-use Rattle.lexicon.specs.declared.Token as Token
-use Rattle.lexicon.specs.declared.Next.the-variants as Next
 use Rattle.lexicon.specs.Utf8.{WellFormed}
-use Rattle.lexicon.specs.Front.{Front}
-use Rattle.lexicon.specs.Token.{Bad, Comes}
-use Rattle.grammar.specs.Tokens.{Tok}
 use Rattle.grammar.specs.Tree.{Value}
-use Rattle.grammar.specs.Yield.{yieldValue}
-use Rattle.grammar.specs.Level.{Level, keeps}
+use Rattle.grammar.specs.Level.{Level}
 use Rattle.grammar.specs.Nodes.{table, tableWords, nodeWords}
 use Rattle.reading.specs.declared.Answer.{Answer}
-use Rattle.reading.specs.declared.Limits.{Limits}
 use Rattle.reading.specs.declared.Rules.{Rules}
 use Rattle.reading.specs.Sizes.{room}
-use Rattle.reading.specs.Tokens.{Follow, opened}
+use Rattle.reading.specs.Derived.{Derived}
 use Rattle.reading.specs.Answers.{LevelOf}
-
--- the tree derives the text at the level, no literal has a bad value, and never are too many brackets open
-pub record Derived (limits : Limits) (l : Level) (bytes : List ℕ) (v : Value) : Type 0 where
-  -- the tree has forms of the level only
-  pub of-level : keeps l v ≡ true
-  -- from the front to the end the tokens of the text are those of the tree
-  pub start : ℕ
-  pub front : Front bytes start
-  pub end : ℕ
-  pub row : Follow bytes start (yieldValue v []) end
-  pub at-end : Comes bytes end (Next.End (length bytes))
-  -- no literal in it has a bad value, whatever row of tokens from the front it stands behind
-  pub sound : {before : List Tok} {p : ℕ} {t : Token.Token} → Follow bytes start before p →
-      Comes bytes p (Next.Token t) →
-      Bad bytes (t .kind) (t .first) (t .end) → ⊥
-  -- with whatever tokens the tree begins, no more brackets are open behind them than the size allows
-  pub shallow : (before behind : List Tok) → before ++ behind ≡ yieldValue v [] → opened before ≤ limits .depth
 
 module _ (rules : Rules) (bytes lent : List ℕ) where
   -- all that acceptance asks: a level's number, a text that is UTF-8 and not too long, its derivation, and room for the

@@ -2,8 +2,9 @@
 -- Each promise is a statement here, and proofs/Requests.antt proves it under the name beside it. Assumes nothing.
 use mathlib.Core.Path.{_≡_}
 use mathlib.Core.Logic.{_⊎_}
-use mathlib.Core.List.{List, _++_}
-use mathlib.Core.Option.{none, some}
+use mathlib.Core.Bool.{true}
+use mathlib.Core.List.{List, _++_, map}
+use mathlib.Core.Option.{Option, none, some}
 use Prim.Native.Nat.{ℕ, _+_, _*_, _/_, _%_, _^_, _≤_, _<_}
 use lib.ListN.{length, getD, take, drop}
 use Rattle.rules.specs.Every.{Every}
@@ -15,11 +16,14 @@ use Rattle.lexicon.specs.Values.{Behind}
 use Rattle.lexicon.specs.Padding.{BadBase64}
 use Rattle.lexicon.specs.Token.{Is, Bad}
 use Rattle.grammar.specs.Tree.{Value}
-use Rattle.grammar.specs.Level.{Level}
-use Rattle.grammar.specs.Nodes.{nodeWords}
+use Rattle.grammar.specs.Level.{Level, _Within_, keeps}
+use Rattle.grammar.specs.Nodes.{nodeWords, table, tableWords}
 use Rattle.reading.specs.declared.Answer.{Answer}
+use Rattle.reading.specs.declared.Limits.{Limits}
 use Rattle.reading.specs.declared.Rules.{Rules}
-use Rattle.reading.specs.Answers.{LevelOf, answer, Answers}
+use Rattle.reading.specs.Sizes.{room}
+use Rattle.reading.specs.Answers.{LevelOf, answer, Accepted, Reading, Answers}
+use Rattle.reading.specs.Tabled.{Holds, Tabled, Judges}
 use Rattle.values.specs.declared.IntegerAnswer.{IntegerAnswer}
 use Rattle.values.specs.Integer.{IntegerAnswers}
 use Rattle.values.specs.Exactly.{Exactly}
@@ -29,6 +33,10 @@ use Rattle.values.specs.Utf8.{Utf8Answers}
 use Rattle.files.specs.File.{number, row, file}
 use Rattle.files.specs.Writes.{Read, Writes}
 use Rattle.files.specs.Checks.{Checks}
+use Rattle.form.specs.Turn.{turn, unspelled}
+use Rattle.form.specs.Writes as Plain
+use Rattle.form.specs.Reread.{arrowless, Reread}
+use Rattle.form.specs.Spellable.{Spellable}
 
 -- ---- 2. 'The UTF-8 test takes eight plain ASCII bytes in one step wherever eight come next, else one sequence, and
 -- also hands back the steps taken up to its place: for n bytes, all plain ASCII, n / 8 rounded down plus the remainder.
@@ -175,3 +183,90 @@ abbrev pub AsRead : Type 0
 AsRead =
     (rules : Rules) (text bytes lent left : List ℕ) (level : ℕ) (r s : Answer) → Checks rules text bytes r →
     r .number ≡ 0 → Answers rules text lent level s left → s .number ≡ 0 → Keeps text left (s .count) bytes
+
+-- ---- 5. 'From a level, a text and its table, write the plain form … The reader's refusals come first, room judged by
+-- that table; then a table whose first words aren't what the reading writes is 14 at 0; then no room is 8 with the
+-- bytes needed. Nothing is written under any of them; accepted, count is the bytes written. Where the output keeps the
+-- text size, reading it gives the same nodes in all but first and last bytes, the order of this and that (with the node
+-- and parent indices that follow from it), roles 2 and 3 taken as one, and a Text's detail. Writing that again gives
+-- the same bytes.'
+
+-- judging a text with its table has an answer, and no other: `one-judgement`
+abbrev pub OneJudgement : Type 0
+OneJudgement =
+    (rules : Rules) (text words : List ℕ) (level : ℕ) →
+    (r : Answer) × Judges rules text words level r × ((s : Answer) → Judges rules text words level s → r ≡ s)
+
+-- 'a table whose first words aren't what the reading writes is 14': it is 14 just where a reading into the table would
+-- change it, and else the reading's answer: `changed-table`
+abbrev pub ChangedTable : Type 0
+ChangedTable =
+    (rules : Rules) (text words left : List ℕ) (level : ℕ) (a r : Answer) → Answers rules text words level a left →
+    Judges rules text words level r → (left ≡ words → r ≡ a) × ((left ≡ words → ⊥) → r ≡ answer 14 0 0)
+
+-- the writer has an answer for every level number, text, table and buffer, and no other: `one-plain`
+abbrev pub OnePlain : Type 0
+OnePlain =
+    (rules : Rules) (text words lent : List ℕ) (level : ℕ) →
+    (r : Answer) × (left : List ℕ) × Plain.Writes rules text words lent level r left ×
+    ((s : Answer) (u : List ℕ) → Plain.Writes rules text words lent level s u → (r ≡ s) × (left ≡ u))
+
+-- 'Nothing is written under any of them': `nothing-written`
+abbrev pub NothingWritten : Type 0
+NothingWritten =
+    (rules : Rules) (text words lent left : List ℕ) (level : ℕ) (r : Answer) →
+    Plain.Writes rules text words lent level r left → (r .number ≡ 0 → ⊥) → left ≡ lent
+
+-- into a buffer of twice the text's bytes every plain form fits: an 8 is then the reader's own: `plain-room`
+abbrev pub PlainRoom : Type 0
+PlainRoom =
+    (rules : Rules) (text words lent left : List ℕ) (level : ℕ) (r : Answer) → 2 * length text ≤ length lent →
+    Plain.Writes rules text words lent level r left → r .number ≡ 8 →
+    Reading rules text (room rules (length words)) level r none
+
+-- what reading the output of a text with its table gives, at the same level
+pub record ReadsBack (rules : Rules) (text words : List ℕ) (level : ℕ) (out : List ℕ) : Type 0 where
+  -- the text's derivation, which its table shows, and the output's
+  pub tree : Value
+  pub shown : Tabled rules text words level (answer 0 (length text) (length (table tree))) (some tree)
+  pub other : Value
+  -- it is accepted, into every table with room for the text's nodes, with as many nodes
+  pub accepted : (lent : List ℕ) → length (table tree) ≤ room rules (length lent) →
+      Answers rules out lent level (answer 0 (length out) (length (table tree)))
+      (tableWords (table other) ++ drop (nodeWords * length (table tree)) lent)
+  -- 'the same nodes in all but first and last bytes, … and a Text's detail' (`unspelled`), 'the order of this and that
+  -- …, roles 2 and 3 taken as one' (`turn`)
+  pub same-nodes : map unspelled (table other) ≡ map unspelled (table (turn tree))
+  -- 'Writing that again gives the same bytes': with whichever table shows that reading, into whichever buffer they fit
+  pub again : (shows lent : List ℕ) → length (table tree) ≤ room rules (length shows) → Holds shows other →
+      length out ≤ length lent →
+      Plain.Writes rules out shows lent level (answer 0 (length out) (length out)) (out ++ drop (length out) lent)
+
+-- 'Where the output keeps the text size', of what a call has written: `reads-back`
+abbrev pub WrittenReadsBack : Type 0
+WrittenReadsBack =
+    (rules : Rules) (text words lent left : List ℕ) (level : ℕ) (r : Answer) →
+    Plain.Writes rules text words lent level r left → r .number ≡ 0 → r .count ≤ rules .text →
+    ReadsBack rules text words level (take (r .count) left)
+
+-- the same of any level that has the forms of the text's but for the backward arrow, which no output has: `reread`
+abbrev pub AlsoWithoutArrow : Type 0
+AlsoWithoutArrow =
+    (limits : Limits) (text : List ℕ) (l m : Level) (v : Value) → Accepted limits text l v → arrowless l Within m →
+    Reread limits text m v
+
+-- what the output is to another reader: a reading of the text and one of what a call has written, with room for equally
+-- many nodes, end alike at every level, whichever the call's. So an old reader takes the output just when it takes the
+-- text, with as many nodes, and answers 'newer form' for the one just when it does for the other: `ends-alike`
+abbrev pub EndsAlike : Type 0
+EndsAlike =
+    (rules : Rules) (text words lent left : List ℕ) (level other space : ℕ) (r a b : Answer) (t u : Option Value) →
+    Plain.Writes rules text words lent level r left → r .number ≡ 0 →
+    r .count ≤ rules .text → Reading rules text space other a t →
+    Reading rules (take (r .count) left) space other b u →
+    (a .number ≡ b .number) × (a .count ≡ b .count)
+
+-- the tree rules speak of rows of tokens; every row of a level's tree can be spelled as bytes that read back as that
+-- row (docs/DECISIONS.md, point 40): `spellable`
+abbrev pub EveryRowSpelled : Type 0
+EveryRowSpelled = (l : Level) (v : Value) → keeps l v ≡ true → Spellable l v

@@ -8,3 +8,4 @@ pub mod Padding
 pub mod Contents
 pub mod Steps
 pub mod Files
+pub mod Plain

@@ -1,8 +1,9 @@
 -- The texts that document 01 marks with a star, texts with bad values, base-64 Blobs, pieces of the Blob and Bits
--- calls, texts with the steps of the UTF-8 test, and stored files.
+-- calls, texts with the steps of the UTF-8 test, stored files, and plain forms.
 pub mod Starred
 pub mod Values
 pub mod Padding
 pub mod Contents
 pub mod Steps
 pub mod Files
+pub mod Plain
