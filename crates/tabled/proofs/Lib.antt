@@ -1,0 +1,3 @@
+-- The laws behind judging a text with its table.
+pub mod Words
+pub mod Judged
