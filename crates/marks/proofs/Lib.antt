@@ -1,0 +1,2 @@
+-- Laws of what stands around children.
+pub mod Around

@@ -1,0 +1,3 @@
+-- What the functions of this crate are said in. The plain form's rule is form/specs.
+pub mod Nodes
+pub mod Calls
