@@ -1,6 +1,6 @@
 /* A proved reader of MUON plain text (Muldis Object Notation 0.300.0) at the levels 1 and 2: muon_read gives the nodes
    of a text, muon_integer, muon_text, muon_blob and muon_bits give the value of one literal, muon_file_write and muon_file_check keep
-   what was read in a file beside the text, and muon_utf8 tests bytes for UTF-8 alone.
+   what was read in a file beside the text, muon_plain writes a text again in its plain form, and muon_utf8 tests bytes for UTF-8 alone.
 
    The archive is target/staticlib/libcapi.a, written by `rt staticlib capi` (x86-64); it needs no other library, but for memset, which a C
    compiler's own code needs as well. Linking:
@@ -37,16 +37,20 @@ extern "C" {
 /* The bytes of the stored file of a text with so many nodes, and those of the longest one: 12,297 bytes. */
 #define MUON_FILE_BYTES(nodes) (9 + 12 * (nodes))
 #define MUON_FILE_MAX MUON_FILE_BYTES(MUON_NODES_MAX)
+/* Bytes that are always enough for the plain form of a text of so many bytes. It may be longer than the text, by two bytes for each word
+   that it has to put in quotes. */
+#define MUON_PLAIN_BYTES(text_len) (2 * (text_len))
 
-/* The stack that a call needs at most, in bytes, whatever the input; muon_file_write and muon_file_check have a number of their own. Behind
-   it: the frames of muon_read times the open brackets that there may be come to 28,464 bytes in the archive as built today, those of
+/* The stack that a call needs at most, in bytes, whatever the input; muon_file_write, muon_file_check and muon_plain have another number.
+   Behind it: the frames of muon_read times the open brackets that there may be come to 28,528 bytes in the archive as built today, those of
    muon_integer to 560, of muon_text to 880, of muon_blob and of muon_bits to 800 each and of muon_utf8 to 376; the most that was measured,
-   over the deepest texts and the longest ways through a literal, is 28,092, 556, 880, 796, 796 and 232 (tests/stack prints them and fails
+   over the deepest texts and the longest ways through a literal, is 28,156, 556, 880, 796, 796 and 232 (tests/stack prints them and fails
    if one exceeds the number here).
    No call takes memory from anywhere else. */
 #define MUON_STACK_MAX 32768
-/* The stack that muon_file_write and muon_file_check need at most, since each reads the text into a table on its stack. For either call,
-   its frame with those of the reading comes to 53,040 bytes, and 52,652 were measured (tests/stack, too). */
+/* The stack that muon_file_write, muon_file_check and muon_plain need at most, since each reads the text into a table on its stack. By the
+   frames it comes to 53,040 bytes for either call of stored files and to 53,152 for muon_plain, and 52,652 and 52,796 were measured
+   (tests/stack, too). */
 #define MUON_FILE_STACK_MAX (MUON_STACK_MAX + 4 * MUON_TABLE_MAX)
 
 /* ---- The answer ------------------------------------------------------------------------------------------------------------- */
@@ -54,7 +58,8 @@ extern "C" {
 /* A call returns the answer's number, and writes its place and its count, muon_utf8 its steps in place of a count, in every case.
 
    Accepted is 0: the place is the length of the text or piece, and the count is the number of nodes written by muon_read, of bytes
-   written by muon_text, muon_blob, muon_bits and muon_file_write, of the file's bytes for muon_file_check, and 0 for muon_integer.
+   written by muon_text, muon_blob, muon_bits, muon_file_write and muon_plain, of the file's bytes for muon_file_check, and 0 for
+   muon_integer.
    A refusal leaves the table or buffer as it was. Its count is 0, except under MUON_REFUSED_NO_ROOM. */
 #define MUON_ACCEPTED 0
 
@@ -89,7 +94,7 @@ extern "C" {
 #define MUON_REFUSED_NOT_THE_MARK 12
 /* A stored file of another version than MUON_FILE_VERSION. Place 0. */
 #define MUON_REFUSED_OTHER_VERSION 13
-/* Not the stored file of the text. Place 0. */
+/* Not the stored file of the text, or, from muon_plain, not its table. Place 0. */
 #define MUON_REFUSED_NOT_THE_FILE 14
 
 /* Which refusal is given.
@@ -105,6 +110,9 @@ extern "C" {
    the nodes if they are more than MUON_NODES_MAX. Then 8 with the file's bytes if the buffer is shorter.
    muon_file_check: 12, 13, 14 in this order, and no other, all with place 0 and count 0. Under 12 and 13 the text is not looked at; a text
    that the reader refuses is 14, whatever its number.
+   muon_plain: those of muon_read at that level with a table of that length, with their places and counts; so 8 with the nodes if the table
+   is too short for them. Then 14 if the table does not begin with the words that muon_read writes for the text, then 8 with the bytes of
+   the plain form if the buffer is shorter. No other.
    muon_utf8: 3, and no other. */
 
 /* ---- The nodes -------------------------------------------------------------------------------------------------------------- */
@@ -298,6 +306,38 @@ uint32_t muon_file_write(const uint8_t *text, size_t text_len, uint8_t *buffer, 
    place      one size_t, written in every case
    count      one size_t, written in every case */
 uint32_t muon_file_check(const uint8_t *text, size_t text_len, const uint8_t *file, size_t file_len, size_t *place, size_t *count);
+
+/* Writes the plain form of a text, which muon_read has read at this level into this table, from the start of a lent buffer on: the text
+   less all that means nothing. No byte-order mark, first line `#!`, comment, dividing space or group is left, and no `_` between digits;
+   a pair is this, `:` and that, however the text has it; commas stand only between members, and one behind a Tuple's single attribute.
+   Everything else is as it stands in the text: signs, bases, zeros, code points, escapes, and the segments of a quoted text, side by side.
+   `( , x : + 0d 1_0 , )` is written `(x:+0d10,)`, `((x):(y))` is written `(x:y)`, `{,a->b,}` is written `{a:b}`, `{b<-a}` is written
+   `{a:b}`, `{,,}` is written `{}`, `[ 1 <=*< 2 ]` is written `[1<=*<2]`, and `- 1 / 2 * 3 ^ - 4` is written `-1/2*3^-4`.
+
+   A bare word that is one of the thirteen heads, but is no head where it stands, is put in quotes: `(Array->5)` is written `("Array":5)`,
+   and `::Set::a` is written `::"Set"::a`, but `(Set:{ , a : 0bTRUE , })` is written `(Set:{a:0bTRUE})`. By these quotes the plain form may
+   be longer than the text, and even than MUON_TEXT_MAX; it is written all the same, though muon_read refuses it with 2.
+
+   Read at the same level, a plain form of at most MUON_TEXT_MAX bytes gives the nodes of the text, except that they have other places, that
+   a this stands before its that, with the indices that follow from it, that no that has the role MUON_ROLE_THAT_BEFORE, and that a word
+   which was put in quotes has the detail MUON_DETAIL_QUOTED. Its own plain form is itself, byte for byte. At every other level, too, text
+   and such a plain form end alike, in number and count, in tables of the same room: so a reader at level 1 takes the one just if it takes
+   the other (proved; `reads-back` and `ends-alike` in `crates/demands/proofs/Requests.antt`).
+
+   level      1 or 2, as it was read; every other number is refused with MUON_REFUSED_LEVEL
+   text       text_len bytes, read only; need not end in 0
+   table      table_len words, read only: what muon_read wrote, and perhaps more behind it, which does not matter
+   buffer     buffer_len bytes; what they held does not matter
+   place      one size_t, written in every case
+   count      one size_t, written in every case
+
+   Accepted, exactly the first *count bytes of the buffer are written. Refused, none.
+   MUON_PLAIN_BYTES(text_len) bytes are room enough for every text. With as many, 8 is given only where muon_read would give it (proved;
+   `plain-room` in `crates/demands/proofs/Requests.antt`), and the text is written without being measured first. With fewer, the count alone
+   does not tell whether nodes or bytes are meant, but a table that muon_read has just accepted the text with has room for the nodes.
+   With the table of `(x,y)`, `(x:y)` is 14@0. */
+uint32_t muon_plain(uint32_t level, const uint8_t *text, size_t text_len, const uint32_t *table, size_t table_len, uint8_t *buffer,
+                    size_t buffer_len, size_t *place, size_t *count);
 
 /* The UTF-8 test alone: MUON_ACCEPTED, with the length for the place, or MUON_REFUSED_NOT_UTF8, with the first byte at which, reading
    well-formed sequences from the front, none begins. It is the test that every other call makes before it gives that refusal, with the

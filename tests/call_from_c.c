@@ -59,6 +59,14 @@ static void check_file_of_it(void) {
     call.number = muon_file_check((const uint8_t *)call.text, call.length, stored, call.bytes, &call.place, &call.count);
 }
 
+/* at the level and with the table that it was read with, so many words, into a buffer of so many bytes */
+static uint8_t plain[MUON_PLAIN_BYTES(MUON_TEXT_MAX)];
+
+static void write_plain_of_it(void) {
+    call.number = muon_plain(call.level, (const uint8_t *)call.text, call.length, table, call.words, plain, call.bytes, &call.place,
+                             &call.count);
+}
+
 /* the steps as the count */
 static void utf8_of_it(void) {
     call.number = muon_utf8((const uint8_t *)call.text, call.length, &call.place, &call.count);
@@ -375,6 +383,96 @@ static void files(void) {
     expect_written(most, MUON_FILE_MAX, MUON_REFUSED_NO_ROOM, 2 * MUON_NODES_MAX + 2, MUON_NODES_MAX + 1);
 }
 
+/* Read into the whole table, and then written with so many words of it; under a refusal nothing is. */
+static void expect_plain(uint32_t level, const char *text, size_t words, size_t bytes, uint32_t number, size_t place, size_t count,
+                         const char *form) {
+    static uint8_t before[sizeof plain];
+    memset(plain, PAINT, sizeof plain);
+    memset(before, PAINT, sizeof before);
+    call.level = level;
+    call.text = text;
+    call.length = strlen(text);
+    call.words = WORDS;
+    read_it();
+    call.words = words;
+    call.bytes = bytes;
+    write_plain_of_it();
+    expect_answer("plain form", number, place, count);
+    size_t written = number == MUON_ACCEPTED ? count : 0;
+    if (written == strlen(form) && memcmp(plain, form, written) == 0 && memcmp(plain + written, before, sizeof plain - written) == 0)
+        return;
+    printf("plain form of %.40s: not %s\n", text, form);
+    exit(1);
+}
+
+/* At both levels, with just enough room, and with a byte less. */
+static void expect_form(const char *text, const char *form) {
+    size_t length = strlen(text), bytes = strlen(form);
+    for (uint32_t level = 1; level <= 2; level++) {
+        expect_plain(level, text, WORDS, MUON_PLAIN_BYTES(length), MUON_ACCEPTED, length, bytes, form);
+        expect_plain(level, text, WORDS, bytes, MUON_ACCEPTED, length, bytes, form);
+        expect_plain(level, text, WORDS, bytes - 1, MUON_REFUSED_NO_ROOM, length, bytes, "");
+        expect_plain(level, form, WORDS, bytes, MUON_ACCEPTED, bytes, bytes, form);
+    }
+}
+
+static void plain_forms(void) {
+    expect_form("( , x : + 0d 1_0 , )", "(x:+0d10,)");
+    expect_form("\xEF\xBB\xBF#!x\n((x):(y)) `c`", "(x:y)");
+    expect_form("{b<-a, c->d, }", "{a:b,c:d}");
+    expect_form("(Array->5)", "(\"Array\":5)");
+    expect_form("::Set::a", "::\"Set\"::a");
+    expect_form("\"a_ b\" `c` \"\\\\n\"", "\"a_ b\"\"\\\\n\"");
+    expect_form("{,,}", "{}");
+    expect_plain(2, "(Set:{ , a : 0bTRUE , })", WORDS, BYTES, MUON_ACCEPTED, 24, 16, "(Set:{a:0bTRUE})");
+    expect_plain(2, "[ 1 <=*< 2 ]", WORDS, BYTES, MUON_ACCEPTED, 12, 8, "[1<=*<2]");
+    /* the reader's refusals, whatever table and buffer are */
+    for (size_t words = 0; words <= WORDS; words += WORDS) {
+        expect_plain(3, "(x:y)", words, 0, MUON_REFUSED_LEVEL, 0, 0, "");
+        expect_plain(1, " [5]", words, BYTES, MUON_REFUSED_NEWER_FORM, 1, 0, "");
+        expect_plain(2, "(x", words, 0, MUON_REFUSED_WRONG_PLACE, 2, 0, "");
+        expect_plain(2, "\xFF", words, BYTES, MUON_REFUSED_NOT_UTF8, 0, 0, "");
+    }
+    /* a table that is too short, one that is just long enough, and one that is another's */
+    expect_plain(2, "(x:y)", 0, BYTES, MUON_REFUSED_NO_ROOM, 5, 3, "");
+    expect_plain(2, "(x:y)", 17, 0, MUON_REFUSED_NO_ROOM, 5, 3, "");
+    expect_plain(2, "(x:y)", 18, BYTES, MUON_ACCEPTED, 5, 5, "(x:y)");
+    call.words = WORDS;
+    for (size_t word = 0; word < 18; word++) {
+        table[word] ^= 1;
+        for (call.bytes = 0; call.bytes <= BYTES; call.bytes += BYTES) {
+            write_plain_of_it();
+            expect_answer("plain form", MUON_REFUSED_NOT_THE_FILE, 0, 0);
+        }
+        table[word] ^= 1;
+    }
+    table[18] ^= 1;
+    call.bytes = BYTES;
+    write_plain_of_it();
+    expect_answer("plain form", MUON_ACCEPTED, 5, 5);
+    /* nothing lent */
+    size_t place = 1, count = 1;
+    if (muon_plain(2, NULL, 0, NULL, 0, NULL, 0, &place, &count) != MUON_REFUSED_WRONG_PLACE || place != 0 || count != 0) exit(1);
+    if (muon_plain(2, (const uint8_t *)"5", 1, NULL, 0, NULL, 0, &place, &count) != MUON_REFUSED_NO_ROOM || count != 1) exit(1);
+    /* the text and the table are only read */
+    static const char text[] = "{b<-a}";
+    static uint32_t kept[WORDS];
+    expect(2, text, WORDS, MUON_ACCEPTED, 6, 3);
+    memcpy(kept, table, sizeof kept);
+    call.bytes = BYTES;
+    write_plain_of_it();
+    expect_answer("plain form", MUON_ACCEPTED, 6, 5);
+    if (memcmp(kept, table, sizeof kept) != 0 || strcmp(text, "{b<-a}") != 0) exit(1);
+    /* the longest text, of words that are put in quotes: longer than a text may be, and so not to be read again */
+    static char heads[MUON_TEXT_MAX + 1];
+    for (size_t at = 0; at + 5 <= MUON_TEXT_MAX; at += 5) memcpy(heads + at, "::Set", 5);
+    expect(2, heads, WORDS, MUON_ACCEPTED, 32765, 1);
+    call.bytes = sizeof plain;
+    write_plain_of_it();
+    expect_answer("plain form", MUON_ACCEPTED, 32765, 45871);
+    if (muon_read(2, plain, call.count, table, WORDS, &place, &count) != MUON_REFUSED_TOO_LONG) exit(1);
+}
+
 static void expect_utf8(const char *text, uint32_t number, size_t place, size_t steps) {
     call.text = text;
     call.length = strlen(text);
@@ -463,6 +561,23 @@ static size_t most_touched_checking_its_file(void) {
     return touched(check_file_of_it);
 }
 
+/* With its own table and with another, at both levels, and with no buffer and a whole one. */
+static size_t most_touched_writing_it_plainly(void) {
+    size_t most = 0;
+    for (call.level = 1; call.level <= 2; call.level++) {
+        call.words = WORDS;
+        read_it();
+        for (int changed = 0; changed <= 1; changed++) {
+            table[0] ^= (uint32_t)changed;
+            for (call.bytes = 0; call.bytes <= sizeof plain; call.bytes += sizeof plain) {
+                size_t bytes = touched(write_plain_of_it);
+                if (bytes > most) most = bytes;
+            }
+        }
+    }
+    return most;
+}
+
 /* As many brackets as may be open around the literals. */
 static size_t most_touched_by_a_reading(size_t (*most_by)(void)) {
     static const char *const openers[][2] = {
@@ -501,6 +616,7 @@ int main(void) {
     paddings();
     bits();
     files();
+    plain_forms();
     utf8();
     printf("muon_read %zu\n", most_touched_by_a_reading(most_touched_reading_it));
     printf("muon_integer %zu\n", most_touched_by(integer_of_it));
@@ -509,6 +625,7 @@ int main(void) {
     printf("muon_bits %zu\n", most_touched_by(bits_of_it));
     printf("muon_file_write %zu\n", most_touched_by_a_reading(most_touched_writing_its_file));
     printf("muon_file_check %zu\n", most_touched_by_a_reading(most_touched_checking_its_file));
+    printf("muon_plain %zu\n", most_touched_by_a_reading(most_touched_writing_it_plainly));
     printf("muon_utf8 %zu\n", most_touched_by(utf8_of_it));
     return 0;
 }

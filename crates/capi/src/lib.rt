@@ -9,6 +9,7 @@ ghost use Rattle.values.specs.Blob.{BlobAnswers};
 ghost use Rattle.values.specs.Bits.{BitsAnswers};
 ghost use Rattle.files.specs.Writes.{Writes};
 ghost use Rattle.files.specs.Checks.{Checks};
+ghost use Rattle.form.specs.Writes as Plain;
 
 // uint32_t muon_read(uint32_t level, const uint8_t *text, size_t text_len, uint32_t *table, size_t table_len, size_t *place, size_t *count);
 // The answer's number is returned, its place and count are written, and the nodes stand in the table.
@@ -151,4 +152,23 @@ pub extern "C" fn muon_file_check(
     *place = checked.place;
     *count = checked.count;
     checked.number
+}
+
+// uint32_t muon_plain(uint32_t level, const uint8_t *text, size_t text_len, const uint32_t *table, size_t table_len, uint8_t *buffer, size_t buffer_len, size_t *place, size_t *count);
+// The plain form of a text, read at a level, with its table, from the buffer's start on.
+#[no_mangle]
+pub extern "C" fn muon_plain(
+    level: u32,
+    text: &[u8],
+    table: &[u32],
+    buffer: &mut [u8],
+    place: &mut usize,
+    count: &mut usize,
+) -> u32
+    ensures { λ r. ⌜ Plain.Writes base (now (text .entry)) (now (table .entry)) (now (buffer .entry)) level (answer r (now (place .exit)) (now (count .exit))) (now (buffer .exit)) ⌝ }
+{
+    let rewritten = plain::write(level, text, table, buffer);
+    *place = rewritten.place;
+    *count = rewritten.count;
+    rewritten.number
 }
