@@ -20,6 +20,7 @@ pub mod file;
 pub mod front;
 pub mod generate;
 pub mod listing;
+pub mod plain;
 pub mod samples;
 pub mod space;
 pub mod token;

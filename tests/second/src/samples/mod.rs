@@ -65,3 +65,12 @@ pub fn members(length: usize) -> Vec<u8> {
     text.push(b'}');
     text
 }
+
+/// A digit before and a digit behind space, each text so many bytes.
+pub fn digit_at_either_end(length: usize) -> [Vec<u8>; 2] {
+    [0, length - 1].map(|at| {
+        let mut text = vec![b' '; length];
+        text[at] = b'5';
+        text
+    })
+}

@@ -1,4 +1,4 @@
-//! The settled readings, sections A to D and R1 to R4, transcribed example by
+//! The settled readings, sections A to D and R1 to R5, transcribed example by
 //! example; where a request changes an answer of before, the new one.
 
 use super::{both, count, each, lacks, no, ok, Sample, Want};
@@ -861,6 +861,30 @@ pub const CHECKS: &[(&[u8], &[u8], u32)] = &[
     (b"(", b"FNT\0\x01", 14),
     (b"\xFF", b"FNT\0\x02", 13),
     (b"\xFF", b"FNT\0\x01\0\0\0\x01", 14),
+];
+
+/// The plain form at level 2: a text, and its bytes.
+pub const PLAIN: &[(&[u8], &[u8])] = &[
+    (b"( , x : + 0d 1_0 , )", b"(x:+0d10,)"),
+    (b"((x):(y))", b"(x:y)"),
+    (b"{,a->b,}", b"{a:b}"),
+    (b"{b<-a}", b"{a:b}"),
+    (b"(x,)", b"(x,)"),
+    (b"[ 1 <=*< 2 ]", b"[1<=*<2]"),
+    (b"\"a_ b\" `c` \"\\\\n\"", b"\"a_ b\"\"\\\\n\""),
+    (b"0xy AAAA_BBBB", b"0xyAAAABBBB"),
+    (b"(::a : ::b)", b"(::a:::b)"),
+    (b"- 1 / 2 * 3 ^ - 4", b"-1/2*3^-4"),
+    (b"{,,}", b"{}"),
+    (b"(Set:{ , a : 0bTRUE , })", b"(Set:{a:0bTRUE})"),
+    (b"Set", b"\"Set\""),
+    (b"(Array->5)", b"(\"Array\":5)"),
+    (b"(,Array:5)", b"(\"Array\":5,)"),
+    (b"::Set::a", b"::\"Set\"::a"),
+    (b"{Mix}", b"{\"Mix\"}"),
+    (b"(Array:{Array:2})", b"(Array:{\"Array\":2})"),
+    (b"((Bag),x)", b"(\"Bag\",x)"),
+    (b"{Set,Bag}", b"{\"Set\",\"Bag\"}"),
 ];
 
 /// Standard input and output of the program.

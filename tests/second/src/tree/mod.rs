@@ -2,36 +2,52 @@
 
 mod parse;
 
+pub(crate) use parse::{kind, role};
+
 use crate::answer::{Answer, LEVEL, NODES_MAX, NODE_WORDS, NOT_UTF8, TEXT_MAX, TOO_LONG};
 use crate::{front, token, utf8};
 
 /// A value and the values it holds, each with its role.
 #[derive(Clone, Debug)]
-struct Value {
-    kind: u32,
-    first: usize,
-    end: usize,
-    detail: u32,
+pub(crate) struct Value {
+    pub kind: u32,
+    pub first: usize,
+    pub end: usize,
+    pub detail: u32,
+    /// What the value is as one token, if it is one.
+    pub token: Option<token::Kind>,
     /// A Text or a Nesting not in a group: it may name an attribute.
     is_name: bool,
-    children: Vec<(u32, Value)>,
+    pub children: Vec<(u32, Value)>,
 }
 
 /// Reads `text`; a refusal leaves the table unchanged.
 pub fn read(level: u32, text: &[u8], table: &mut [u32]) -> Answer {
-    let root = match read_root(level, text) {
-        Ok(root) => root,
-        Err(refusal) => return refusal,
-    };
+    match derived(level, text, table.len()) {
+        Ok((_, words)) => {
+            table[..words.len()].copy_from_slice(&words);
+            Answer::accepted(text.len(), words.len() / NODE_WORDS)
+        }
+        Err(refusal) => refusal,
+    }
+}
+
+/// The value of a text and the words of its nodes, if a table of so many
+/// words has room for them.
+pub(crate) fn derived(
+    level: u32,
+    text: &[u8],
+    table_len: usize,
+) -> Result<(Value, Vec<u32>), Answer> {
+    let root = read_root(level, text)?;
     let mut words = Vec::new();
     write_nodes(&root, 0, 0, &mut words);
     let count = words.len() / NODE_WORDS;
-    let room = NODES_MAX.min(table.len() / NODE_WORDS);
+    let room = NODES_MAX.min(table_len / NODE_WORDS);
     if count > room {
-        return Answer::no_room(text.len(), count);
+        return Err(Answer::no_room(text.len(), count));
     }
-    table[..words.len()].copy_from_slice(&words);
-    Answer::accepted(text.len(), count)
+    Ok((root, words))
 }
 
 fn read_root(level: u32, text: &[u8]) -> Result<Value, Answer> {

@@ -9,7 +9,8 @@ use super::Value;
 use crate::answer::{Answer, BAD_VALUE, DEPTH_MAX, NEWER_FORM, NO_TOKEN, TOO_DEEP, WRONG_PLACE};
 use crate::token::{Form, Head, Kind, Lexed, Symbol, Token};
 
-mod kind {
+pub(crate) mod kind {
+    pub const TEXT: u32 = 7;
     pub const NESTING: u32 = 8;
     pub const PAIR: u32 = 9;
     pub const TUPLE: u32 = 10;
@@ -20,7 +21,7 @@ mod kind {
     pub const INTERVAL: u32 = 15;
 }
 
-mod role {
+pub(crate) mod role {
     pub const THIS: u32 = 1;
     pub const THAT_AFTER: u32 = 2;
     pub const THAT_BEFORE: u32 = 3;
@@ -190,6 +191,7 @@ impl Parser<'_> {
             first: token.first,
             end: token.end,
             detail: literal_detail(token.kind),
+            token: Some(token.kind),
             is_name: matches!(token.kind, Kind::Text(_)),
             children: Vec::new(),
         })
@@ -458,6 +460,7 @@ fn node(kind: u32, first: usize, end: usize, children: Children) -> Value {
         first,
         end,
         detail: 0,
+        token: None,
         is_name: false,
         children,
     }
