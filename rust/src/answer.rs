@@ -166,7 +166,8 @@ pub enum Refusal {
     NotTheMark = 12,
     /// The file is of another version than 1; place 0.
     OtherVersion = 13,
-    /// The file is not the one of the text; place 0.
+    /// The file, or the table of a plain form, is not the one of the text; place
+    /// 0.
     NotTheFile = 14,
 }
 
@@ -217,7 +218,7 @@ impl fmt::Display for Refusal {
             Refusal::TooDeep => "too deep",
             Refusal::NotTheMark => "not a stored file",
             Refusal::OtherVersion => "a stored file of another version",
-            Refusal::NotTheFile => "not the stored file of the text",
+            Refusal::NotTheFile => "not the file or table of the text",
         })
     }
 }

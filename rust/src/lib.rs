@@ -60,6 +60,20 @@
 //! # Ok::<(), muon::Refusal>(())
 //! ```
 //!
+//! [`plain`] writes a text again without all that means nothing:
+//!
+//! ```
+//! use muon::plain;
+//!
+//! let text = b"( , x : + 0d 1_0 , ) `ten`";
+//! let mut table = [0; muon::TABLE_MAX];
+//! muon::read(2, text, &mut table).accepted()?;
+//! let mut buffer = [0; plain::bytes(26)];
+//! let count = plain::write(2, text, &table, &mut buffer).accepted()?;
+//! assert_eq!(&buffer[..count], b"(x:+0d10,)");
+//! # Ok::<(), muon::Refusal>(())
+//! ```
+//!
 //! [`utf8`] is the UTF-8 test alone, for a text of any length; it tells its
 //! steps, too:
 //!
@@ -83,6 +97,7 @@
 mod answer;
 pub mod file;
 mod node;
+pub mod plain;
 mod raw;
 mod reading;
 mod utf8;

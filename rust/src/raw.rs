@@ -64,6 +64,18 @@ extern "C" {
         count: *mut usize,
     ) -> u32;
 
+    pub fn muon_plain(
+        level: u32,
+        text: *const u8,
+        text_len: usize,
+        table: *const u32,
+        table_len: usize,
+        buffer: *mut u8,
+        buffer_len: usize,
+        place: *mut usize,
+        count: *mut usize,
+    ) -> u32;
+
     pub fn muon_utf8(text: *const u8, text_len: usize, place: *mut usize, steps: *mut usize)
         -> u32;
 }

@@ -13,7 +13,8 @@ pub const NODES_MAX: usize = 1_024;
 /// The longest table that is made use of, in words.
 pub const TABLE_MAX: usize = NODES_MAX * NODE_WORDS;
 /// The stack that a call needs at most, in bytes; those of
-/// [`file`](mod@crate::file) have [a number of their own](crate::file::STACK_MAX).
+/// [`file`](mod@crate::file) and [`plain`](crate::plain) have [another
+/// number](crate::file::STACK_MAX).
 pub const STACK_MAX: usize = 32_768;
 
 /// Reads `text` at `level` and writes its nodes to `table`.

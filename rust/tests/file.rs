@@ -1,41 +1,17 @@
 //! Stored files.
 
+mod answers;
+
+use answers::{accepted, refused};
 use muon::{file, Answer, Refusal};
 
-const FILLED: u8 = 0xA5;
 const PAIR: &[u8] = b"FNT\0\x01\0\x03\0\x05\
     \0\x09\0\0\0\x05\0\0\0\0\0\0\
     \0\x07\0\x01\0\x02\0\0\0\x01\0\x02\
     \0\x07\0\x03\0\x04\0\0\0\x02\0\x02";
 
-fn accepted(place: usize, count: usize) -> Answer {
-    Answer {
-        number: 0,
-        place,
-        count,
-    }
-}
-
-fn refused(refusal: Refusal, place: usize, count: usize) -> Answer {
-    Answer {
-        number: refusal.number(),
-        place,
-        count,
-    }
-}
-
-/// The answer, and what is written to a buffer of so many bytes; those behind
-/// it stay.
 fn written(text: &[u8], room: usize) -> (Answer, Vec<u8>) {
-    let mut buffer = vec![FILLED; room];
-    let answer = file::write(text, &mut buffer);
-    let written = match answer.is_accepted() {
-        true => answer.count,
-        false => 0,
-    };
-    assert!(buffer[written..].iter().all(|byte| *byte == FILLED));
-    buffer.truncate(written);
-    (answer, buffer)
+    answers::written(|buffer| file::write(text, buffer), room)
 }
 
 /// The refusal of a check; its place and count are 0.

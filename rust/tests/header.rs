@@ -1,6 +1,6 @@
 //! The numbers here are those of the C header.
 
-use muon::{detail, file, kind, role, Refusal};
+use muon::{detail, file, kind, plain, role, Refusal};
 
 const HEADER: &str = include_str!("../../include/muon.h");
 
@@ -47,6 +47,8 @@ fn formulas() {
         "(MUON_STACK_MAX + 4 * MUON_TABLE_MAX)"
     ));
     assert_eq!(file::STACK_MAX, muon::STACK_MAX + 4 * muon::TABLE_MAX);
+    assert!(defined_as("PLAIN_BYTES(text_len)", "(2 * (text_len))"));
+    assert_eq!(plain::bytes(7), 2 * 7);
 }
 
 #[test]

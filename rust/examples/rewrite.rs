@@ -1,0 +1,82 @@
+//! Writes a settings file in its plain form: `rewrite TEXT` reads the file TEXT
+//! at level 2 and writes its plain form to standard output; `rewrite TEXT OTHER`
+//! writes it to the file OTHER, which must not be TEXT.  If the text is refused,
+//! the reason goes to standard error, nothing is written, and the exit code is
+//! 1; it is 2 if a file cannot be read or written, or if OTHER is TEXT.
+//!
+//! `cargo run --example rewrite -- TEXT OTHER`
+
+use muon::plain;
+use std::ffi::OsString;
+use std::io::{self, Read, Write};
+use std::os::unix::fs::MetadataExt;
+use std::path::Path;
+use std::process::ExitCode;
+use std::{env, fs};
+
+/// Why there is no plain form, and the exit code.
+type Failure = (String, u8);
+
+/// What the operating system said of a path.
+fn said(path: &OsString, error: io::Error) -> Failure {
+    (format!("{}: {error}", Path::new(path).display()), 2)
+}
+
+/// A byte more than a text may have is enough to know that there are too many.
+fn input(path: &OsString) -> io::Result<Vec<u8>> {
+    let mut bytes = Vec::new();
+    let file = fs::File::open(path)?;
+    file.take(muon::TEXT_MAX as u64 + 1)
+        .read_to_end(&mut bytes)?;
+    Ok(bytes)
+}
+
+/// By whatever name, a link too.  A file that is not there yet is another one.
+fn is_same(one: &OsString, other: &OsString) -> bool {
+    let file = |path| fs::metadata(path).map(|told| (told.dev(), told.ino()));
+    matches!((file(one), file(other)), (Ok(one), Ok(other)) if one == other)
+}
+
+fn form(path: &OsString) -> Result<Vec<u8>, Failure> {
+    let text = input(path).map_err(|error| said(path, error))?;
+    let mut table = [0; muon::TABLE_MAX];
+    let mut answer = muon::read(2, &text, &mut table);
+    let mut form = vec![0; plain::bytes(text.len())];
+    if answer.is_accepted() {
+        answer = plain::write(2, &text, &table, &mut form);
+    }
+    let refused = |refusal| (format!("byte {}: {refusal}", answer.place), 1);
+    form.truncate(answer.accepted().map_err(refused)?);
+    Ok(form)
+}
+
+fn rewrite(text: &OsString, other: Option<&OsString>) -> Result<(), Failure> {
+    let Some(other) = other else {
+        let form = form(text)?;
+        let mut out = io::stdout();
+        // what stands behind the last line's end is kept back until then
+        let written = out.write_all(&form).and_then(|()| out.flush());
+        return written.map_err(|error| said(&"standard output".into(), error));
+    };
+    if is_same(text, other) {
+        let path = Path::new(text).display();
+        return Err((format!("{path}: would be written over"), 2));
+    }
+    fs::write(other, form(text)?).map_err(|error| said(other, error))
+}
+
+fn main() -> ExitCode {
+    let arguments: Vec<OsString> = env::args_os().skip(1).collect();
+    let outcome = match &arguments[..] {
+        [text] => rewrite(text, None),
+        [text, other] => rewrite(text, Some(other)),
+        _ => Err(("rewrite TEXT [OTHER]".to_string(), 2)),
+    };
+    match outcome {
+        Ok(()) => ExitCode::SUCCESS,
+        Err((reason, code)) => {
+            eprintln!("{reason}");
+            ExitCode::from(code)
+        }
+    }
+}
