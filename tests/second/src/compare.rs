@@ -1,7 +1,14 @@
 //! What the comparisons with the verified archives share.
 
+use crate::answer::Answer;
+use crate::generate::Random;
 use std::fmt::Debug;
 use std::process::ExitCode;
+
+/// Bytes behind a lent buffer, which no call may touch.
+const GUARD: usize = 8;
+/// A call that writes is made once with each.
+pub const TURNS: [u8; 2] = [0, 0xFF];
 
 /// A disagreement, ready to be printed.
 pub struct Difference(pub String);
@@ -17,6 +24,73 @@ pub fn same<T: PartialEq + Debug>(what: &str, text: &[u8], ours: T, theirs: T) -
         text.escape_ascii(),
         text.len()
     )))
+}
+
+/// The archive's answers, by the package that wraps it.
+#[cfg(feature = "muon")]
+impl From<muon::Answer> for Answer {
+    fn from(answer: muon::Answer) -> Answer {
+        Answer {
+            number: answer.number,
+            place: answer.place,
+            count: answer.count,
+        }
+    }
+}
+
+/// The answer, and the buffer with its guard as they are then.  The bytes lent
+/// vary; with another `turn` each is another, so a byte that is not written
+/// shows with one of them, whatever it should be.
+fn written(call: impl Fn(&mut [u8]) -> Answer, length: usize, turn: u8) -> (Answer, Vec<u8>) {
+    let mut bytes: Vec<u8> = (0..length + GUARD)
+        .map(|at| (at as u8).wrapping_mul(37) ^ turn)
+        .collect();
+    let answer = call(&mut bytes[..length]);
+    (answer, bytes)
+}
+
+/// That two calls answer alike and leave every byte of a buffer of so many
+/// alike; the answer.
+pub fn same_written(
+    what: impl Fn() -> String,
+    text: &[u8],
+    length: usize,
+    ours: impl Fn(&mut [u8]) -> Answer,
+    theirs: impl Fn(&mut [u8]) -> Answer,
+) -> Result<Answer, Difference> {
+    let mut answer = Answer::accepted(0, 0);
+    for turn in TURNS {
+        let (our_answer, our_bytes) = written(&ours, length, turn);
+        let (their_answer, their_bytes) = written(&theirs, length, turn);
+        if our_answer != their_answer {
+            same(&what(), text, our_answer, their_answer)?;
+        }
+        for (index, (ours, theirs)) in our_bytes.iter().zip(&their_bytes).enumerate() {
+            if ours != theirs {
+                same(&format!("{}: byte {index}", what()), text, ours, theirs)?;
+            }
+        }
+        answer = our_answer;
+    }
+    Ok(answer)
+}
+
+/// Lengths of a buffer: these, those around what is needed, and one by chance.
+pub fn lengths(some: &[usize], need: usize, random: &mut Random) -> Vec<usize> {
+    let mut lengths = some.to_vec();
+    lengths.extend(need.saturating_sub(2)..=need + 2);
+    lengths.push(random.below(2 * need + 40));
+    lengths.sort_unstable();
+    lengths.dedup();
+    lengths
+}
+
+/// That each of these answers was given.
+pub fn all_met(name: &str, answers: &[usize], numbers: &[usize]) -> Compared {
+    match numbers.iter().find(|number| answers[**number] == 0) {
+        Some(number) => Err(Difference(format!("the {name} never answered {number}"))),
+        None => Ok(()),
+    }
 }
 
 /// How many calls there were, and how many of them with each of these answers.

@@ -11,7 +11,9 @@
 //! Exits with 1 at the first disagreement.
 
 use second::answer::{Answer, NODES_MAX, TEXT_MAX};
-use second::compare::{finish, listed, same, Compared, Difference};
+use second::compare::{
+    all_met, finish, lengths, listed, same, same_written, Compared, Difference, TURNS,
+};
 use second::file::{self, FILE_MAX};
 use second::generate::{good_texts, long_texts, random_bytes, texts, Random};
 use second::samples;
@@ -22,8 +24,6 @@ const SEED: u64 = 20_261_119;
 const GENERATED: usize = 12_000;
 const GOOD: usize = 6_000;
 const RANDOM_BYTES: usize = 200_000;
-/// Bytes behind the lent buffer, which no call may touch.
-const GUARD: usize = 8;
 /// Mark, version, node count and text length.
 const HEAD: usize = 9;
 /// A node's bytes.
@@ -51,42 +51,21 @@ const FRONTS: [&[u8]; 16] = [
     b"FNT\0\x01\0\0\0\0",
 ];
 
-type Write = fn(&[u8], &mut [u8]) -> Answer;
-
 /// The calls of the archive, by the package that wraps it.
 mod archive {
     use second::answer::Answer;
 
-    fn plain(answer: muon::Answer) -> Answer {
-        Answer {
-            number: answer.number,
-            place: answer.place,
-            count: answer.count,
-        }
-    }
-
     pub fn read(text: &[u8], table: &mut [u32]) -> Answer {
-        plain(muon::read(2, text, table))
+        muon::read(2, text, table).into()
     }
 
     pub fn write(text: &[u8], buffer: &mut [u8]) -> Answer {
-        plain(muon::file::write(text, buffer))
+        muon::file::write(text, buffer).into()
     }
 
     pub fn check(text: &[u8], file: &[u8]) -> Answer {
-        plain(muon::file::check(text, file))
+        muon::file::check(text, file).into()
     }
-}
-
-/// The answer, and the buffer with its guard as they are then.  The bytes lent
-/// vary; with another `turn` each is another, so a byte that is not written
-/// shows with one of them, whatever it should be.
-fn written(call: Write, text: &[u8], length: usize, turn: u8) -> (Answer, Vec<u8>) {
-    let mut bytes: Vec<u8> = (0..length + GUARD)
-        .map(|at| (at as u8).wrapping_mul(37) ^ turn)
-        .collect();
-    let answer = call(text, &mut bytes[..length]);
-    (answer, bytes)
 }
 
 /// How thoroughly a file is changed.
@@ -127,20 +106,14 @@ impl Counts {
     }
 
     fn write(&mut self, text: &[u8], length: usize) -> Compared {
-        for turn in [0, 0xFF] {
-            let (ours, our_bytes) = written(file::write, text, length, turn);
-            let (theirs, their_bytes) = written(archive::write, text, length, turn);
-            self.written[ours.number as usize] += 1;
-            let what = || format!("file in {length} bytes");
-            if ours != theirs {
-                same(&what(), text, ours, theirs)?;
-            }
-            for (index, (ours, theirs)) in our_bytes.iter().zip(&their_bytes).enumerate() {
-                if ours != theirs {
-                    same(&format!("{}: byte {index}", what()), text, ours, theirs)?;
-                }
-            }
-        }
+        let answer = same_written(
+            || format!("file in {length} bytes"),
+            text,
+            length,
+            |buffer| file::write(text, buffer),
+            |buffer| archive::write(text, buffer),
+        )?;
+        self.written[answer.number as usize] += TURNS.len();
         Ok(())
     }
 
@@ -155,23 +128,14 @@ impl Counts {
         same(&what, text, ours, theirs)
     }
 
-    /// None, every length around what the file needs, the head's, the longest,
-    /// and some.
-    fn lengths(&mut self, need: usize) -> Vec<usize> {
-        let mut lengths = vec![0, 1, HEAD, FILE_MAX, FILE_MAX + 1];
-        lengths.extend(need.saturating_sub(2)..=need + 2);
-        lengths.push(self.random.below(2 * need + 40));
-        lengths.sort_unstable();
-        lengths.dedup();
-        lengths
-    }
-
     /// The text's file, if it has one, with buffers of several lengths; and
     /// that it is what the archive reads.
     fn writings(&mut self, text: &[u8]) -> Result<Option<Vec<u8>>, Difference> {
         self.texts += 1;
         let need = file::write(text, &mut []).count;
-        for length in self.lengths(need) {
+        // none, the head's and the longest among them
+        let some = [0, 1, HEAD, FILE_MAX, FILE_MAX + 1];
+        for length in lengths(&some, need, &mut self.random) {
             self.write(text, length)?;
         }
         as_read(text)?;
@@ -340,16 +304,8 @@ impl Counts {
     }
 
     fn every_answer(&self) -> Compared {
-        let answers = [
-            ("writer", &self.written, &WRITTEN[..]),
-            ("checker", &self.checked, &CHECKED),
-        ];
-        for (name, answers, numbers) in answers {
-            if let Some(number) = numbers.iter().find(|number| answers[**number] == 0) {
-                return Err(Difference(format!("the {name} never answered {number}")));
-            }
-        }
-        Ok(())
+        all_met("writer", &self.written, &WRITTEN)?;
+        all_met("checker", &self.checked, &CHECKED)
     }
 
     fn summary(&self) -> String {
@@ -391,13 +347,8 @@ fn sized_texts() -> Vec<Vec<u8>> {
     all.extend([TEXT_MAX, TEXT_MAX + 2].map(samples::members));
     let many = format!("{{{}}}", format!("{},", "a".repeat(30)).repeat(1_000));
     all.push(many.into_bytes());
-    for length in [255, 256, 257, TEXT_MAX - 1, TEXT_MAX, TEXT_MAX + 1] {
-        let mut first = vec![b' '; length];
-        let mut last = first.clone();
-        first[0] = b'5';
-        last[length - 1] = b'5';
-        all.extend([first, last]);
-    }
+    let lengths = [255, 256, 257, TEXT_MAX - 1, TEXT_MAX, TEXT_MAX + 1];
+    all.extend(lengths.into_iter().flat_map(samples::digit_at_either_end));
     all
 }
 

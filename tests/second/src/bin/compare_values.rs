@@ -89,28 +89,20 @@ mod archive {
         }
     }
 
-    fn plain(answer: muon::Answer) -> Answer {
-        Answer {
-            number: answer.number,
-            place: answer.place,
-            count: answer.count,
-        }
-    }
-
     pub fn read(level: u32, text: &[u8], table: &mut [u32]) -> Answer {
-        plain(muon::read(level, text, table))
+        muon::read(level, text, table).into()
     }
 
     pub fn text(piece: &[u8], buffer: &mut [u8]) -> Answer {
-        plain(muon::text(piece, buffer))
+        muon::text(piece, buffer).into()
     }
 
     pub fn blob(piece: &[u8], buffer: &mut [u8]) -> Answer {
-        plain(muon::blob(piece, buffer))
+        muon::blob(piece, buffer).into()
     }
 
     pub fn bits(piece: &[u8], buffer: &mut [u8]) -> Answer {
-        plain(muon::bits(piece, buffer))
+        muon::bits(piece, buffer).into()
     }
 }
 

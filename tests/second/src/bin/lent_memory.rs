@@ -1,12 +1,12 @@
-//! Reads a sample of texts, writes and checks their stored files, asks for the
-//! values of a sample of pieces and tests a sample of UTF-8, through the C
-//! interface out of and into memory of exactly the size lent, to be run under
-//! valgrind: a read or write outside of it is an error there, and so is an
-//! answer that depends on what the table or buffer held, since nothing is
-//! written to it before.
+//! Reads a sample of texts, writes and checks their stored files, writes their
+//! plain forms, asks for the values of a sample of pieces and tests a sample of
+//! UTF-8, through the C interface out of and into memory of exactly the size
+//! lent, to be run under valgrind: a read or write outside of it is an error
+//! there, and so is an answer that depends on what the table or buffer held, or
+//! on the words behind a text's, since nothing is written to it before.
 //!
-//! Exits with 1 if an answer, a written word or byte, the text, the piece or
-//! the file is not as it should be.  `lent_memory overstated` tells one byte
+//! Exits with 1 if an answer, a written word or byte, the text, the piece, the
+//! file or the table is not as it should be.  `lent_memory overstated` tells one byte
 //! more than there is, which valgrind must report: so it is known to look.  So
 //! does `lent_memory overstated-word`, where that byte is the last of eight
 //! that the UTF-8 test may read at once.
@@ -21,7 +21,7 @@ use second::generate::{
     random_bytes, random_packed_pieces, row, sample_pieces, texts, Random, FRAMES, RUN_MAX,
 };
 use second::utf8::{self, Tested};
-use second::{file, samples, tree, value};
+use second::{file, plain, samples, tree, value};
 use std::alloc::{alloc, dealloc, handle_alloc_error, Layout};
 use std::process::ExitCode;
 use std::ptr::NonNull;
@@ -85,6 +85,17 @@ extern "C" {
         text_len: usize,
         file: *const u8,
         file_len: usize,
+        place: *mut usize,
+        count: *mut usize,
+    ) -> u32;
+    fn muon_plain(
+        level: u32,
+        text: *const u8,
+        text_len: usize,
+        table: *const u32,
+        table_len: usize,
+        buffer: *mut u8,
+        buffer_len: usize,
         place: *mut usize,
         count: *mut usize,
     ) -> u32;
@@ -308,6 +319,88 @@ fn compare_check(text: &[u8], stored: &[u8]) -> Compared {
     same(&format!("{what}: the file"), text, stored, file_after)
 }
 
+/// The plain form of a text in a buffer of this length, with a table of which
+/// the words behind the first ones are not written; held against the second
+/// program's.
+fn compare_plain(level: u32, text: &[u8], words: &[u32], behind: usize, length: usize) -> Compared {
+    let table = [words, &vec![0; behind]].concat();
+    let mut bytes = vec![0; length];
+    let answer = plain::write(level, text, &table, &mut bytes);
+    let written = if answer.number == 0 { answer.count } else { 0 };
+
+    let lent = Lent::holding(text);
+    let kept = Lent::<u32>::new(table.len());
+    let buffer = Lent::<u8>::new(length);
+    // SAFETY: each pointer is to memory of its own, of the length that is told.
+    let proved = answered(|place, count| unsafe {
+        kept.start
+            .copy_from(NonNull::from(words).cast(), words.len());
+        muon_plain(
+            level,
+            lent.start.as_ptr(),
+            text.len(),
+            kept.start.as_ptr(),
+            table.len(),
+            buffer.start.as_ptr(),
+            length,
+            place,
+            count,
+        )
+    });
+    let what = format!("plain form at level {level} in {length} bytes");
+    same(&what, text, answer, proved)?;
+    // SAFETY: text and words are as long, and of an accepted one so many bytes
+    // are written, which valgrind checks.
+    let (text_after, words_after, theirs) = unsafe {
+        (
+            lent.written(text.len()),
+            kept.written(words.len()),
+            buffer.written(written),
+        )
+    };
+    same(
+        &format!("{what}: the bytes"),
+        text,
+        &bytes[..written],
+        theirs,
+    )?;
+    same(&format!("{what}: the text"), text, text, text_after)?;
+    same(&format!("{what}: the table"), text, words, words_after)
+}
+
+/// A text's plain form with no buffer, with what it needs, a byte less and a
+/// byte more; with words behind its table, with one too few, and with its first
+/// and its last word changed.  Of a refused text, with a table of which nothing
+/// is written.
+fn plainly(text: &[u8], forms: &mut usize) -> Compared {
+    for level in [1, 2] {
+        let mut words = vec![0; NODES_MAX * NODE_WORDS];
+        let read = tree::read(level, text, &mut words);
+        let mut compare = |words: &[u32], behind, length| {
+            *forms += 1;
+            compare_plain(level, text, words, behind, length)
+        };
+        if read.number != 0 {
+            compare(&[], NODE_WORDS, text.len())?;
+            continue;
+        }
+        words.truncate(read.count * NODE_WORDS);
+        let need = plain::write(level, text, &words, &mut []).count;
+        for length in [0, need.saturating_sub(1), need, need + 1] {
+            compare(&words, 0, length)?;
+        }
+        compare(&words, 1, need)?;
+        compare(&words, NODE_WORDS, need)?;
+        compare(&words[..words.len() - 1], 0, need)?;
+        for at in [0, words.len() - 1] {
+            let mut other = words.clone();
+            other[at] ^= 1;
+            compare(&other, 0, need)?;
+        }
+    }
+    Ok(())
+}
+
 /// A text's file with no buffer, with what it needs, a byte less and a byte
 /// more; and checks of it: whole, a byte longer, cut off in its head, by a byte
 /// and by a node, and with its first, its middle and its last byte changed.
@@ -431,23 +524,29 @@ fn all_tests(tests: &mut usize) -> Compared {
     Ok(())
 }
 
+fn written_texts() -> Vec<Vec<u8>> {
+    let mut all: Vec<Vec<u8>> = samples::all()
+        .iter()
+        .map(|sample| sample.text.to_vec())
+        .collect();
+    all.extend(texts(SEED, GENERATED));
+    all.extend(deep_texts());
+    all.extend(long_texts().into_iter().step_by(LONG_SPARSELY));
+    all.extend([2 * NODES_MAX, 2 * NODES_MAX + 2, TEXT_MAX, TEXT_MAX + 2].map(samples::members));
+    all
+}
+
 fn all_files(files: &mut usize) -> Compared {
-    for sample in samples::all() {
-        stored(sample.text, files)?;
+    written_texts()
+        .iter()
+        .try_for_each(|text| stored(text, files))
+}
+
+fn all_forms(forms: &mut usize) -> Compared {
+    for text in written_texts() {
+        plainly(&text, forms)?;
     }
-    for generated in texts(SEED, GENERATED) {
-        stored(&generated, files)?;
-    }
-    for deep in deep_texts() {
-        stored(&deep, files)?;
-    }
-    for long in long_texts().iter().step_by(LONG_SPARSELY) {
-        stored(long, files)?;
-    }
-    for length in [2 * NODES_MAX, 2 * NODES_MAX + 2, TEXT_MAX, TEXT_MAX + 2] {
-        stored(&samples::members(length), files)?;
-    }
-    Ok(())
+    plainly(&b"::Set".repeat(TEXT_MAX / 5), forms)
 }
 
 fn all_readings(readings: &mut usize) -> Compared {
@@ -503,13 +602,14 @@ fn main() -> ExitCode {
         }
         _ => {}
     }
-    let (mut readings, mut files, mut values, mut tests) = (0, 0, 0, 0);
+    let (mut readings, mut files, mut forms, mut values, mut tests) = (0, 0, 0, 0, 0);
     let outcome = all_readings(&mut readings)
         .and_then(|()| all_files(&mut files))
+        .and_then(|()| all_forms(&mut forms))
         .and_then(|()| all_values(&mut values))
         .and_then(|()| all_tests(&mut tests));
     let compared = format!(
-        "{readings} readings, {files} writings and checks of files, {values} values, {tests} UTF-8 tests"
+        "{readings} readings, {files} writings and checks of files, {forms} plain forms, {values} values, {tests} UTF-8 tests"
     );
     finish("lent_memory", &compared, outcome)
 }

@@ -1,0 +1,507 @@
+//! Compares this package's plain forms with those of the verified archive:
+//! number, place, count and every byte of the lent buffer.  Checks of the
+//! archive that the plain form is read again, with the same nodes and values,
+//! and written again, with the same bytes; that a comment in a gap changes
+//! nothing; and that twice the text is room enough.
+//!
+//! The texts are every sample, broken off at every byte and with a comment put
+//! in at every byte, generated and damaged ones, random bytes, and long ones;
+//! the tables those of these texts, exact, cut off, longer and changed, and
+//! those of others.
+//!
+//! Exits with 1 at the first disagreement.
+
+use second::answer::{Answer, DEPTH_MAX, NODES_MAX, NODE_WORDS, NOT_THE_FILE, TEXT_MAX};
+use second::compare::{
+    all_met, finish, lengths, listed, same, same_written, Compared, Difference, TURNS,
+};
+use second::generate::{good_texts, long_texts, random_bytes, texts, Random};
+use second::plain::{self, turned};
+use second::samples::readings::PLAIN;
+use second::token::Lexed;
+use second::{front, samples, token};
+use std::process::ExitCode;
+
+const SEED: u64 = 20_261_123;
+const GENERATED: usize = 12_000;
+const GOOD: usize = 6_000;
+const RANDOM_BYTES: usize = 200_000;
+const COMMENT: &[u8] = b"`)_\"`";
+const LEVELS: [u32; 2] = [1, 2];
+const NO_LEVELS: [u32; 4] = [0, 3, 258, u32::MAX];
+/// The answers that the call can give.
+const ANSWERS: [usize; 11] = [0, 1, 2, 3, 4, 5, 6, 7, 8, 11, 14];
+
+/// The words and the plain form of an accepted text.
+type Form = (Vec<u32>, Vec<u8>);
+
+/// The calls of the archive, by the package that wraps it.
+mod archive {
+    use second::answer::Answer;
+
+    pub fn write(level: u32, text: &[u8], table: &[u32], buffer: &mut [u8]) -> Answer {
+        muon::plain::write(level, text, table, buffer).into()
+    }
+
+    /// The words of an accepted text, or its refusal.
+    pub fn read(level: u32, text: &[u8]) -> Result<Vec<u32>, Answer> {
+        let mut table = vec![0; muon::TABLE_MAX];
+        let answer = muon::read(level, text, &mut table);
+        if !answer.is_accepted() {
+            return Err(answer.into());
+        }
+        table.truncate(answer.count * muon::NODE_WORDS);
+        Ok(table)
+    }
+
+    /// What a literal of this kind stands for, if there is a call that tells:
+    /// the answer's number, and the value as bytes.
+    pub fn value(kind: u32, piece: &[u8]) -> Option<(u32, Vec<u8>)> {
+        let call = match kind {
+            muon::kind::INTEGER => {
+                let answer = muon::integer(piece);
+                return Some((answer.number, answer.value.to_be_bytes().to_vec()));
+            }
+            muon::kind::BITS => muon::bits,
+            muon::kind::BLOB => muon::blob,
+            muon::kind::TEXT => muon::text,
+            _ => return None,
+        };
+        let mut buffer = vec![0; 4 * piece.len()];
+        let answer = call(piece, &mut buffer);
+        buffer.truncate(answer.count);
+        Some((answer.number, buffer))
+    }
+}
+
+/// How thoroughly a table is changed.
+#[derive(Clone, Copy)]
+enum Care {
+    /// Every word.
+    Every,
+    /// So many at random.
+    Some(usize),
+}
+
+/// What was compared.
+struct Counts {
+    random: Random,
+    texts: usize,
+    answers: [usize; 15],
+    /// Forms that were read and written again, and those of them whose nodes
+    /// have another order than the text's.
+    again: usize,
+    turned: usize,
+    /// Forms longer than a text may be.
+    longer: usize,
+    /// Literals whose values were compared.
+    values: usize,
+    /// Gaps that got a comment.
+    gaps: usize,
+    /// The last table.
+    last: Vec<u32>,
+}
+
+impl Counts {
+    fn new() -> Counts {
+        Counts {
+            random: Random::new(SEED),
+            texts: 0,
+            answers: [0; 15],
+            again: 0,
+            turned: 0,
+            longer: 0,
+            values: 0,
+            gaps: 0,
+            last: Vec::new(),
+        }
+    }
+
+    fn write(&mut self, level: u32, text: &[u8], table: &[u32], length: usize) -> Compared {
+        self.answered(level, text, table, length).map(|_| ())
+    }
+
+    /// The answer, if it is the same.
+    fn answered(
+        &mut self,
+        level: u32,
+        text: &[u8],
+        table: &[u32],
+        length: usize,
+    ) -> Result<Answer, Difference> {
+        let words = table.len();
+        let answer = same_written(
+            || format!("plain form at level {level} with {words} words in {length} bytes"),
+            text,
+            length,
+            |buffer| plain::write(level, text, table, buffer),
+            |buffer| archive::write(level, text, table, buffer),
+        )?;
+        self.answers[answer.number as usize] += TURNS.len();
+        Ok(answer)
+    }
+
+    /// The archive's table and form of a text at a level, if it accepts it,
+    /// with buffers of several lengths.
+    fn forms(&mut self, level: u32, text: &[u8]) -> Result<Option<Form>, Difference> {
+        self.texts += 1;
+        let words = match archive::read(level, text) {
+            Ok(words) => words,
+            Err(refusal) => {
+                self.refused(level, text, refusal)?;
+                return Ok(None);
+            }
+        };
+        let need = self.answered(level, text, &words, 0)?.count;
+        // none and what is always enough among them
+        let some = [0, 1, 2 * text.len(), 2 * text.len() + 1];
+        for length in lengths(&some, need, &mut self.random) {
+            self.write(level, text, &words, length)?;
+        }
+        let mut form = vec![0; 2 * text.len()];
+        let answer = archive::write(level, text, &words, &mut form);
+        let want = Answer::accepted(text.len(), need);
+        same("twice the text is enough", text, want, answer)?;
+        form.truncate(need);
+        self.again(level, text, &words, &form)?;
+        Ok(Some((words, form)))
+    }
+
+    /// A refused text is refused alike, whatever table and buffer are.
+    fn refused(&mut self, level: u32, text: &[u8], refusal: Answer) -> Compared {
+        let rubbish = vec![7; muon::TABLE_MAX];
+        let last = self.last.clone();
+        for table in [&[][..], &rubbish, &last] {
+            for length in [0, 2 * text.len()] {
+                let answer = self.answered(level, text, table, length)?;
+                same("refusal of the reader", text, refusal, answer)?;
+            }
+        }
+        Ok(())
+    }
+
+    /// That the archive reads its own form with the same nodes, ends alike at
+    /// the other level, and writes it with the same bytes.
+    fn again(&mut self, level: u32, text: &[u8], words: &[u32], form: &[u8]) -> Compared {
+        if form.len() > TEXT_MAX {
+            self.longer += 1;
+            return Ok(());
+        }
+        let Ok(after) = archive::read(level, form) else {
+            let (text, form) = (text.escape_ascii(), form.escape_ascii());
+            return Err(Difference(format!(
+                "the archive does not read its plain form b\"{form}\" of b\"{text}\""
+            )));
+        };
+        let ((nodes, from), (read, order)) = (turned(words), turned(&after));
+        same("nodes of the plain form", text, &nodes, &read)?;
+        same(
+            "order of the plain form's nodes",
+            form,
+            in_order(&order),
+            true,
+        )?;
+        for (at, node) in nodes.iter().enumerate() {
+            let value = |text, words, index| archive::value(node.kind, piece(text, words, index));
+            let (before, behind) = (value(text, words, from[at]), value(form, &after, order[at]));
+            self.values += usize::from(before.is_some());
+            same("value in the plain form", text, before, behind)?;
+        }
+        for level in LEVELS {
+            let end = |text| match archive::read(level, text) {
+                Ok(words) => (0, words.len() / NODE_WORDS),
+                Err(refusal) => (refusal.number, refusal.count),
+            };
+            let what = format!("number and count at level {level} of the plain form");
+            same(&what, text, end(text), end(form))?;
+        }
+        let mut twice = vec![0; form.len()];
+        let answer = archive::write(level, form, &after, &mut twice);
+        let want = Answer::accepted(form.len(), form.len());
+        same("answer of the form written again", form, want, answer)?;
+        same("form written again", form, form, &twice[..])?;
+        self.again += 1;
+        self.turned += usize::from(!in_order(&from));
+        Ok(())
+    }
+
+    /// Tables that are too short: the nodes are told, whatever the words are.
+    fn short(&mut self, level: u32, text: &[u8], words: &[u32]) -> Compared {
+        let nodes = Answer::no_room(text.len(), words.len() / NODE_WORDS);
+        let rubbish = vec![7; words.len()];
+        for lacking in [1, NODE_WORDS, words.len() / 2 + 1, words.len()] {
+            let length = words.len() - lacking.min(words.len());
+            for table in [&words[..length], &rubbish[..length]] {
+                for room in [0, 2 * text.len()] {
+                    let answer = self.answered(level, text, table, room)?;
+                    same("refusal of a short table", text, nodes, answer)?;
+                }
+            }
+        }
+        Ok(())
+    }
+
+    /// Words behind those of the nodes, which are free.
+    fn behind(&mut self, level: u32, text: &[u8], words: &[u32], need: usize) -> Compared {
+        let more = 1 + self.random.below(40);
+        for more in [1, NODE_WORDS - 1, NODE_WORDS, more, muon::TABLE_MAX] {
+            let mut table = words.to_vec();
+            table.extend((0..more).map(|_| u32::from(self.random.byte()) << 3));
+            let answer = self.answered(level, text, &table, need)?;
+            let want = Answer::accepted(text.len(), need);
+            same("answer with words behind", text, want, answer)?;
+        }
+        Ok(())
+    }
+
+    /// One word changed: 14, with or without room in the buffer.
+    fn changed(&mut self, level: u32, text: &[u8], words: &[u32], care: Care) -> Compared {
+        let places: Vec<usize> = match care {
+            Care::Every => (0..words.len()).collect(),
+            Care::Some(times) => {
+                let some = (0..times).map(|_| self.random.below(words.len()));
+                some.chain([0, words.len() - 1]).collect()
+            }
+        };
+        let mut table = words.to_vec();
+        for at in places {
+            let bit = 1 << self.random.below(32);
+            for (other, room) in [(words[at] ^ 1, 0), (words[at] ^ bit, 2 * text.len())] {
+                table[at] = other;
+                let answer = self.answered(level, text, &table, room)?;
+                let want = Answer::refused(NOT_THE_FILE, 0);
+                same("answer with a word changed", text, want, answer)?;
+            }
+            table[at] = words[at];
+        }
+        Ok(())
+    }
+
+    /// The tables of other texts, the last one as it is and filled up; and the
+    /// form's own.
+    fn of_others(&mut self, level: u32, text: &[u8], words: &[u32], form: &[u8]) -> Compared {
+        let last = self.last.clone();
+        self.write(level, text, &last, 2 * text.len())?;
+        let filled: Vec<u32> = last.into_iter().chain(words.iter().copied()).collect();
+        self.write(level, text, &filled, 2 * text.len())?;
+        if let Ok(own) = archive::read(level, form) {
+            self.write(level, text, &own, 2 * text.len())?;
+            self.write(level, form, words, 2 * text.len())?;
+        }
+        Ok(())
+    }
+
+    fn text(&mut self, text: &[u8], care: Care) -> Compared {
+        for level in LEVELS {
+            let Some((words, form)) = self.forms(level, text)? else {
+                continue;
+            };
+            self.short(level, text, &words)?;
+            self.behind(level, text, &words, form.len())?;
+            self.changed(level, text, &words, care)?;
+            self.of_others(level, text, &words, &form)?;
+            self.last = words;
+        }
+        let level = NO_LEVELS[self.random.below(NO_LEVELS.len())];
+        self.refused(level, text, Answer::refused(1, 0))
+    }
+
+    /// A comment at every byte; where it stands in a gap, with the same form.  Then
+    /// one in every gap at once.
+    fn commented(&mut self, text: &[u8]) -> Compared {
+        let gaps: Vec<usize> = token::list(text, front::begin(text))
+            .iter()
+            .map(Lexed::first)
+            .collect();
+        for level in LEVELS {
+            let Some((_, form)) = self.forms(level, text)? else {
+                continue;
+            };
+            for at in 0..=text.len() {
+                let other = [&text[..at], COMMENT, &text[at..]].concat();
+                let found = self.forms(level, &other)?;
+                if gaps.contains(&at) && other.len() <= TEXT_MAX {
+                    let found = found.map(|(_, form)| form);
+                    same("form without a comment", text, Some(&form), found.as_ref())?;
+                    self.gaps += 1;
+                }
+            }
+            let everywhere = gaps.iter().rev().fold(text.to_vec(), |mut other, at| {
+                other.splice(at..at, COMMENT.iter().copied());
+                other
+            });
+            if everywhere.len() <= TEXT_MAX {
+                let found = self.forms(level, &everywhere)?.map(|(_, form)| form);
+                same("form without comments", text, Some(&form), found.as_ref())?;
+            }
+        }
+        Ok(())
+    }
+
+    /// Every answer is met, and every kind of form.
+    fn every_answer(&self) -> Compared {
+        all_met("call", &self.answers, &ANSWERS)?;
+        for (what, times) in [
+            ("another order", self.turned),
+            ("a form longer than a text", self.longer),
+            ("a value", self.values),
+            ("a gap", self.gaps),
+        ] {
+            if times == 0 {
+                return Err(Difference(format!("there was never {what}")));
+            }
+        }
+        Ok(())
+    }
+
+    fn summary(&self) -> String {
+        format!(
+            "{} texts, {}, {} forms read and written again ({} in another order, {} values), {} too long for that, {} gaps with a comment",
+            self.texts,
+            listed(&self.answers, &ANSWERS),
+            self.again,
+            self.turned,
+            self.values,
+            self.longer,
+            self.gaps
+        )
+    }
+}
+
+fn in_order(indices: &[usize]) -> bool {
+    indices.windows(2).all(|pair| pair[0] < pair[1])
+}
+
+/// The bytes of a node.
+fn piece<'a>(text: &'a [u8], words: &[u32], index: usize) -> &'a [u8] {
+    let node = &words[index * NODE_WORDS..];
+    &text[node[1] as usize..node[2] as usize]
+}
+
+/// Brackets as deep as may be, around members or the innermost value.
+fn deep_texts() -> Vec<Vec<u8>> {
+    let mut all = Vec::new();
+    let wrapped = [
+        ("(b<-", ")"),
+        ("{b<-", "}"),
+        ("{a,b<-", ",c<-d}"),
+        ("(", "<-a)"),
+        ("{", "<-a}"),
+        ("{", "<-Set,Bag<-b}"),
+        ("(", "->a)"),
+        ("(", ")"),
+        ("(", ",)"),
+        ("(,", ")"),
+        ("(x:", ",)"),
+        ("(Set->", ")"),
+        ("[", "..b]"),
+        ("[a<*<=", "]"),
+        ("[*<", "]"),
+        ("{,", ",}"),
+    ];
+    for (open, close) in wrapped {
+        for inner in ["a", "{Set}", "(c<-d)", "[ 1 ]", ""] {
+            for depth in [DEPTH_MAX - 1, DEPTH_MAX, DEPTH_MAX + 1] {
+                let (open, close) = (open.repeat(depth), close.repeat(depth));
+                all.push(format!("{open}{inner}{close}").into_bytes());
+            }
+        }
+    }
+    let pairs = "b<-a,".repeat(300);
+    let (open, close) = ("{".repeat(DEPTH_MAX), "}".repeat(DEPTH_MAX));
+    all.push(format!("{open}{pairs}{close}").into_bytes());
+    all
+}
+
+/// Words that are put in quotes, in texts as long as may be.
+fn head_texts() -> Vec<Vec<u8>> {
+    let mut all = Vec::new();
+    for (front, unit, rear) in [
+        ("", "::Set", ""),
+        ("", "::Bag", "::a"),
+        ("", ":: Mix", " "),
+        ("", "::Interval_Set", ""),
+        ("(", "::Array", ":Set)"),
+        ("{5:", "::Renaming", "}"),
+    ] {
+        for length in [TEXT_MAX / 7 * 5, TEXT_MAX] {
+            let room = length - front.len() - rear.len();
+            let text = [front, &unit.repeat(room / unit.len()), rear].concat();
+            all.push(text.into_bytes());
+        }
+    }
+    // forms of the text size, less a byte and a byte more
+    for spare in 5..=7 {
+        let text = format!("{}::{}", "::Set".repeat(4_680), "a".repeat(spare));
+        all.push(text.into_bytes());
+    }
+    for members in [1, 2, NODES_MAX - 1, NODES_MAX] {
+        all.push(format!("{{{}}}", "Set,".repeat(members)).into_bytes());
+        all.push(format!("({})", "Bag , ".repeat(members)).into_bytes());
+        all.push(format!("(Set:{{{}}})", "Set,".repeat(members)).into_bytes());
+    }
+    all
+}
+
+/// Around 1,024 nodes, and around the longest text.
+fn sized_texts() -> Vec<Vec<u8>> {
+    let lots = [2 * NODES_MAX - 2, 2 * NODES_MAX, 2 * NODES_MAX + 2];
+    let mut all: Vec<Vec<u8>> = lots.map(samples::members).to_vec();
+    for unit in [
+        "b<-a,",
+        "b<-(c<-d),",
+        "x,y<-z,",
+        "::a::b:5,",
+        "{b<-a}<-[1..2],",
+    ] {
+        all.push(format!("{{{}}}", unit.repeat(200)).into_bytes());
+        all.push(format!("{{{}}}", unit.repeat(1_000)).into_bytes());
+    }
+    all.push(format!("{{{}}}", "b<-a,".repeat(511)).into_bytes());
+    let lengths = [TEXT_MAX - 1, TEXT_MAX, TEXT_MAX + 1];
+    all.extend(lengths.into_iter().flat_map(samples::digit_at_either_end));
+    all
+}
+
+fn sampled() -> Vec<&'static [u8]> {
+    let plain = PLAIN.iter().map(|(text, _)| *text);
+    let others = samples::all().into_iter().map(|sample| sample.text);
+    plain.chain(others).collect()
+}
+
+fn run(counts: &mut Counts) -> Compared {
+    for (text, form) in PLAIN {
+        let found = counts.forms(2, text)?.map(|(_, form)| form);
+        same("form of the readings", text, Some(*form), found.as_deref())?;
+    }
+    for text in sampled() {
+        counts.text(text, Care::Every)?;
+        for length in 0..text.len() {
+            counts.text(&text[..length], Care::Every)?;
+        }
+        counts.commented(text)?;
+    }
+    for text in texts(SEED, GENERATED) {
+        counts.text(&text, Care::Some(3))?;
+    }
+    for made in good_texts(SEED, GOOD) {
+        counts.text(&made.text, Care::Some(3))?;
+    }
+    for text in random_bytes(SEED, RANDOM_BYTES) {
+        counts.text(&text, Care::Some(1))?;
+    }
+    for text in deep_texts() {
+        counts.text(&text, Care::Some(6))?;
+    }
+    let long = [head_texts(), sized_texts(), long_texts()].concat();
+    for text in long {
+        counts.text(&text, Care::Some(3))?;
+    }
+    counts.every_answer()
+}
+
+fn main() -> ExitCode {
+    let mut counts = Counts::new();
+    let outcome = run(&mut counts);
+    finish("compare_plain", &counts.summary(), outcome)
+}
