@@ -56,6 +56,11 @@ impl Library for Proved {
         (answer.number, answer.place)
     }
 
+    fn plain(&self, level: u32, text: &[u8], table: &[u32]) -> (u32, usize, Vec<u8>) {
+        let write = |text: &[u8], buffer: &mut [u8]| muon::plain::write(level, text, table, buffer);
+        written(write, text)
+    }
+
     fn utf8(&self, text: &[u8]) -> (u32, usize, usize) {
         let answer = muon::utf8(text);
         (answer.number, answer.place, answer.steps)
@@ -76,8 +81,8 @@ impl Library for Proved {
     }
 }
 
-fn written(call: fn(&[u8], &mut [u8]) -> muon::Answer, piece: &[u8]) -> (u32, usize, Vec<u8>) {
-    // room enough for the bits of any piece, and for any file
+fn written(call: impl Fn(&[u8], &mut [u8]) -> muon::Answer, piece: &[u8]) -> (u32, usize, Vec<u8>) {
+    // room enough for the bits of any piece, for any file and for any plain form
     let mut buffer = vec![0; (4 * piece.len()).max(muon::file::MAX)];
     let answer = call(piece, &mut buffer);
     buffer.truncate(answer.count);
@@ -219,6 +224,8 @@ fn self_test(repository: &Repository, root: &Path) -> Result<(), String> {
         "`seventeen letters` has 4 steps",
         "`x` has the file 46 4E 54 00 01",
         "With the file 46 4E 54 00, `x` is 13@0",
+        "`{b<-a}` is written `{b:a}`",
+        "With the table of `(x,y)`, `(x:y)` is 8@5",
         "`1..10` has the tokens `1.`, `.10`",
         "    $ printf '5' | target/bin/muon\n    ok 2 2\n",
     ];
@@ -230,6 +237,8 @@ fn self_test(repository: &Repository, root: &Path) -> Result<(), String> {
         "`seventeen` has 2 steps, in the UTF-8 call `a\\xFF` is 3@1",
         "`x` has the file 46 4E 54 00 01 00 01 00 01 00 07 00 00 00 01 00 00 00 00 00 02",
         "With the file 46 4E 54 00, `x` is 12@0; as a text to be stored `(x` is 6@2",
+        "`{b<-a}` is written `{a:b}`, `(x)` is written `x`; to be written plainly, `(x` is 6@2",
+        "With the table of `(x,y)`, `(x:y)` is 14@0",
         "    $ printf '5' | target/bin/muon\n    ok 2 1\n    3 0 1 0 0 0\n",
     ];
     if let Some(text) = wrong.iter().find(|text| findings(text) == 0) {

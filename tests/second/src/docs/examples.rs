@@ -14,7 +14,11 @@
 //!   step", by the UTF-8 call. There `\xFF` in a text is that byte;
 //! * "TEXT has the file 46 4E 54", by the writer of stored files, whose refusal
 //!   is "TEXT is 6@2" where the sentence says "to be stored" before; and "TEXT
-//!   is 12@0", by their checker, where it says "with the file 46 4E" before.
+//!   is 12@0", by their checker, where it says "with the file 46 4E" before;
+//! * "TEXT is written OTHER", its plain form at level 2, or at the one that the
+//!   sentence names before; of a refusal "TEXT is 6@2" where the sentence says
+//!   "to be written plainly" before, or "TEXT is 14@0" where it says "with the
+//!   table of OTHER" before.
 //!
 //! In a table with the columns "text", "old reader" and "new reader" or "both
 //! readers": an answer, nodes, a number of nodes, or "the same" as before.
@@ -25,7 +29,7 @@ use super::{Document, Finding};
 use crate::answer::{Answer, NODES_MAX, NODE_WORDS, NO_TOKEN};
 use crate::file::FILE_MAX;
 use crate::token::Lexed;
-use crate::{file, front, token, tree, utf8, value};
+use crate::{file, front, plain, token, tree, utf8, value};
 
 #[derive(Clone, Debug, PartialEq, Eq)]
 pub enum Call {
@@ -39,6 +43,8 @@ pub enum Call {
     File,
     /// Of these bytes as the file.
     Check(Vec<u8>),
+    /// At a level, with the table of the text, or of another.
+    Plain(u32, Option<String>),
     /// The text is a command.
     Shell,
 }
@@ -61,6 +67,8 @@ pub enum Want {
     Bytes(Vec<u8>),
     /// Of the UTF-8 test.
     Steps(usize),
+    /// The plain form.
+    Form(String),
     Writes(String),
 }
 
@@ -72,6 +80,13 @@ pub struct Example {
     pub call: Call,
     pub want: Want,
 }
+
+/// The level of a plain form, if the sentence names none.
+const PLAIN_LEVEL: u32 = 2;
+/// Between a text and its plain form.
+const IS_WRITTEN: &str = " is written ";
+/// In front of a text whose table is lent.
+const TABLE_OF: &str = "ith the table of ";
 
 /// What a text is given to, as the sentence says.
 #[derive(Clone, Debug, PartialEq, Eq)]
@@ -85,6 +100,8 @@ enum Asked {
     Utf8,
     File,
     Check(Vec<u8>),
+    /// With the table of this text, if not of the same.
+    Plain(Option<String>),
 }
 
 impl Asked {
@@ -99,6 +116,16 @@ impl Asked {
             Asked::Utf8 => vec![Call::Utf8],
             Asked::File => vec![Call::File],
             Asked::Check(bytes) => vec![Call::Check(bytes.clone())],
+            Asked::Plain(_) => vec![self.plain()],
+        }
+    }
+
+    /// The call for the plain form of a text in such a sentence.
+    fn plain(&self) -> Call {
+        match self {
+            Asked::Level(level) => Call::Plain(*level, None),
+            Asked::Plain(other) => Call::Plain(PLAIN_LEVEL, other.clone()),
+            _ => Call::Plain(PLAIN_LEVEL, None),
         }
     }
 }
@@ -249,12 +276,15 @@ fn leading_count(text: &str, noun: &str) -> Option<usize> {
         .flatten()
 }
 
-/// Whether what stands behind a text, which may look like a name, tells its
-/// steps or its file.
-pub fn tells_answer(behind: &str) -> bool {
+/// Whether what looks like a name is a text, by the prose on its two sides: its
+/// steps or its file are told, it is written plainly or is a plain form, or its
+/// table is meant.
+pub fn is_text(before: &str, behind: &str) -> bool {
     let told = behind.strip_prefix(" has ");
     let of_text = |rest| leading_count(rest, "step").is_some() || rest.starts_with("the file ");
     told.is_some_and(of_text)
+        || [before, behind].contains(&IS_WRITTEN)
+        || before.ends_with(TABLE_OF)
 }
 
 /// The bytes of a text, in which `\xFF` is that byte.
@@ -295,6 +325,7 @@ fn asked(before: Asked, prose: &str) -> Asked {
         ("Bits call", Asked::Bits),
         ("UTF-8 call", Asked::Utf8),
         ("to be stored", Asked::File),
+        ("to be written plainly", Asked::Plain(None)),
     ];
     for (phrase, call) in phrases {
         if sentence.contains(phrase) {
@@ -305,6 +336,11 @@ fn asked(before: Asked, prose: &str) -> Asked {
         asked = Asked::Check(leading_bytes(bytes, 2));
     }
     asked
+}
+
+/// Whether the text behind these parts is one whose table is lent.
+fn behind_table_of(before: &[Part]) -> bool {
+    matches!(before.last(), Some(Part::Prose(prose)) if one_spaced(prose).ends_with(TABLE_OF))
 }
 
 fn is_node(text: &str) -> bool {
@@ -345,6 +381,9 @@ impl Reader<'_> {
                     context = asked(context, &one_spaced(prose));
                     answers += answers_in(prose);
                 }
+                Part::Code { text, .. } if behind_table_of(&passage.parts[..at]) => {
+                    context = Asked::Plain(Some(text.clone()));
+                }
                 Part::Code { text, line, .. } => {
                     used += usize::from(self.statement(
                         text,
@@ -366,6 +405,10 @@ impl Reader<'_> {
             return false;
         };
         let said = one_spaced(prose);
+        if let (IS_WRITTEN, Some(Part::Code { text: form, .. })) = (&said[..], behind.get(1)) {
+            self.add(line, text, &[context.plain()], &Want::Form(form.clone()));
+            return false;
+        }
         if let Some(rest) = said.strip_prefix(" is ") {
             let Some(((number, place), end)) = leading_answer(rest) else {
                 return false;
@@ -496,6 +539,8 @@ pub trait Library {
     fn file(&self, text: &[u8]) -> (u32, usize, Vec<u8>);
     /// Number and place.
     fn check(&self, text: &[u8], file: &[u8]) -> (u32, usize);
+    /// Number, place and bytes.
+    fn plain(&self, level: u32, text: &[u8], table: &[u32]) -> (u32, usize, Vec<u8>);
     /// Number, place and steps.
     fn utf8(&self, text: &[u8]) -> (u32, usize, usize);
     /// Spans of the tokens, and the place where none starts.
@@ -539,6 +584,11 @@ impl Library for Second {
         (answer.number, answer.place)
     }
 
+    fn plain(&self, level: u32, text: &[u8], table: &[u32]) -> (u32, usize, Vec<u8>) {
+        let write = |text: &[u8], buffer: &mut [u8]| plain::write(level, text, table, buffer);
+        written(write, text)
+    }
+
     fn utf8(&self, text: &[u8]) -> (u32, usize, usize) {
         let tested = utf8::test(text);
         (tested.number, tested.place, tested.steps)
@@ -557,8 +607,8 @@ impl Library for Second {
     }
 }
 
-fn written(call: fn(&[u8], &mut [u8]) -> Answer, piece: &[u8]) -> (u32, usize, Vec<u8>) {
-    // room enough for the bits of any piece, and for any file
+fn written(call: impl Fn(&[u8], &mut [u8]) -> Answer, piece: &[u8]) -> (u32, usize, Vec<u8>) {
+    // room enough for the bits of any piece, for any file and for any plain form
     let mut buffer = vec![0; (4 * piece.len()).max(FILE_MAX)];
     let answer = call(piece, &mut buffer);
     buffer.truncate(answer.count);
@@ -580,6 +630,11 @@ pub fn run(example: &Example, library: &dyn Library) -> Result<(), String> {
         Call::Check(file) => {
             let (number, place) = library.check(text, file);
             Want::Refused(number, place)
+        }
+        Call::Plain(level, other) => {
+            let read = other.as_ref().map_or(text, String::as_bytes);
+            let (_, _, table) = library.read(*level, read);
+            form(library.plain(*level, text, &table))
         }
         Call::Shell => return Ok(()),
     };
@@ -643,6 +698,13 @@ fn bytes((number, place, bytes): (u32, usize, Vec<u8>)) -> Want {
     }
 }
 
+fn form((number, place, bytes): (u32, usize, Vec<u8>)) -> Want {
+    match number {
+        0 => Want::Form(String::from_utf8_lossy(&bytes).into_owned()),
+        _ => Want::Refused(number, place),
+    }
+}
+
 /// The steps are told of a refused text too, if they are wanted.
 fn steps(want: &Want, (number, place, steps): (u32, usize, usize)) -> Want {
     match (number, want) {
@@ -678,9 +740,12 @@ mod tests {
             `0bb` has no bits. The Blob call: `0xy====` is 5@0. The Bits call: `0xx` is 9@0. \
             `seventeen letters` has 3 steps. The UTF-8 call: `aaaaaaaa\\xC3\\x41` is 3@8 after 1 step, and `a\\xFF` has 1 step. \
             `x` has the file 46 4E 54 00 01 00 01 00 01 00 07 00 00 00 01 00 00 00 00 00 02. As a text to be stored, `(x` is 6@2. \
-            With the file 46 4E 54 00, `x` is 12@0. With the file 46 4E 54 00 01, `(x` is 14@0.";
+            With the file 46 4E 54 00, `x` is 12@0. With the file 46 4E 54 00 01, `(x` is 14@0. \
+            `( , x : + 0d 1_0 , )` is written `(x:+0d10,)`, and `(x)` is written `x`. At level 1 `{b<-a}` is written `{a:b}`. \
+            As a text to be written plainly, `(x` is 6@2. With the table of `(x,y)`, `(x:y)` is 14@0; \
+            with the table of `(a:b)`, `(x:y)` is written `(x:y)`, and with the table of `x`, `(x:y)` is 8@5.";
         let found = of(text);
-        assert_eq!(found.examples.len(), 26);
+        assert_eq!(found.examples.len(), 33);
         assert_eq!(wrong(text), 0);
     }
 
@@ -706,6 +771,14 @@ mod tests {
         assert_eq!(wrong("A text to be stored: `(x` is 6@1"), 1);
         assert_eq!(wrong("With the file 46 4E 54 00 02, `x` is 12@0"), 1);
         assert_eq!(wrong("With the file 46 4E 54 00 01, `x` is 13@0"), 1);
+        assert_eq!(wrong("`{b<-a}` is written `{b:a}`"), 1);
+        assert_eq!(wrong("At level 1 `[ 5 ]` is written `[5]`"), 1);
+        assert_eq!(wrong("A text to be written plainly: `(x` is 6@1"), 1);
+        assert_eq!(wrong("With the table of `(x:y)`, `(x:y)` is 14@0"), 1);
+        assert_eq!(
+            wrong("With the table of `(x,y)`, `(x:y)` is written `(x:y)`"),
+            1
+        );
         assert_eq!(wrong("an answer, 6@4, without a text"), 1);
     }
 

@@ -1,6 +1,6 @@
 //! What the documents name.
 
-use super::examples::tells_answer;
+use super::examples::is_text;
 use super::index::{is_name_char, Repository};
 use super::markup::{one_spaced, Block, Part, Passage};
 use super::{Document, Finding};
@@ -237,7 +237,7 @@ impl Checker<'_> {
     }
 
     fn quote(&mut self, quote: &Quote, scope: Scope) -> Scope {
-        if tells_answer(quote.behind) {
+        if is_text(quote.before, quote.behind) {
             return Scope::Anywhere;
         }
         match look(quote.text) {
