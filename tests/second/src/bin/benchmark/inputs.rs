@@ -1,6 +1,6 @@
 //! Accepted texts and pieces of a given length, each of one shape.
 
-use second::answer::DEPTH_MAX;
+use second::answer::{DEPTH_MAX, NODES_MAX};
 use std::iter;
 
 pub const SIZES: [usize; 3] = [1_024, 8_192, 32_768];
@@ -49,6 +49,15 @@ pub const UTF8_SHAPES: [(&str, Shape); 4] = [
 /// The settings again, for what keeps them.
 pub const WRITE_SHAPES: [(&str, Shape); 1] = [("file-written", settings)];
 pub const CHECK_SHAPES: [(&str, Shape); 1] = [("file-checked", settings)];
+
+/// And pairs that are turned, of which each side is looked for.
+pub const PLAIN_SHAPES: [(&str, Shape); 5] = [
+    ("plain-settings", settings),
+    ("plain-pairs", pairs),
+    ("plain-arrows", arrows),
+    ("plain-deep-this", |size| deep_pairs("(b<-", ")", size)),
+    ("plain-deep-that", |size| deep_pairs("(", "<-b)", size)),
+];
 
 /// Plain ASCII.
 const PLAIN: &str = "A page of the manual, pasted whole. ";
@@ -154,6 +163,32 @@ fn nesting(size: usize) -> Vec<u8> {
     let rest = size - open.len() - DEPTH_MAX;
     let inner = words(rest);
     padded(format!("{open}{inner}{}", "}".repeat(DEPTH_MAX)), size)
+}
+
+/// A Lot of pairs, written that before this: as many as fit, or as may be with
+/// a pair around it for each further bracket.
+fn pairs(size: usize) -> Vec<u8> {
+    let most = NODES_MAX / 2 - DEPTH_MAX;
+    let each = (size / most).max("b<-a,".len());
+    let word = "a".repeat((each - "<-,".len()) / 2);
+    let members = format!("{word}<-{word},").repeat(most.min((size - 2) / each));
+    padded(format!("{{{members}}}"), size)
+}
+
+/// As many pairs as may be, each the this of the one around it.
+fn arrows(size: usize) -> Vec<u8> {
+    let each = size / DEPTH_MAX - 1;
+    let open = format!("({}<-", "b".repeat(each - "(<-)".len()));
+    let (open, close) = (open.repeat(DEPTH_MAX), ")".repeat(DEPTH_MAX));
+    padded(format!("{open}a{close}"), size)
+}
+
+/// Pairs around a Lot of pairs, which is the innermost this or that.
+fn deep_pairs(open: &str, close: &str, size: usize) -> Vec<u8> {
+    let [open, close] = [open, close].map(|part| part.repeat(DEPTH_MAX - 1));
+    let inner = pairs(size - open.len() - close.len());
+    let inner = String::from_utf8(inner).expect("pairs are UTF-8");
+    padded(format!("{open}{inner}{close}"), size)
 }
 
 /// Groups around a Tuple.

@@ -8,12 +8,12 @@
 mod inputs;
 
 use inputs::{
-    grouped, Shape, BITS_SHAPES, BLOB_SHAPES, CHECK_SHAPES, SHAPES, SIZES, UTF8_SHAPES,
-    WRITE_SHAPES,
+    grouped, Shape, BITS_SHAPES, BLOB_SHAPES, CHECK_SHAPES, PLAIN_SHAPES, SHAPES, SIZES,
+    UTF8_SHAPES, WRITE_SHAPES,
 };
 use second::answer::DEPTH_MAX;
 use second::generate::long_shapes;
-use second::{file, tree, utf8, value};
+use second::{file, plain, tree, utf8, value};
 use std::hint::black_box;
 use std::process::ExitCode;
 use std::time::{Duration, Instant};
@@ -22,18 +22,22 @@ const LEVEL: u32 = 2;
 /// A call is timed for so long; the fastest of its rounds counts.
 const LONG_ENOUGH: Duration = Duration::from_millis(200);
 
-/// What is lent to the calls: the longest table, the longest buffer, and the
-/// stored file of the text.
+/// What is lent to the calls: the longest table, the longest buffer, and what
+/// was read of the text, as a table and as a stored file.
 struct Lent {
     table: [u32; muon::TABLE_MAX],
     buffer: [u8; muon::BITS_MAX],
+    read: Vec<u32>,
     stored: Vec<u8>,
 }
 
 impl Lent {
-    /// For a text; one that has no file needs none.
+    /// For a text; one that is refused needs neither table nor file.
     fn new(text: &[u8]) -> Lent {
+        let mut read = vec![0; muon::TABLE_MAX];
+        muon::read(LEVEL, text, &mut read);
         Lent {
+            read,
             table: [0; muon::TABLE_MAX],
             buffer: [0; muon::BITS_MAX],
             stored: muon::file::to_vec(text).unwrap_or_default(),
@@ -87,6 +91,14 @@ const CHECK: Calls = [
         file::check(text, &lent.stored).number
     }),
 ];
+const PLAIN: Calls = [
+    ("proved", |text, lent| {
+        muon::plain::write(LEVEL, text, &lent.read, &mut lent.buffer).number
+    }),
+    ("second", |text, lent| {
+        plain::write(LEVEL, text, &lent.read, &mut lent.buffer).number
+    }),
+];
 const UTF8: Calls = [
     ("proved", |text, _| muon::utf8(text).number),
     ("second", |text, _| utf8::test(text).number),
@@ -104,6 +116,7 @@ fn shapes() -> Vec<(&'static str, Shape, Calls)> {
         with(&BITS_SHAPES, BITS),
         with(&WRITE_SHAPES, WRITE),
         with(&CHECK_SHAPES, CHECK),
+        with(&PLAIN_SHAPES, PLAIN),
         with(&UTF8_SHAPES, UTF8),
     ]
     .concat()
