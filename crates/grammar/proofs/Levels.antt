@@ -99,6 +99,7 @@ module _ (a b : Level) (within : a Within b) (arrows : a leftArrows ≡ b leftAr
       record {
         bracket = λ K q p. knownBracket us t ts vs K (e ∙ ap some q) k p;
         head = λ h s o K q p. knownHead us t ts vs h s o K (e ∙ ap some q) k p;
+        arrow = λ p. arrows;
       }
 
   -- ---- runs
@@ -113,7 +114,7 @@ module _ (a b : Level) (within : a Within b) (arrows : a leftArrows ≡ b leftAr
   agree [] us vs c e k = refl
   agree (t ∷ ts) us vs c e k =
       agreeRest us t ts vs c e k (λ d p q. agree ts (us ++ (t ∷ [])) vs d p q) (step a c t) refl
-      ∙ ap (λ (m : Option Config). run b m ts) (stepSame a b arrows c t (knownForms us t ts vs c e k))
+      ∙ ap (λ (m : Option Config). run b m ts) (stepSame a b c t (knownForms us t ts vs c e k))
 
   -- tokens with no newer form are read alike
   pub alike : (ts vs : List Tok) → Known a ts vs → runs a ts ≡ runs b ts

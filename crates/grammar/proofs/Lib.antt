@@ -17,5 +17,6 @@ pub mod FirstNewer
 pub mod Compared
 pub mod NodeLaws
 pub mod Nodes
+pub mod Retired
 pub mod Bounds
 pub mod Examples

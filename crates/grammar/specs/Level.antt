@@ -9,8 +9,8 @@ use Rattle.grammar.specs.Tree
 use Rattle.grammar.specs.Tree.{Arrow, rightward, leftward, Joiner, Collection, array, set, bag, Style, Value}
 use Rattle.grammar.specs.Tree.{Plain, Item, Row, Listing, Attributes, Bounds}
 
--- the forms that a level may have or lack; both of 01's levels have the arrow `<-`, which a later rule may retire
--- (docs/DECISIONS.md, point 28)
+-- the forms that a level may have or lack; both of 01's levels have the arrow `<-`, and by them places are judged even
+-- where it is retired (docs/DECISIONS.md, point 28)
 pub data Feature : Type 0 where
   arrays sets bags intervals leftArrows : Feature
 
@@ -31,6 +31,14 @@ level2 sets = true
 level2 bags = true
 level2 intervals = true
 level2 leftArrows = true
+
+-- a level without the backward arrow: 02, request 6, retires it
+abbrev pub arrowless : Level → Level
+arrowless l arrays = l arrays
+arrowless l sets = l sets
+arrowless l bags = l bags
+arrowless l intervals = l intervals
+arrowless l leftArrows = false
 
 infix 40 _Within_
 -- one level's forms are among another's
