@@ -12,7 +12,6 @@ use Rattle.lexicon.specs.declared.Next.the-variants as Next
 use Rattle.lexicon.specs.Utf8.{WellFormed}
 use Rattle.lexicon.specs.Front.{Front}
 use Rattle.lexicon.specs.Token.{Comes}
-use Rattle.rules.proofs.Matches.{forward}
 use Rattle.lexicon.proofs.Unique.{token-forward}
 use Rattle.lexicon.proofs.Determined.{formed-or-bad}
 use Rattle.grammar.specs.Tokens.{Tok}
@@ -31,8 +30,8 @@ use Rattle.reading.specs.Answers.{LevelOf, first, second, Accepted, Read
 use Rattle.reading.specs.Agree.{NewerFrom, FirstNewer, Agree}
 use Rattle.reading.specs.Tests.{First}
 use Rattle.reading.proofs.Tests.{None, no-test, all-fail, behind as others, no-number, Alike, same, first-alike, none-alike}
-use Rattle.reading.proofs.Rows.{Order, equal, less, more, order, pick, no-end, no-none, comes-forward, one-row, row-beyond, append, split}
-use Rattle.reading.proofs.First.{follows, start, went}
+use Rattle.reading.proofs.Rows.{Order, equal, less, more, order, pick, comes-forward, one-row, row-beyond, append, split}
+use Rattle.reading.proofs.First.{follows, start, went, fault-later, fault-there}
 use Rattle.reading.proofs.Unique.{one-level, one-answer}
 
 module _ (bytes : List ℕ) (limits : Limits) (a b : Level) (within : a Within b) (arrows : a leftArrows ≡ b leftArrows) where
@@ -168,18 +167,6 @@ module _ (bytes : List ℕ) (limits : Limits) (a b : Level) (within : a Within b
 
   -- ---- behind it
 
-  -- a fault is not before the place from which its token is looked for
-  fault-later : {ts : List Tok} {x p n q : ℕ} → x ≤ p → x ≤ length bytes → Fault limits b bytes ts p n q → x ≤ q
-  fault-later h g (noToken d) = omega (arith, h, forward (d .0 .takes))
-  fault-later h g (wrongEnd d w) = omega (arith, g, d .0)
-  fault-later h g (atToken d x) = omega (arith, h, comes-forward bytes d)
-
-  -- where a token comes, a fault is at its first byte
-  fault-there : {ts : List Tok} {p n q : ℕ} {t : Token.Token} → Comes bytes p (Next.Token t) → Fault limits b bytes ts p n q → t .first ≤ q
-  fault-there {p = p} c (noToken d) = absurd (no-none bytes p c d)
-  fault-there {p = p} c (wrongEnd d w) = absurd (no-end bytes p c d)
-  fault-there c (atToken d x) = omega (arith, ap (λ (t : Token.Token). t .first) (pick bytes c d))
-
   pub there-or-later : {n m p q : ℕ} → n ≡ 7 → FirstFault limits a bytes n p → FirstFault limits b bytes m q → p ≤ q
   there-or-later {n} {m} {p} {q} e f g = by (order (length (g .before)) (length (f .before)))
     where
@@ -198,10 +185,10 @@ module _ (bytes : List ℕ) (limits : Limits) (a b : Level) (within : a Within b
       by : Order (length (g .before)) (length (f .before)) → p ≤ q
       by (equal h) =
           let o = one-row bytes new old h in
-          omega (arith, x .place-is, fault-there (x .comes) (subst (λ (r : ℕ). Fault limits b bytes (g .before) r m q) (o .1) (g .fault)))
+          omega (arith, x .place-is, fault-there bytes limits b (x .comes) (subst (λ (r : ℕ). Fault limits b bytes (g .before) r m q) (o .1) (g .fault)))
       by (less h) = absurd (went bytes limits b (at .1) new (passed-too (f .good)) h .sound m q (g .fault))
       by (more h) =
-          fault-later (omega (arith, x .place-is, token-forward bytes (x .comes .2), row-beyond bytes old (x .comes) new h))
+          fault-later bytes limits b (omega (arith, x .place-is, token-forward bytes (x .comes .2), row-beyond bytes old (x .comes) new h))
           (omega (arith, x .place-is, x .comes .1)) (g .fault)
 
 -- ---- the answers

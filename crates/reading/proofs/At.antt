@@ -29,10 +29,10 @@ use Rattle.grammar.proofs.Viable.{Wants, wants, wantsValue}
 use Rattle.grammar.proofs.FirstNewer.{wanting, isBeyond, beyondHolds}
 use Rattle.reading.specs.declared.Limits.{Limits}
 use Rattle.reading.specs.Tokens.{seen, Follow, nothing, next, openMark, openBehind, openFrom, opened}
-use Rattle.reading.specs.Faults.{NewerAt, TooDeep, FirstFault, AllPassed}
+use Rattle.reading.specs.Faults.{NewerAt, Retired, TooDeep, FirstFault, AllPassed}
 use Rattle.reading.specs.Answers.{Accepted}
-use Rattle.reading.proofs.Decide.{whole, final-whole}
-use Rattle.reading.proofs.Stands.{mayBegin, Stands, at-front, not-by-class, not-by-place, goes-on, no-token, wrong-place, wrong-end, newer-form, bad-value, too-deep}
+use Rattle.reading.proofs.Decide.{whole, final-whole, isArrow, not-arrow}
+use Rattle.reading.proofs.Stands.{mayBegin, Stands, at-front, not-by-class, not-by-place, goes-on, no-token, wrong-place, wrong-end, newer-form, arrow-retired, bad-value, too-deep}
 
 -- ---- classes
 
@@ -226,6 +226,26 @@ plain-known square e = absurd (false≢true e)
 plain-known (mark m) e = refl
 plain-known later e = absurd (false≢true e)
 
+plain-arrow : (c : Class) → plain c ≡ true → isArrow c ≡ false
+plain-arrow (atom a) e = refl
+plain-arrow (text w) e = refl
+plain-arrow names e = refl
+plain-arrow round e = refl
+plain-arrow curly e = refl
+plain-arrow square e = refl
+plain-arrow (mark m) e = absurd (false≢true e)
+plain-arrow later e = refl
+
+opens-arrow : (c : Class) → opens c ≡ true → isArrow c ≡ false
+opens-arrow (atom a) e = refl
+opens-arrow (text w) e = refl
+opens-arrow names e = refl
+opens-arrow round e = refl
+opens-arrow curly e = refl
+opens-arrow square e = refl
+opens-arrow (mark m) e = absurd (false≢true e)
+opens-arrow later e = refl
+
 -- ---- configurations
 
 wants-stack : {c : Config} → ((K : Stack) → c ≡ want K → ⊥) → Wants c → ⊥
@@ -294,11 +314,12 @@ module _ (limits : Limits) (l : Level) (bytes : List ℕ) where
   -- ---- on
 
   on : {d p n : ℕ} {c c' : Config} (a : At d p c) (t : Token.Token) → Comes bytes p (Next.Token t) → (NewerAt l bytes (a .tokens) t → ⊥) →
-      step l c (seen t) ≡ some c' → t .bad ≡ false → (TooDeep limits (a .tokens) t → ⊥) → openBehind (classKind (t .kind)) d ≡ n → At n (t .end) c'
-  on {d} {p} {n} {c} {c'} a t k v e b h g =
+      step l c (seen t) ≡ some c' → (Retired limits t → ⊥) → t .bad ≡ false → (TooDeep limits (a .tokens) t → ⊥) →
+      openBehind (classKind (t .kind)) d ≡ n → At n (t .end) c'
+  on {d} {p} {n} {c} {c'} a t k v e r b h g =
       record {
         tokens = a .tokens ++ (seen t ∷ []);
-        stands = goes-on limits l bytes (a .stands) k v e b h;
+        stands = goes-on limits l bytes (a .stands) k v e r b h;
         deep = openFrom-one 0 (a .tokens) (seen t) ∙ ap (openBehind (classKind (t .kind))) (a .deep) ∙ g;
       }
 
@@ -307,16 +328,16 @@ module _ (limits : Limits) (l : Level) (bytes : List ℕ) where
   not-deeper {ts} t h x = omega (arith, h, openFrom-one 0 ts (seen t), x .deeper)
 
   pub sign-on : {d p : ℕ} {c c' : Config} → At d p c → (t : Token.Token) → Comes bytes p (Next.Token t) → (m : Mark) → classKind (t .kind) ≡ mark m →
-      step l c (seen t) ≡ some c' → At (openMark m d) (t .end) c'
-  sign-on {d} a t k m e s =
-      on a t k (λ n. not-by-class limits l bytes t (ap mayBegin e) n) s (never-bad t k (ap mayBeBad (class-kind (t .kind) e) ∙ mark-good m))
+      (Retired limits t → ⊥) → step l c (seen t) ≡ some c' → At (openMark m d) (t .end) c'
+  sign-on {d} a t k m e r s =
+      on a t k (λ n. not-by-class limits l bytes t (ap mayBegin e) n) s r (never-bad t k (ap mayBeBad (class-kind (t .kind) e) ∙ mark-good m))
       (λ x. not-deeper t (subst (λ (y : Class). openBehind y (opened (a .tokens)) ≤ opened (a .tokens)) (sym e) (mark-less m (opened (a .tokens)))) x)
       (ap (λ (y : Class). openBehind y d) e)
 
   pub literal-on : {d p : ℕ} {c c' : Config} → At d p c → (t : Token.Token) → Comes bytes p (Next.Token t) → plain (classKind (t .kind)) ≡ true →
       t .bad ≡ false → step l c (seen t) ≡ some c' → At d (t .end) c'
   literal-on {d} a t k e b s =
-      on a t k (λ n. not-by-class limits l bytes t (plain-known (classKind (t .kind)) e) n) s b
+      on a t k (λ n. not-by-class limits l bytes t (plain-known (classKind (t .kind)) e) n) s (λ r. not-arrow t (plain-arrow (classKind (t .kind)) e) r) b
       (λ x. not-deeper t (omega (arith, plain-same (classKind (t .kind)) (opened (a .tokens)) e)) x)
       (plain-same (classKind (t .kind)) d e)
 
@@ -330,7 +351,7 @@ module _ (limits : Limits) (l : Level) (bytes : List ℕ) where
   pub open-on : {d p : ℕ} {c c' : Config} (a : At d p c) (t : Token.Token) → Comes bytes p (Next.Token t) → opens (classKind (t .kind)) ≡ true →
       (NewerAt l bytes (a .tokens) t → ⊥) → d < limits .depth → step l c (seen t) ≡ some c' → At (suc d) (t .end) c'
   open-on {d} a t k e v h s =
-      on a t k v s (bracket-good t k e) (λ x. omega (arith, one-more (a .tokens) t e, a .deep, h, x .beyond)) (opens-more (classKind (t .kind)) d e)
+      on a t k v s (λ r. not-arrow t (opens-arrow (classKind (t .kind)) e) r) (bracket-good t k e) (λ x. omega (arith, one-more (a .tokens) t e, a .deep, h, x .beyond)) (opens-more (classKind (t .kind)) d e)
 
   -- ---- the refusals
 
@@ -377,15 +398,20 @@ module _ (limits : Limits) (l : Level) (bytes : List ℕ) where
       (subst (λ (y : Kind). Beyond l (tok round (seen t .at) ∷ tok (classKind y) (seen u .at) ∷ seen w ∷ [])) (sym x')
       (subst (λ (y : Kind). Beyond l (tok round (seen t .at) ∷ tok (text (headWord h)) (seen u .at) ∷ tok (classKind y) (seen w .at) ∷ [])) (sym x'') (newerHead i))))
 
+  pub retired-here : {d p : ℕ} {c c' : Config} → At d p c → (t : Token.Token) → Comes bytes p (Next.Token t) → Retired limits t →
+      step l c (seen t) ≡ some c' → FirstFault limits l bytes 15 (t .first)
+  retired-here a t k r s = arrow-retired limits l bytes (a .stands) k (λ n. not-by-class limits l bytes t (ap mayBegin (r .arrow)) n) s r
+
   pub bad-here : {d p : ℕ} {c c' : Config} → At d p c → (t : Token.Token) → Comes bytes p (Next.Token t) → plain (classKind (t .kind)) ≡ true →
       t .bad ≡ true → step l c (seen t) ≡ some c' → FirstFault limits l bytes 5 (t .first)
-  bad-here a t k e b s = bad-value limits l bytes (a .stands) k (λ n. not-by-class limits l bytes t (plain-known (classKind (t .kind)) e) n) s b
+  bad-here a t k e b s = bad-value limits l bytes (a .stands) k (λ n. not-by-class limits l bytes t (plain-known (classKind (t .kind)) e) n) s
+      (λ r. not-arrow t (plain-arrow (classKind (t .kind)) e) r) b
 
   pub deep-here : {d p : ℕ} {c c' : Config} (a : At d p c) (t : Token.Token) → Comes bytes p (Next.Token t) → opens (classKind (t .kind)) ≡ true →
       (NewerAt l bytes (a .tokens) t → ⊥) → limits .depth ≤ d → step l c (seen t) ≡ some c' → FirstFault limits l bytes 11 (t .first)
   deep-here a t k e v h s =
       let more = one-more (a .tokens) t e in
-      too-deep limits l bytes (a .stands) k v s (bracket-good t k e)
+      too-deep limits l bytes (a .stands) k v s (λ r. not-arrow t (opens-arrow (classKind (t .kind)) e) r) (bracket-good t k e)
       (record { deeper = omega (arith, more); beyond = omega (arith, more, a .deep, h) })
 
   -- ---- the end of a whole value

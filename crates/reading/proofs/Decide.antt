@@ -1,6 +1,6 @@
 -- What stands at a place behind tokens that pass is decided: a fault, the end of a text of the level, or a token that passes.
 -- Assumes nothing.
-use mathlib.Core.Path.{_≡_, refl, sym, subst, _∙_}
+use mathlib.Core.Path.{_≡_, refl, sym, ap, subst, _∙_}
 use mathlib.Core.Bool.{Bool, true, false, false≢true}
 use mathlib.Core.Logic.{_⊎_, inl, inr}
 use mathlib.Core.List.{List, [], _∷_, _++_}
@@ -12,7 +12,8 @@ use Rattle.lexicon.specs.declared.Token as Token
 use Rattle.lexicon.specs.declared.Next.{Next}
 use Rattle.lexicon.specs.declared.Next.the-variants as Next
 use Rattle.lexicon.specs.Token.{Comes}
-use Rattle.grammar.specs.Tokens.{Tok}
+use Rattle.grammar.specs.Tokens
+use Rattle.grammar.specs.Tokens.{Mark, Class, Tok}
 use Rattle.grammar.specs.Level.{Level}
 use Rattle.grammar.specs.Place.{Sentence, Wrong}
 use Rattle.grammar.proofs.Frames.{Config, want, have, wantText, wantCurly, wantCount, haveItem, wantClose}
@@ -22,7 +23,7 @@ use Rattle.grammar.proofs.Viable.{Final, final, oneMore, stuckWrong, wrongStuck
 use Rattle.grammar.proofs.FirstNewer.{headNext, isNewer, newerHolds, holdsNewer, newerFurther}
 use Rattle.reading.specs.declared.Limits.{Limits}
 use Rattle.reading.specs.Tokens.{seen, Follow, nothing, next, opened}
-use Rattle.reading.specs.Faults.{NewerAt, TooDeep, tests, Fault, noToken, wrongEnd, atToken}
+use Rattle.reading.specs.Faults.{NewerAt, Retired, TooDeep, tests, Fault, noToken, wrongEnd, atToken}
 use Rattle.reading.specs.Tests.{First}
 use Rattle.reading.proofs.Tests.{None, no-test, Each, first-or-none}
 use Rattle.reading.proofs.Rows.{Order, equal, less, more, order, pick, no-end, no-none}
@@ -51,6 +52,66 @@ whole-final (wantCurly o h s k K) e = absurd (false≢true e)
 whole-final (wantCount c f v k K) e = absurd (false≢true e)
 whole-final (haveItem c f i K) e = absurd (false≢true e)
 whole-final (wantClose c K) e = absurd (false≢true e)
+
+-- ---- the backward arrow
+
+abbrev isArrowMark : Mark → Bool
+isArrowMark Tokens.roundClose = false
+isArrowMark Tokens.curlyClose = false
+isArrowMark Tokens.squareClose = false
+isArrowMark Tokens.comma = false
+isArrowMark Tokens.colon = false
+isArrowMark Tokens.rightArrow = false
+isArrowMark Tokens.leftArrow = true
+isArrowMark Tokens.dots = false
+isArrowMark (Tokens.star a b) = false
+
+abbrev pub isArrow : Class → Bool
+isArrow (Tokens.atom a) = false
+isArrow (Tokens.text w) = false
+isArrow Tokens.names = false
+isArrow Tokens.round = false
+isArrow Tokens.curly = false
+isArrow Tokens.square = false
+isArrow (Tokens.mark m) = isArrowMark m
+isArrow Tokens.later = false
+
+arrow-mark : (m : Mark) → isArrowMark m ≡ true → m ≡ Tokens.leftArrow
+arrow-mark Tokens.roundClose e = absurd (false≢true e)
+arrow-mark Tokens.curlyClose e = absurd (false≢true e)
+arrow-mark Tokens.squareClose e = absurd (false≢true e)
+arrow-mark Tokens.comma e = absurd (false≢true e)
+arrow-mark Tokens.colon e = absurd (false≢true e)
+arrow-mark Tokens.rightArrow e = absurd (false≢true e)
+arrow-mark Tokens.leftArrow e = refl
+arrow-mark Tokens.dots e = absurd (false≢true e)
+arrow-mark (Tokens.star a b) e = absurd (false≢true e)
+
+pub arrow-class : (c : Class) → isArrow c ≡ true → c ≡ Tokens.mark Tokens.leftArrow
+arrow-class (Tokens.atom a) e = absurd (false≢true e)
+arrow-class (Tokens.text w) e = absurd (false≢true e)
+arrow-class Tokens.names e = absurd (false≢true e)
+arrow-class Tokens.round e = absurd (false≢true e)
+arrow-class Tokens.curly e = absurd (false≢true e)
+arrow-class Tokens.square e = absurd (false≢true e)
+arrow-class (Tokens.mark m) e = ap Tokens.mark (arrow-mark m e)
+arrow-class Tokens.later e = absurd (false≢true e)
+
+-- a token that is not the arrow is not retired
+pub not-arrow : {limits : Limits} (t : Token.Token) → isArrow (seen t .class) ≡ false → Retired limits t → ⊥
+not-arrow t e r = clash (ap isArrow (r .arrow)) e
+
+-- and none is where the arrow may be read
+pub arrow-read : {limits : Limits} (t : Token.Token) → limits .arrow ≡ true → Retired limits t → ⊥
+arrow-read t e r = clash e (r .retired)
+
+retired-or-not : (limits : Limits) (t : Token.Token) → Retired limits t ⊎ (Retired limits t → ⊥)
+retired-or-not limits t = go (limits .arrow) refl (isArrow (seen t .class)) refl
+  where
+    go : (b : Bool) → limits .arrow ≡ b → (a : Bool) → isArrow (seen t .class) ≡ a → Retired limits t ⊎ (Retired limits t → ⊥)
+    go true e a i = inr λ r. arrow-read t e r
+    go false e true i = inl (record { retired = e; arrow = arrow-class (seen t .class) i })
+    go false e false i = inr λ r. not-arrow t i r
 
 module _ (bytes : List ℕ) (limits : Limits) (l : Level) where
   -- a token that fails no test has no fault
@@ -160,7 +221,7 @@ module _ (bytes : List ℕ) (comes : (p : ℕ) → (r : Next) × Comes bytes p r
       bad-or-not false = inr λ x. false≢true x
 
       each : (t : Token.Token) → Each (tests limits l bytes ts t)
-      each t = (newer-or-not ts t, (wrong-or-not t (step l c (seen t)) refl, (bad-or-not (t .bad), (deep-or-not ts t, tt))))
+      each t = (newer-or-not ts t, (wrong-or-not t (step l c (seen t)) refl, (retired-or-not limits t, (bad-or-not (t .bad), (deep-or-not ts t, tt)))))
 
       on : (t : Token.Token) → Comes bytes p (Next.Token t) → None (tests limits l bytes ts t) → (m : Option Config) → step l c (seen t) ≡ m → Decided ts p
       on t a x none s = absurd (x .1 .0 (stuckWrong l ts c (seen t) e s))

@@ -2,7 +2,7 @@
 use mathlib.Core.Path.{_≡_, refl, sym, ap, subst}
 use mathlib.Core.Bool.{true}
 use mathlib.Core.List.{List, [], _∷_}
-use Prim.Native.Nat.{ℕ, _<_}
+use Prim.Native.Nat.{ℕ, _≤_, _<_}
 use native.Mathlib.Omega.{arith}
 use lib.ListN.{length, length-append}
 use Rattle.lexicon.specs.declared.Token as Token
@@ -10,6 +10,7 @@ use Rattle.lexicon.specs.declared.Next.{Next}
 use Rattle.lexicon.specs.declared.Next.the-variants as Next
 use Rattle.lexicon.specs.Front.{Front}
 use Rattle.lexicon.specs.Token.{Comes}
+use Rattle.rules.proofs.Matches.{forward}
 use Rattle.lexicon.proofs.Determined.{one-front}
 use Rattle.grammar.specs.Tokens.{Tok}
 use Rattle.grammar.specs.Level.{Level}
@@ -19,7 +20,7 @@ use Rattle.reading.specs.Tokens.{seen, Follow, nothing, next}
 use Rattle.reading.specs.Faults.{tests, Fault, noToken, wrongEnd, atToken, Passed, begun, passed, FirstFault, AllPassed}
 use Rattle.reading.specs.Tests.{First}
 use Rattle.reading.proofs.Tests.{one-test}
-use Rattle.reading.proofs.Rows.{Order, equal, less, more, order, pick, same-place, no-end, no-none, none-end, one-row, append}
+use Rattle.reading.proofs.Rows.{Order, equal, less, more, order, pick, same-place, no-end, no-none, none-end, one-row, comes-forward, append}
 
 module _ (bytes : List ℕ) where
   module _ (limits : Limits) (l : Level) where
@@ -37,6 +38,18 @@ module _ (bytes : List ℕ) where
     one-fault {ts} {p} {m} (atToken {t = t} c f) (atToken {t = u} d g) =
         let same : t ≡ u = pick bytes c d in
         (one-test (tests limits l bytes ts u) (subst (λ (x : Token.Token). First (tests limits l bytes ts x) m) same f) g, ap (λ (x : Token.Token). x .first) same)
+
+    -- a fault is not before the place from which its token is looked for
+    pub fault-later : {ts : List Tok} {x p n q : ℕ} → x ≤ p → x ≤ length bytes → Fault limits l bytes ts p n q → x ≤ q
+    fault-later h g (noToken d) = omega (arith, h, forward (d .0 .takes))
+    fault-later h g (wrongEnd d w) = omega (arith, g, d .0)
+    fault-later h g (atToken d x) = omega (arith, h, comes-forward bytes d)
+
+    -- where a token comes, a fault is at its first byte
+    pub fault-there : {ts : List Tok} {p n q : ℕ} {t : Token.Token} → Comes bytes p (Next.Token t) → Fault limits l bytes ts p n q → t .first ≤ q
+    fault-there {p = p} c (noToken d) = absurd (no-none bytes p c d)
+    fault-there {p = p} c (wrongEnd d w) = absurd (no-end bytes p c d)
+    fault-there c (atToken d x) = omega (arith, ap (λ (t : Token.Token). t .first) (pick bytes c d))
 
     -- ---- the tokens that pass
 

@@ -1,5 +1,5 @@
 -- What an answer tells: refused, or accepted with a derivation whose nodes the table holds. Assumes nothing.
-use mathlib.Core.Path.{_≡_, refl, ap, _∙_}
+use mathlib.Core.Path.{_≡_, refl, ap, subst, _∙_}
 use mathlib.Core.List.{List, _++_}
 use mathlib.Core.Option.{Option, none, some}
 use Prim.Native.Nat.{ℕ, _*_, _≤_}
@@ -23,6 +23,11 @@ module _ (rules : Rules) (text : List ℕ) where
     pub refused : {a : Answer} (t : Option Value) → Reading rules text space number a t → (a .number ≡ 0 → ⊥) → Reading rules text space number a none
     refused none x n = x
     refused (some v) (accepted l g w x k) n = absurd (n refl)
+
+  -- of a table with room for as many nodes as the rules let one have
+  pub with-room : (lent : List ℕ) → room rules (length lent) ≡ rules .nodes → {number : ℕ} {a : Answer} {t : Option Value} →
+      Reading rules text (room rules (length lent)) number a t → Reading rules text (rules .nodes) number a t
+  with-room lent longest {number} {a} {t} x = subst (λ (n : ℕ). Reading rules text n number a t) longest x
 
   -- ---- a table
 

@@ -12,5 +12,6 @@ pub mod Derived
 pub mod Stands
 pub mod At
 pub mod Agree
+pub mod Arrow
 pub mod Depth
 pub mod Within

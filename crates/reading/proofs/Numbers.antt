@@ -19,7 +19,7 @@ use Rattle.reading.proofs.Tests.{has, no-number}
 
 -- the numbers of faults, written as `has` computes them, and that no fault has another
 abbrev isFault : ℕ → Bool
-isFault n = eqb n 4 || (eqb n 7 || (eqb n 6 || (eqb n 5 || (eqb n 11 || false))))
+isFault n = eqb n 4 || (eqb n 7 || (eqb n 6 || (eqb n 15 || (eqb n 5 || (eqb n 11 || false)))))
 
 pub fault-number : (limits : Limits) (bytes : List ℕ) {l : Level} {ts : List Tok} {p n q : ℕ} (m : ℕ) → isFault m ≡ false → Fault limits l bytes ts p n q → n ≡ m → ⊥
 fault-number limits bytes m e (noToken c) i = clash (subst (λ (k : ℕ). isFault k ≡ true) i refl) e

@@ -13,14 +13,14 @@ use Rattle.lexicon.specs.Front.{Front}
 use Rattle.lexicon.specs.Token.{Comes}
 use Rattle.grammar.specs.Tokens.{Tok, Class, atom, text, names, round, curly, square, mark, later, classKind}
 use Rattle.grammar.specs.Level.{Level}
-use Rattle.grammar.specs.Place.{Beyond, newerHead, newerBracket, laterLiteral}
+use Rattle.grammar.specs.Place.{Wrong, Beyond, newerHead, newerBracket, laterLiteral}
 use Rattle.grammar.proofs.Frames.{Config, want}
 use Rattle.grammar.proofs.Machine.{step, runs}
 use Rattle.grammar.proofs.Viable as Viable
 use Rattle.grammar.proofs.Viable.{Final, oneMore, stuckWrong, wrongStuck, Wants, valueWants}
 use Rattle.reading.specs.declared.Limits.{Limits}
 use Rattle.reading.specs.Tokens.{seen}
-use Rattle.reading.specs.Faults.{NewerAt, TooDeep, tests, Fault, noToken, wrongEnd, atToken, Passed, begun, passed, FirstFault}
+use Rattle.reading.specs.Faults.{NewerAt, Retired, TooDeep, tests, Fault, noToken, wrongEnd, atToken, Passed, begun, passed, FirstFault}
 use Rattle.reading.proofs.Decide.{faultless, no-step}
 
 -- the classes that may begin a newer form
@@ -57,11 +57,16 @@ module _ (limits : Limits) (l : Level) (bytes : List ℕ) where
 
   -- ---- on
 
+  -- a token that the machine takes is in no wrong place
+  not-wrong : {ts : List Tok} {p : ℕ} {c d : Config} → Stands ts p c → (t : Token.Token) → step l c (seen t) ≡ some d → Wrong l ts (seen t) → ⊥
+  not-wrong {ts} {c = c} {d = d} s t e w = no-step d (sym (wrongStuck l ts c (seen t) (s .reached) w) ∙ e)
+
   pub goes-on : {ts : List Tok} {p : ℕ} {c d : Config} {t : Token.Token} → Stands ts p c → Comes bytes p (Next.Token t) →
-      (NewerAt l bytes ts t → ⊥) → step l c (seen t) ≡ some d → t .bad ≡ false → (TooDeep limits ts t → ⊥) → Stands (ts ++ (seen t ∷ [])) (t .end) d
-  goes-on {ts} {p} {c} {d} {t} s k v e b h =
+      (NewerAt l bytes ts t → ⊥) → step l c (seen t) ≡ some d → (Retired limits t → ⊥) → t .bad ≡ false → (TooDeep limits ts t → ⊥) →
+      Stands (ts ++ (seen t ∷ [])) (t .end) d
+  goes-on {ts} {p} {c} {d} {t} s k v e r b h =
       record {
-        good = passed (s .good) k (λ n q f. faultless bytes limits l k (v, ((λ w. no-step d (sym (wrongStuck l ts c (seen t) (s .reached) w) ∙ e)), ((λ x. clash x b), (h, tt)))) n q f);
+        good = passed (s .good) k (λ n q f. faultless bytes limits l k (v, ((λ w. not-wrong s t e w), (r, ((λ x. clash x b), (h, tt))))) n q f);
         reached = oneMore l ts c (seen t) (s .reached) ∙ e;
       }
 
@@ -83,11 +88,15 @@ module _ (limits : Limits) (l : Level) (bytes : List ℕ) where
   pub newer-form : {ts : List Tok} {p : ℕ} {c : Config} {t : Token.Token} → Stands ts p c → Comes bytes p (Next.Token t) → NewerAt l bytes ts t → FirstFault limits l bytes 7 (t .first)
   newer-form s k n = stops s (atToken k (inl (refl, n)))
 
+  pub arrow-retired : {ts : List Tok} {p : ℕ} {c d : Config} {t : Token.Token} → Stands ts p c → Comes bytes p (Next.Token t) →
+      (NewerAt l bytes ts t → ⊥) → step l c (seen t) ≡ some d → Retired limits t → FirstFault limits l bytes 15 (t .first)
+  arrow-retired {t = t} s k v e r = stops s (atToken k (inr (v, inr ((λ w. not-wrong s t e w), inl (refl, r)))))
+
   pub bad-value : {ts : List Tok} {p : ℕ} {c d : Config} {t : Token.Token} → Stands ts p c → Comes bytes p (Next.Token t) →
-      (NewerAt l bytes ts t → ⊥) → step l c (seen t) ≡ some d → t .bad ≡ true → FirstFault limits l bytes 5 (t .first)
-  bad-value {ts} {p} {c} {d} {t} s k v e b = stops s (atToken k (inr (v, inr ((λ w. no-step d (sym (wrongStuck l ts c (seen t) (s .reached) w) ∙ e)), inl (refl, b)))))
+      (NewerAt l bytes ts t → ⊥) → step l c (seen t) ≡ some d → (Retired limits t → ⊥) → t .bad ≡ true → FirstFault limits l bytes 5 (t .first)
+  bad-value {t = t} s k v e r b = stops s (atToken k (inr (v, inr ((λ w. not-wrong s t e w), inr (r, inl (refl, b))))))
 
   pub too-deep : {ts : List Tok} {p : ℕ} {c d : Config} {t : Token.Token} → Stands ts p c → Comes bytes p (Next.Token t) →
-      (NewerAt l bytes ts t → ⊥) → step l c (seen t) ≡ some d → t .bad ≡ false → TooDeep limits ts t → FirstFault limits l bytes 11 (t .first)
-  too-deep {ts} {p} {c} {d} {t} s k v e b h =
-      stops s (atToken k (inr (v, inr ((λ w. no-step d (sym (wrongStuck l ts c (seen t) (s .reached) w) ∙ e)), inr ((λ x. clash x b), inl (refl, h))))))
+      (NewerAt l bytes ts t → ⊥) → step l c (seen t) ≡ some d → (Retired limits t → ⊥) → t .bad ≡ false → TooDeep limits ts t →
+      FirstFault limits l bytes 11 (t .first)
+  too-deep {t = t} s k v e r b h = stops s (atToken k (inr (v, inr ((λ w. not-wrong s t e w), inr (r, inr ((λ x. clash x b), inl (refl, h)))))))

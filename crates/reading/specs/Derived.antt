@@ -2,7 +2,7 @@
 -- literal in it has a bad value, and it keeps the size of brackets. proofs/Derived.antt proves that the accepted texts
 -- are those. Assumes nothing.
 use mathlib.Core.Path.{_≡_}
-use mathlib.Core.Bool.{true}
+use mathlib.Core.Bool.{Bool, true, false}
 use mathlib.Core.List.{List, [], _++_}
 use Prim.Native.Nat.{ℕ, _≤_}
 use lib.ListN.{length}
@@ -13,14 +13,22 @@ use Rattle.lexicon.specs.Token.{Bad, Comes}
 use Rattle.grammar.specs.Tokens.{Tok}
 use Rattle.grammar.specs.Tree.{Value}
 use Rattle.grammar.specs.Yield.{yieldValue}
-use Rattle.grammar.specs.Level.{Level, keeps}
+use Rattle.grammar.specs.Level.{Level, arrowless, keeps}
 use Rattle.reading.specs.declared.Limits.{Limits}
 use Rattle.reading.specs.Tokens.{Follow, opened}
 
+-- the forms of a level that a text may have: 02, request 6, 'demand 2 no longer counts the arrow among the forms'
+abbrev pub readable : Bool → Level → Level
+readable true l = l
+readable false l = arrowless l
+
+abbrev pub allowed : Limits → Level → Level
+allowed limits l = readable (limits .arrow) l
+
 -- the tree derives the text at the level, no literal has a bad value, and never are too many brackets open
 pub record Derived (limits : Limits) (l : Level) (bytes : List ℕ) (v : Value) : Type 0 where
-  -- the tree has forms of the level only
-  pub of-level : keeps l v ≡ true
+  -- the tree has forms of the level only, and the arrow only where it may be read
+  pub of-level : keeps (allowed limits l) v ≡ true
   -- from the front to the end the tokens of the text are those of the tree
   pub start : ℕ
   pub front : Front bytes start

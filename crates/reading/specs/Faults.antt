@@ -1,7 +1,9 @@
 -- Faulty tokens: 01, 'tokens from left to right; the first faulty token decides. At one token: 4, 6, 7, 5, 11', and 'a
--- token that begins a newer form is 7 and never 6'. Assumes nothing.
+-- token that begins a newer form is 7 and never 6'; 02, request 6, '`<-` at a place where it was allowed is refused
+-- with a new number 15 at its first byte; elsewhere it stays 6. At one token 15 comes right after 6, and 6 is judged
+-- for that arrow by the old rules.' Assumes nothing.
 use mathlib.Core.Path.{_≡_}
-use mathlib.Core.Bool.{true}
+use mathlib.Core.Bool.{true, false}
 use mathlib.Core.List.{List, [], _∷_, _++_}
 use Prim.Native.Nat.{ℕ, _<_}
 use lib.ListN.{length}
@@ -9,7 +11,7 @@ use Rattle.lexicon.specs.declared.Token as Token
 use Rattle.lexicon.specs.declared.Next.the-variants as Next
 use Rattle.lexicon.specs.Front.{Front}
 use Rattle.lexicon.specs.Token.{Comes}
-use Rattle.grammar.specs.Tokens.{Tok}
+use Rattle.grammar.specs.Tokens.{Tok, mark, leftArrow}
 use Rattle.grammar.specs.Level.{Level}
 use Rattle.grammar.specs.Place.{Wrong, WrongEnd, Newer}
 use Rattle.reading.specs.declared.Limits.{Limits}
@@ -23,18 +25,25 @@ pub record NewerAt (l : Level) (bytes : List ℕ) (ts : List Tok) (t : Token.Tok
   pub follow : Follow bytes (t .end) ahead end
   pub newer : Newer l ts (seen t) ahead
 
+-- it is the backward arrow, which may not be read any more
+pub record Retired (limits : Limits) (t : Token.Token) : Type 0 where
+  pub retired : limits .arrow ≡ false
+  pub arrow : seen t .class ≡ mark leftArrow
+
 -- it opens one bracket more than may be open at once
 pub record TooDeep (limits : Limits) (ts : List Tok) (t : Token.Token) : Type 0 where
   pub deeper : opened ts < opened (ts ++ (seen t ∷ []))
   pub beyond : limits .depth < opened (ts ++ (seen t ∷ []))
 
 module _ (limits : Limits) (l : Level) (bytes : List ℕ) where
-  -- the token t behind the tokens ts, in the order in which it is judged: 'At one token: 4, 6, 7, 5, 11', and 7 before
-  -- 6 since 'a token that begins a newer form is 7 and never 6'. Where no token starts it is 4 before all of them
+  -- the token t behind the tokens ts, in the order in which it is judged: 'At one token: 4, 6, 7, 5, 11', 7 before 6
+  -- since 'a token that begins a newer form is 7 and never 6', and '15 comes right after 6'. The level has the arrow,
+  -- so 6 is judged 'by the old rules'. Where no token starts it is 4 before all of them
   abbrev pub tests : List Tok → Token.Token → List Test
   tests ts t =
       test 7 (NewerAt l bytes ts t)
       ∷ test 6 (Wrong l ts (seen t))
+      ∷ test 15 (Retired limits t)
       ∷ test 5 (t .bad ≡ true)
       ∷ test 11 (TooDeep limits ts t)
       ∷ []

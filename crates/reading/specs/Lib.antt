@@ -8,3 +8,4 @@ pub mod Answers
 pub mod Tabled
 pub mod Buffer
 pub mod Agree
+pub mod Arrow

@@ -8,9 +8,10 @@ pub struct Answer {
     pub count: usize,
 }
 
-// What a token is judged by: how many brackets may be open at once.
+// What a token is judged by: how many brackets may be open at once, and whether the backward arrow `<-` may be read.
 pub struct Limits {
     pub depth: usize,
+    pub arrow: bool,
 }
 
 // What a text is judged by: how many bytes it may have, how many nodes a table may have, and what each token is judged by.
@@ -30,8 +31,22 @@ pub const DEPTH: usize = 32;
 // Words of the longest table that is made use of.
 pub const TABLE: usize = NODES * NODE_WORDS;
 
+// The rules of today: `<-` is retired.
 pub const BASE: Rules = Rules {
     text: TEXT,
     nodes: NODES,
-    limits: Limits { depth: DEPTH },
+    limits: Limits {
+        depth: DEPTH,
+        arrow: false,
+    },
+};
+
+// The old rules, by which it is read: texts whose files were stored before are checked by them, and texts are converted by them.
+pub const OLD_RULES: Rules = Rules {
+    text: TEXT,
+    nodes: NODES,
+    limits: Limits {
+        depth: DEPTH,
+        arrow: true,
+    },
 };
