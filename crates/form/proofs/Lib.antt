@@ -2,6 +2,7 @@
 -- literals made bare: they are still literals of the kind, with the same digits, and none of them is made bad
 pub mod Fits
 pub mod Strip
+pub mod Turned
 pub mod Twice
 pub mod Amid
 pub mod Numeric
@@ -54,5 +55,6 @@ pub mod Bracketed
 pub mod Interval
 pub mod Attributes
 pub mod Walked
--- the writer's answers
+-- the answers of writer and converter
 pub mod Answers
+pub mod Converted

@@ -190,10 +190,10 @@ module _ (bytes : List ℕ) where
       λ i. seen (sym same i) ∷ o i
 
 module _ (limits : Limits) (l : Level) (text : List ℕ) (v : Value) (a : Accepted limits text l v) where
-  -- whichever level accepts the plain form
-  pub same-forms : {b : Level} {w : Value} → Accepted limits (plainForm text v) b w → (m : Level) → m leftArrows ≡ true → keeps m w ≡ keeps m v
-  same-forms {b} {w} x m arrows =
+  -- whichever limits and level accept the plain form
+  pub same-forms : (other : Limits) {b : Level} {w : Value} → Accepted other (plainForm text v) b w → (m : Level) → m leftArrows ≡ true → keeps m w ≡ keeps m v
+  same-forms other {b} {w} x m arrows =
       let ps = derived-pieces limits l text v (accepted-derived limits text a) in
       let t = plain-tree text v in
-      let row = whole-row (plainForm text v) (follows (plainForm text v) limits b (plain-front text v ps) (x .passed .good)) (x .passed .at-end) (spelled-reads text v ps) (spelled-ends text v) in
+      let row = whole-row (plainForm text v) (follows (plainForm text v) other b (plain-front text v ps) (x .passed .good)) (x .passed .at-end) (spelled-reads text v ps) (spelled-ends text v) in
       ap (keeps m) (oneTree w (t .0) (row ∙ t .1)) ∙ tree-forms m arrows v (t .0) (t .2)

@@ -3,7 +3,6 @@
 -- parent indices that follow from it), roles 2 and 3 taken as one, and a Text's detail. Writing that again gives the
 -- same bytes.' Assumes nothing.
 use mathlib.Core.Path.{_≡_}
-use mathlib.Core.Bool.{false}
 use mathlib.Core.List.{List, [], _∷_, map}
 use Prim.Native.Nat.{ℕ}
 use lib.ListN.{length}
@@ -12,20 +11,12 @@ use Rattle.lexicon.specs.Front.{Front}
 use Rattle.grammar.specs.Tokens.{Tok}
 use Rattle.grammar.specs.Tree.{Value}
 use Rattle.grammar.specs.Yield.{yieldValue}
-use Rattle.grammar.specs.Level.{Level, arrays, sets, bags, intervals, leftArrows}
+use Rattle.grammar.specs.Level.{Level}
 use Rattle.grammar.specs.Nodes.{table}
 use Rattle.reading.specs.declared.Limits.{Limits}
 use Rattle.reading.specs.Answers.{Accepted}
 use Rattle.form.specs.Spell.{plainForm}
 use Rattle.form.specs.Turn.{turn, unspelled}
-
--- a level without the backward arrow: no plain form has it
-abbrev pub arrowless : Level → Level
-arrowless l arrays = l arrays
-arrowless l sets = l sets
-arrowless l bags = l bags
-arrowless l intervals = l intervals
-arrowless l leftArrows = false
 
 -- each token begins where the one before it ends, the first at p, and the last ends at q
 abbrev pub SideBySide : ℕ → List Tok → ℕ → Type 0
