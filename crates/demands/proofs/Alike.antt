@@ -19,21 +19,21 @@ use Rattle.reading.specs.declared.Answer.{Answer}
 use Rattle.reading.specs.declared.Rules.{Rules}
 use Rattle.reading.specs.Faults.{FirstFault}
 use Rattle.reading.specs.Answers.{LevelOf, first, second, Accepted, Reading, noLevel, tooLong, notUtf8, faulty, noRoom, accepted}
-use Rattle.reading.specs.Tabled.{refused, otherTable, shown}
+use Rattle.reading.specs.Tabled as Tabled
+use Rattle.reading.specs.Tabled.{otherTable, shown}
 use Rattle.reading.specs.Buffer as Buffer
 use Rattle.reading.specs.Buffer.{written}
 use Rattle.reading.proofs.Numbers.{refused-number}
 use Rattle.reading.proofs.Rows.{Order, equal, less, more, order}
 use Rattle.reading.proofs.First.{all-or-fault}
 use Rattle.reading.proofs.Unique.{one-level, one-tree, one-reading}
-use Rattle.reading.proofs.Derived.{derived-accepted, accepted-derived}
+use Rattle.reading.proofs.Derived.{derived-accepted, accepted-derived, derived-at}
 use Rattle.reading.proofs.Agree.{first-too, all-too}
 use Rattle.form.specs.Spell.{plainForm}
 use Rattle.form.specs.Reread.{Reread}
-use Rattle.form.specs.Writes as Writes
-use Rattle.form.specs.Writes.{Writes, told}
+use Rattle.form.specs.Writes.{Writes, Converts, refused, told}
 use Rattle.form.proofs.SameForms.{same-forms}
-use Rattle.form.proofs.Answered.{again, again-count}
+use Rattle.form.proofs.Answered.{again-by, same-many}
 
 -- every level of 01 has the arrow `<-`
 has-arrow : {n : ℕ} {l : Level} → LevelOf n l → l leftArrows ≡ true
@@ -45,10 +45,7 @@ has-arrow second = refl
 module _ (rules : Rules) (text : List ℕ) {l : Level} {v : Value} (a : Accepted (rules .limits) text l v) where
   -- it is accepted where the level has the derivation's forms
   with-forms : {m : Level} → keeps m v ≡ true → Accepted (rules .limits) text m v
-  with-forms k =
-      let d = accepted-derived (rules .limits) text a in
-      derived-accepted (rules .limits) text
-      (record { of-level = k; start = d .start; front = d .front; end = d .end; row = d .row; at-end = d .at-end; sound = d .sound; shallow = d .shallow })
+  with-forms k = derived-accepted (rules .limits) text (derived-at (rules .limits) text (accepted-derived (rules .limits) text a) k)
 
   at-every-form : Accepted (rules .limits) text everyForm v
   at-every-form = with-forms (allValues v)
@@ -88,22 +85,24 @@ module _ (rules : Rules) (text : List ℕ) {l : Level} {v : Value} (a : Accepted
 
 -- ---- the text and its plain form
 
-module _ (rules : Rules) (l : Level) (text : List ℕ) (v : Value) (a : Accepted (rules .limits) text l v) (short : length text ≤ rules .text) (formed : WellFormed text)
-    (fits : length (plainForm text v) ≤ rules .text) {space n : ℕ} {s : Answer} {u : Option Value} (y : Reading rules (plainForm text v) space n s u) where
-  abbrev out : Reread (rules .limits) text l v
-  out = again rules l text v a
+-- the text is read by some rules, and its plain form by rules of at least their depth
+module _ (rules other : Rules) (depth : rules .limits .depth ≤ other .limits .depth) (l : Level) (text : List ℕ) (v : Value) (a : Accepted (rules .limits) text l v)
+    (short : length text ≤ rules .text) (formed : WellFormed text) (fits : length (plainForm text v) ≤ other .text)
+    {space n : ℕ} {s : Answer} {u : Option Value} (y : Reading other (plainForm text v) space n s u) where
+  abbrev out : Reread (other .limits) text l v
+  out = again-by (rules .limits) other depth l text v a
 
   forms : {m : Level} → LevelOf n m → keeps m (out .tree) ≡ keeps m v
-  forms {m} o = same-forms (rules .limits) l text v a (out .accepted) m (has-arrow o)
+  forms {m} o = same-forms (rules .limits) l text v a (other .limits) (out .accepted) m (has-arrow o)
 
-  out-accepted : {m : Level} → LevelOf n m → keeps m v ≡ true → Accepted (rules .limits) (plainForm text v) m (out .tree)
-  out-accepted o k = with-forms rules (plainForm text v) (out .accepted) (forms o ∙ k)
+  out-accepted : {m : Level} → LevelOf n m → keeps m v ≡ true → Accepted (other .limits) (plainForm text v) m (out .tree)
+  out-accepted o k = with-forms other (plainForm text v) (out .accepted) (forms o ∙ k)
 
   nodes : {m : Level} {w : Value} → LevelOf n m → Accepted (rules .limits) text m w → length (table (out .tree)) ≡ length (table w)
-  nodes o x = again-count rules l text v a ∙ ap (λ (w : Value). length (table w)) (sym (its-tree rules text a o x))
+  nodes o x = same-many (rules .limits) other depth l text v a ∙ ap (λ (w : Value). length (table w)) (sym (its-tree rules text a o x))
 
-  same-answer : {r : Answer} {t : Option Value} → Reading rules (plainForm text v) space n r t → (r .number ≡ s .number) × (r .count ≡ s .count)
-  same-answer x = let e = one-reading rules (plainForm text v) x y .0 in (ap (λ (r : Answer). r .number) e, ap (λ (r : Answer). r .count) e)
+  same-answer : {r : Answer} {t : Option Value} → Reading other (plainForm text v) space n r t → (r .number ≡ s .number) × (r .count ≡ s .count)
+  same-answer x = let e = one-reading other (plainForm text v) x y .0 in (ap (λ (r : Answer). r .number) e, ap (λ (r : Answer). r .count) e)
 
   alike : {r : Answer} {t : Option Value} → Reading rules text space n r t → (r .number ≡ s .number) × (r .count ≡ s .count)
   alike (noLevel f) = same-answer (noLevel f)
@@ -114,7 +113,7 @@ module _ (rules : Rules) (l : Level) (text : List ℕ) (v : Value) (a : Accepted
       by : (keeps m v ≡ true) ⊎ (keeps m v ≡ false) → (k ≡ s .number) × (0 ≡ s .count)
       by (inl e) = absurd (all-or-fault text (rules .limits) m (with-forms rules text a e .passed) f)
       by (inr e) =
-          let z = refused-newer rules (plainForm text v) (out .accepted) o fits (out .formed) (forms o ∙ e) y in
+          let z = refused-newer other (plainForm text v) (out .accepted) o fits (out .formed) (forms o ∙ e) y in
           (newer rules text a o f ∙ sym (z .0), sym (z .1))
   alike (noRoom o h w x g) =
       let e = nodes o x in
@@ -127,12 +126,22 @@ module _ (rules : Rules) (l : Level) (text : List ℕ) (v : Value) (a : Accepted
 
 -- ---- what a call has written
 
-module _ (rules : Rules) (text words : List ℕ) {space n : ℕ} {a b : Answer} {t u : Option Value} where
-  pub written-alike : {level : ℕ} {lent left : List ℕ} {r : Answer} → Writes rules text words lent level r left → r .number ≡ 0 → r .count ≤ rules .text →
+module _ (text : List ℕ) {space n : ℕ} {a b : Answer} {t u : Option Value} {level : ℕ} where
+  -- by a call of request 5, to the same rules
+  pub written-alike : {lent left : List ℕ} {r : Answer} (rules : Rules) (words : List ℕ) → Writes rules text words lent level r left → r .number ≡ 0 → r .count ≤ rules .text →
       Reading rules text space n a t → Reading rules (take (r .count) left) space n b u → (a .number ≡ b .number) × (a .count ≡ b .count)
-  written-alike (Writes.refused (refused x)) e h y z = absurd (refused-number rules text x e)
-  written-alike (Writes.refused (otherTable x k)) e h y z = absurd (omega (arith, e))
-  written-alike (told x (Buffer.noRoom g)) e h y z = absurd (omega (arith, e))
-  written-alike {lent = lent} (told {v = v} (shown (accepted {l} o s w c k) i) (written g)) e h y z =
-      alike rules l text v c s w h
+  written-alike rules words (refused (Tabled.refused x)) e h y z = absurd (refused-number rules text x e)
+  written-alike rules words (refused (otherTable x k)) e h y z = absurd (omega (arith, e))
+  written-alike rules words (told x (Buffer.noRoom g)) e h y z = absurd (omega (arith, e))
+  written-alike {lent} rules words (told {v = v} (shown (accepted {l} o s w c k) i) (written g)) e h y z =
+      alike rules rules (omega arith) l text v c s w h
       (subst (λ (p : List ℕ). Reading rules p space n b u) (take-append-seam (plainForm text v) (drop (length (plainForm text v)) lent)) z) y
+
+  -- by the converter, to rules of at least its depth
+  pub converted-alike : {lent left : List ℕ} {r : Answer} (rules other : Rules) → rules .limits .depth ≤ other .limits .depth → Converts rules text lent level r left → r .number ≡ 0 →
+      r .count ≤ other .text → Reading rules text space n a t → Reading other (take (r .count) left) space n b u → (a .number ≡ b .number) × (a .count ≡ b .count)
+  converted-alike rules other depth (refused x) e h y z = absurd (refused-number rules text x e)
+  converted-alike rules other depth (told x (Buffer.noRoom g)) e h y z = absurd (omega (arith, e))
+  converted-alike {lent} rules other depth (told {v = v} (accepted {l} o s w c k) (written g)) e h y z =
+      alike rules other depth l text v c s w h
+      (subst (λ (p : List ℕ). Reading other p space n b u) (take-append-seam (plainForm text v) (drop (length (plainForm text v)) lent)) z) y

@@ -111,9 +111,10 @@ module _ (rules : Rules) (text : List ℕ) where
     is-bad : {ts : List Tok} (t : Token.Token) {n : ℕ} → First (tests (rules .limits) l text ts t) n → n ≡ 5 → t .bad ≡ true
     is-bad t (inl x) e = absurd (omega (arith, x .0, e))
     is-bad t (inr (f, inl x)) e = absurd (omega (arith, x .0, e))
-    is-bad t (inr (f, inr (g, inl x))) e = x .1
-    is-bad t (inr (f, inr (g, inr (k, inl x)))) e = absurd (omega (arith, x .0, e))
-    is-bad t (inr (f, inr (g, inr (k, inr x)))) e = absurd (x .1)
+    is-bad t (inr (f, inr (g, inl x))) e = absurd (omega (arith, x .0, e))
+    is-bad t (inr (f, inr (g, inr (k, inl x)))) e = x .1
+    is-bad t (inr (f, inr (g, inr (k, inr (m, inl x))))) e = absurd (omega (arith, x .0, e))
+    is-bad t (inr (f, inr (g, inr (k, inr (m, inr x))))) e = absurd (x .1)
 
     of-fault : {n p : ℕ} → FirstFault (rules .limits) l text n p → n ≡ 5 → BadToken p
     of-fault {n} {p} f e = go (f .fault) e (subst (λ (m : ℕ). FirstFault (rules .limits) l text m p) e f)

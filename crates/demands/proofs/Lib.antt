@@ -7,4 +7,5 @@ pub mod Blobs
 pub mod Higher
 pub mod Plain
 pub mod Alike
+pub mod Arrow
 pub mod Requests

@@ -1,7 +1,7 @@
 -- What the customer's requests promise, proved in their order. Assumes nothing.
-use mathlib.Core.Path.{_≡_, refl, ap}
+use mathlib.Core.Path.{_≡_, refl, ap, _∙_}
 use mathlib.Core.Logic.{_⊎_, inl, inr}
-use mathlib.Core.List.{List}
+use mathlib.Core.List.{List, map}
 use mathlib.Core.Option.{Option}
 use Prim.Native.Nat.{ℕ}
 use native.Mathlib.Omega.{arith}
@@ -11,9 +11,10 @@ use Rattle.lexicon.proofs.Determined.{formed-or-bad, one-bad}
 use Rattle.lexicon.proofs.Steps as Steps
 use Rattle.lexicon.proofs.Unfit.{bad-no-bytes, no-bytes-only}
 use Rattle.grammar.specs.Tree.{Value}
+use Rattle.grammar.specs.Nodes.{table}
 use Rattle.reading.specs.declared.Answer.{Answer}
 use Rattle.reading.specs.declared.Rules.{Rules}
-use Rattle.reading.specs.Sizes.{room}
+use Rattle.reading.specs.Sizes.{room, withArrow}
 use Rattle.reading.specs.Tabled.{Tabled}
 use Rattle.reading.specs.Answers.{Reading, noLevel, tooLong, notUtf8, faulty, noRoom, accepted}
 use Rattle.reading.proofs.Numbers.{fault-number}
@@ -33,16 +34,24 @@ use Rattle.files.proofs.SixteenBits.{row-fits}
 use Rattle.files.proofs.ReadBack.{one-row}
 use Rattle.files.proofs.AsRead.{stored-as-read}
 use Rattle.reading.proofs.Tabled.{one-tabled}
+use Rattle.reading.proofs.Arrow as Arrow
+use Rattle.reading.proofs.Arrow.{retirement, never-fifteen}
+use Rattle.form.specs.Turn.{unspelled}
 use Rattle.form.proofs.Answers as Plain
+use Rattle.form.proofs.Converted as Converted
 use Rattle.form.proofs.Rereads.{reread-at}
 use Rattle.form.proofs.Spellable as Spellable
 use Rattle.demands.specs.Requests.{OneTest, PlainSteps, SameRefusal, SameRefusals, Padding, OneFive, FiveInside, OneWrite, OneCheck, TextUnseen, AcceptsExactly, WrittenAccepted, RoomEnough, OneFile, SixteenBits, SameNumbers, AsRead}
 use Rattle.demands.specs.Requests.{OneJudgement, ChangedTable, OnePlain, NothingWritten, PlainRoom, WrittenReadsBack, AlsoWithoutArrow, EndsAlike, EveryRowSpelled}
+use Rattle.demands.specs.Requests.{ArrowRetired, NothingChanged, NoSuchBytes, OldOrder, NoneAccepted, NoRole3, InOrder, NothingNew, OneConversion, NeitherNumber, NothingConverted, ConvertedRoom, ConvertedReadsBack, ConvertedAlike, ConvertedAsWritten}
 use Rattle.demands.proofs.Exists.{some-reading}
 use Rattle.demands.proofs.Higher.{at-level-2}
 use Rattle.demands.proofs.Blobs.{from-reader, from-call, inside}
 use Rattle.demands.proofs.Plain.{by-reading, reader-own, written-back}
+use Rattle.demands.proofs.Alike as Alike
 use Rattle.demands.proofs.Alike.{written-alike}
+use Rattle.demands.proofs.Arrow as Retired
+use Rattle.demands.proofs.Arrow.{no-arrows, unturned, answers-old, writes-old, stored-arrowless, converted-14, converted-15}
 
 -- ---- 2. The steps of the UTF-8 test
 
@@ -152,8 +161,9 @@ accepts-exactly rules text bytes r c = (
   λ p. Exactly.produced-accepted rules text (p bytes (omega arith)) c,
 )
 
+-- what the writer's rules accept, those of the checker do
 pub written-accepted : WrittenAccepted
-written-accepted rules text lent r left w e = Exactly.written-accepted rules text w e
+written-accepted rules text lent r left w e = Exactly.written-accepted (withArrow rules) text (writes-old rules text w (λ i. omega (arith, e, i))) e
 
 pub room-enough : RoomEnough
 room-enough rules text lent r left h w e = reader-eight rules text h w e
@@ -169,7 +179,8 @@ same-numbers rules text other a b v w s n x y e = one-row (row-fits rules text s
 
 pub as-read : AsRead
 as-read rules text bytes lent left level r s c z a e =
-    let k = stored-as-read rules text (Exactly.accepted-stored rules text c z) (at-level-2 rules text lent a e) e in
+    let old = answers-old rules text a (λ i. omega (arith, e, i)) in
+    let k = stored-as-read (withArrow rules) text (Exactly.accepted-stored (withArrow rules) text c z) (at-level-2 (withArrow rules) text lent old e) e in
     record { so-long = k .0; nodes-at-5 = k .1; length-at-7 = k .2; words-from-9 = k .3 }
 
 -- ---- 5. The plain form
@@ -202,10 +213,60 @@ pub reads-back : WrittenReadsBack
 reads-back rules text words lent left level r w e h = written-back rules text words level w e (omega (arith, h))
 
 pub reread : AlsoWithoutArrow
-reread limits text l m v a w = reread-at limits l text v a m w
+reread limits other text l m v a h w = reread-at limits l text v a other (omega (arith, h)) m w
 
 pub ends-alike : EndsAlike
-ends-alike rules text words lent left level other space r a b t u w e h x y = written-alike rules text words w e h x y
+ends-alike rules text words lent left level other space r a b t u w e h x y = written-alike text rules words w e h x y
 
 pub spellable : EveryRowSpelled
 spellable l v k = Spellable.spellable l v k
+
+-- ---- 6. The backward arrow
+
+pub arrow-retired : ArrowRetired
+arrow-retired rules bytes lent number old new oldLeft newLeft x y = retirement rules bytes lent x y
+
+pub nothing-changed : NothingChanged
+nothing-changed rules bytes lent number old new oldLeft newLeft n x y = retirement rules bytes lent x y .alike (never-fifteen rules bytes n (y .reading))
+
+pub no-such-bytes : NoSuchBytes
+no-such-bytes bytes h = Arrow.no-such-bytes bytes h
+
+pub old-order : OldOrder
+old-order limits l bytes ts t n e = Arrow.old-order limits l bytes ts t n e
+
+pub none-accepted : NoneAccepted
+none-accepted rules bytes lent left number r a x e = no-arrows rules bytes a (x .reading) e
+
+pub no-role-3 : NoRole3
+no-role-3 rules bytes lent left number i r a x e h is = Retired.no-role-3 rules bytes a lent i x e h is
+
+pub in-order : InOrder
+in-order rules text words level out a x = x .same-nodes ∙ ap (λ (v : Value). map unspelled (table v)) (unturned rules text a (x .shown))
+
+pub nothing-new : NothingNew
+nothing-new rules text lent left r a w e = stored-arrowless rules text a w e
+
+pub one-conversion : OneConversion
+one-conversion rules text lent level =
+    let x = some-reading rules text (rules .nodes) level in
+    let y = Plain.some-conversion rules text lent (x .1) (x .2) in
+    (y .0, y .1, y .2, λ s u w. Plain.one-conversion rules text lent (y .2) w)
+
+pub neither-number : NeitherNumber
+neither-number rules text lent left level r w = ((λ e. converted-14 rules text w e), (λ e. converted-15 rules text w e))
+
+pub nothing-converted : NothingConverted
+nothing-converted rules text lent left level r w n = Plain.nothing-converted rules text lent w n
+
+pub converted-room : ConvertedRoom
+converted-room rules text lent left level r h w e = Converted.reader-eight rules text lent (omega (arith, h)) w e
+
+pub converted-back : ConvertedReadsBack
+converted-back rules text lent left level r w e h = Converted.converted-back (withArrow rules) rules (omega arith) text level w e (omega (arith, h))
+
+pub converted-alike : ConvertedAlike
+converted-alike rules text lent left level other space r a b t u w e h x y = Alike.converted-alike text (withArrow rules) rules (omega arith) w e (omega (arith, h)) x y
+
+pub converted-as-written : ConvertedAsWritten
+converted-as-written rules text words lent left level r w e = Converted.as-written rules text words lent w e

@@ -65,7 +65,8 @@ ValueAnswers =
 
 -- ---- 2. 'At levels 1 and 2, a text is accepted exactly when the MUON grammar, as condensed in document 01, derives
 -- it, no literal in it has a bad value and it keeps the size rules there. The node table is that derivation, node for
--- node. The values of integers and texts are those the grammar gives them.'
+-- node. The values of integers and texts are those the grammar gives them.' And 02, request 6: 'demand 2 no longer
+-- counts the arrow among the forms' (reading's `allowed`)
 
 -- of one reading
 pub record Derives (rules : Rules) (bytes lent : List ℕ) (number : ℕ) (r : Answer) (left : List ℕ) : Type 0 where

@@ -1,29 +1,37 @@
 -- What the customer's requests promise of every text, in their order and words. What stands in quotes is document 02's.
 -- Each promise is a statement here, and proofs/Requests.antt proves it under the name beside it. Assumes nothing.
 use mathlib.Core.Path.{_≡_}
-use mathlib.Core.Logic.{_⊎_}
-use mathlib.Core.Bool.{true}
-use mathlib.Core.List.{List, _++_, map}
+use mathlib.Core.Logic.{_⊎_, _↔_}
+use mathlib.Core.Bool.{true, false}
+use mathlib.Core.List.{List, [], _∷_, _++_, map}
 use mathlib.Core.Option.{Option, none, some}
 use Prim.Native.Nat.{ℕ, _+_, _*_, _/_, _%_, _^_, _≤_, _<_}
 use lib.ListN.{length, getD, take, drop}
+use Rattle.rules.specs.Class.{codes}
 use Rattle.rules.specs.Every.{Every}
 use Rattle.rules.specs.Plain.{between}
+use Rattle.lexicon.specs.declared.Token as Token
 use Rattle.lexicon.specs.declared.Kind.the-variants.{Blob}
 use Rattle.lexicon.specs.Bytes.{base64}
 use Rattle.lexicon.specs.Literals.{blob}
 use Rattle.lexicon.specs.Values.{Behind}
 use Rattle.lexicon.specs.Padding.{BadBase64}
 use Rattle.lexicon.specs.Token.{Is, Bad}
+use Rattle.grammar.specs.Tokens.{Tok}
 use Rattle.grammar.specs.Tree.{Value}
-use Rattle.grammar.specs.Level.{Level, _Within_, keeps}
+use Rattle.grammar.specs.Level.{Level, _Within_, arrowless, keeps}
+use Rattle.grammar.specs.Place.{Wrong}
 use Rattle.grammar.specs.Nodes.{nodeWords, table, tableWords}
 use Rattle.reading.specs.declared.Answer.{Answer}
 use Rattle.reading.specs.declared.Limits.{Limits}
 use Rattle.reading.specs.declared.Rules.{Rules}
-use Rattle.reading.specs.Sizes.{room}
+use Rattle.reading.specs.Sizes.{room, withArrow}
+use Rattle.reading.specs.Tokens.{seen}
+use Rattle.reading.specs.Tests.{test, First}
+use Rattle.reading.specs.Faults.{NewerAt, TooDeep, tests}
 use Rattle.reading.specs.Answers.{LevelOf, answer, Accepted, Reading, Answers}
 use Rattle.reading.specs.Tabled.{Holds, Tabled, Judges}
+use Rattle.reading.specs.Arrow.{NoArrows, Retirement}
 use Rattle.values.specs.declared.IntegerAnswer.{IntegerAnswer}
 use Rattle.values.specs.Integer.{IntegerAnswers}
 use Rattle.values.specs.Exactly.{Exactly}
@@ -35,7 +43,8 @@ use Rattle.files.specs.Writes.{Read, Writes}
 use Rattle.files.specs.Checks.{Checks}
 use Rattle.form.specs.Turn.{turn, unspelled}
 use Rattle.form.specs.Writes as Plain
-use Rattle.form.specs.Reread.{arrowless, Reread}
+use Rattle.form.specs.Reread.{Reread}
+use Rattle.form.specs.Converted.{Converted}
 use Rattle.form.specs.Spellable.{Spellable}
 
 -- ---- 2. 'The UTF-8 test takes eight plain ASCII bytes in one step wherever eight come next, else one sequence, and
@@ -101,7 +110,8 @@ FiveInside =
     BlobAnswers rules (between text (r .place) j) buffer c kept → c ≡ answer 5 0 0
 
 -- ---- 4. 'The insurer wants what the box read stored beside the text. … every number 16 bits, high byte first. We want
--- both the writer and the checker. … It accepts exactly what the writer would produce.'
+-- both the writer and the checker. … It accepts exactly what the writer would produce.' By request 6 the checker reads
+-- by the old rules: by the writer's own, but that the backward arrow may be read (`withArrow`)
 
 -- the writer has an answer for every text and buffer, and no other: `one-write`
 abbrev pub OneWrite : Type 0
@@ -135,11 +145,12 @@ AcceptsExactly =
     (rules : Rules) (text bytes : List ℕ) (r : Answer) → Checks rules text bytes r →
     (r .number ≡ 0 → Produces rules text bytes) × (Produces rules text bytes → r .number ≡ 0)
 
--- so what a call of the writer has written is accepted, with the writer's own answer: `written-accepted`
+-- so what a call of the writer has written is accepted, with the writer's own answer, also where the checker may read
+-- the arrow and the writer may not: `written-accepted`
 abbrev pub WrittenAccepted : Type 0
 WrittenAccepted =
     (rules : Rules) (text lent : List ℕ) (r : Answer) (left : List ℕ) → Writes rules text lent r left →
-    r .number ≡ 0 → Checks rules text (take (r .count) left) r
+    r .number ≡ 0 → Checks (withArrow rules) text (take (r .count) left) r
 
 -- and into a buffer with room for the file of the largest table every file fits: an 8 is then the reader's own:
 -- `room-enough`
@@ -178,11 +189,13 @@ pub record Keeps (text t : List ℕ) (nodes : ℕ) (bytes : List ℕ) : Type 0 w
   pub words-from-9 : (i k : ℕ) → i < nodes → k < 6 →
       take 2 (drop (9 + 12 * i + 2 * k) bytes) ≡ number 2 (getD t (nodeWords * i + k) 0)
 
--- an accepted file keeps what a reading of the text leaves in its table, at whichever level it is accepted: `as-read`
+-- an accepted file keeps what a reading of the text leaves in its table, at whichever level it is accepted, by the
+-- checker's rules or by today's: `as-read`
 abbrev pub AsRead : Type 0
 AsRead =
-    (rules : Rules) (text bytes lent left : List ℕ) (level : ℕ) (r s : Answer) → Checks rules text bytes r →
-    r .number ≡ 0 → Answers rules text lent level s left → s .number ≡ 0 → Keeps text left (s .count) bytes
+    (rules : Rules) (text bytes lent left : List ℕ) (level : ℕ) (r s : Answer) →
+    Checks (withArrow rules) text bytes r → r .number ≡ 0 → Answers rules text lent level s left → s .number ≡ 0 →
+    Keeps text left (s .count) bytes
 
 -- ---- 5. 'From a level, a text and its table, write the plain form … The reader's refusals come first, room judged by
 -- that table; then a table whose first words aren't what the reading writes is 14 at 0; then no room is 8 with the
@@ -249,11 +262,16 @@ WrittenReadsBack =
     Plain.Writes rules text words lent level r left → r .number ≡ 0 → r .count ≤ rules .text →
     ReadsBack rules text words level (take (r .count) left)
 
--- the same of any level that has the forms of the text's but for the backward arrow, which no output has: `reread`
+-- the same of any level that has the forms of the text's but for the backward arrow, which no output has, and whether
+-- the arrow may be read or not: `reread`
 abbrev pub AlsoWithoutArrow : Type 0
 AlsoWithoutArrow =
-    (limits : Limits) (text : List ℕ) (l m : Level) (v : Value) → Accepted limits text l v → arrowless l Within m →
-    Reread limits text m v
+    (limits other : Limits) (text : List ℕ) (l m : Level) (v : Value) → Accepted limits text l v →
+    limits .depth ≤ other .depth → arrowless l Within m → Reread other text m v
+
+-- two readings, of a text and of what was written of it, end alike
+abbrev pub EndAlike : Answer → Answer → Type 0
+EndAlike a b = (a .number ≡ b .number) × (a .count ≡ b .count)
 
 -- what the output is to another reader: a reading of the text and one of what a call has written, with room for equally
 -- many nodes, end alike at every level, whichever the call's. So an old reader takes the output just when it takes the
@@ -264,9 +282,123 @@ EndsAlike =
     Plain.Writes rules text words lent level r left → r .number ≡ 0 →
     r .count ≤ rules .text → Reading rules text space other a t →
     Reading rules (take (r .count) left) space other b u →
-    (a .number ≡ b .number) × (a .count ≡ b .count)
+    EndAlike a b
 
 -- the tree rules speak of rows of tokens; every row of a level's tree can be spelled as bytes that read back as that
 -- row (docs/DECISIONS.md, point 40): `spellable`
 abbrev pub EveryRowSpelled : Type 0
 EveryRowSpelled = (l : Level) (v : Value) → keeps l v ≡ true → Spellable l v
+
+-- ---- 6. 'From now on `<-` at a place where it was allowed is refused with a new number 15 at its first byte;
+-- elsewhere it stays 6. At one token 15 comes right after 6, and 6 is judged for that arrow by the old rules. It holds
+-- at both levels, so demand 3 stands, and demand 2 no longer counts the arrow among the forms; … and role 3 no longer
+-- arises. Files stored under request 4 may still use it: the checker reads their text by the old rules and takes
+-- exactly what the writer gave before this, and demand 3 holds there too. A converter takes a level and a text, reads
+-- by the old rules with room for 1,024 nodes and writes the plain form; refusals as in request 5, without 14. Nothing
+-- new is stored with an arrow.' The three demands are said for any rules: `both::read_both` has them by today's, and
+-- `both::read_both_old` by the old ones. Request 4's `AcceptsExactly`, too, is said for any
+
+-- what changed for a text, and that nothing else did: `arrow-retired`
+abbrev pub ArrowRetired : Type 0
+ArrowRetired =
+    (rules : Rules) (bytes lent : List ℕ) (number : ℕ) (old new : Answer) (oldLeft newLeft : List ℕ) →
+    Answers (withArrow rules) bytes lent number old oldLeft → Answers rules bytes lent number new newLeft →
+    Retirement rules bytes number old oldLeft new newLeft
+
+-- for a text without the arrow nothing did: `nothing-changed`
+abbrev pub NothingChanged : Type 0
+NothingChanged =
+    (rules : Rules) (bytes lent : List ℕ) (number : ℕ) (old new : Answer) (oldLeft newLeft : List ℕ) →
+    NoArrows bytes → Answers (withArrow rules) bytes lent number old oldLeft →
+    Answers rules bytes lent number new newLeft → (old ≡ new) × (oldLeft ≡ newLeft)
+
+-- and such is every text without these two bytes side by side: `no-such-bytes`
+abbrev pub NoSuchBytes : Type 0
+NoSuchBytes = (bytes : List ℕ) → ((i : ℕ) → between bytes i (i + 2) ≡ codes "<-" → ⊥) → NoArrows bytes
+
+-- 'the old rules' are 01's, 'At one token: 4, 6, 7, 5, 11', as if there were no 15: `old-order`
+abbrev pub OldOrder : Type 0
+OldOrder =
+    (limits : Limits) (l : Level) (bytes : List ℕ) (ts : List Tok) (t : Token.Token) (n : ℕ) →
+    limits .arrow ≡ true →
+    First (tests limits l bytes ts t) n ↔
+    First (test 7 (NewerAt l bytes ts t)
+    ∷ test 6 (Wrong l ts (seen t))
+    ∷ test 5 (t .bad ≡ true)
+    ∷ test 11 (TooDeep limits ts t)
+    ∷ []) n
+
+-- 'demand 2 no longer counts the arrow among the forms': where it is retired, no accepted text has one (the derivation
+-- has none by `Derived`, which is the demand's): `none-accepted`
+abbrev pub NoneAccepted : Type 0
+NoneAccepted =
+    (rules : Rules) (bytes lent left : List ℕ) (number : ℕ) (r : Answer) → rules .limits .arrow ≡ false →
+    Answers rules bytes lent number r left → r .number ≡ 0 → NoArrows bytes
+
+-- 'role 3 no longer arises': no node of the table has it: `no-role-3`
+abbrev pub NoRole3 : Type 0
+NoRole3 =
+    (rules : Rules) (bytes lent left : List ℕ) (number i : ℕ) (r : Answer) → rules .limits .arrow ≡ false →
+    Answers rules bytes lent number r left → r .number ≡ 0 → i < r .count → getD left (nodeWords * i + 4) 0 ≡ 3 → ⊥
+
+-- so of request 5's exceptions two are left, places and a Text's detail: no this changes its place with a that:
+-- `in-order`
+abbrev pub InOrder : Type 0
+InOrder =
+    (rules : Rules) (text words : List ℕ) (level : ℕ) (out : List ℕ) → rules .limits .arrow ≡ false →
+    (x : ReadsBack rules text words level out) → map unspelled (table (x .other)) ≡ map unspelled (table (x .tree))
+
+-- 'Nothing new is stored with an arrow': `nothing-new`
+abbrev pub NothingNew : Type 0
+NothingNew =
+    (rules : Rules) (text lent left : List ℕ) (r : Answer) → rules .limits .arrow ≡ false →
+    Writes rules text lent r left → r .number ≡ 0 → NoArrows text
+
+-- the converter has an answer for every level number, text and buffer, and no other: `one-conversion`
+abbrev pub OneConversion : Type 0
+OneConversion =
+    (rules : Rules) (text lent : List ℕ) (level : ℕ) →
+    (r : Answer) × (left : List ℕ) × Plain.Converts rules text lent level r left ×
+    ((s : Answer) (u : List ℕ) → Plain.Converts rules text lent level s u → (r ≡ s) × (left ≡ u))
+
+-- 'without 14', and by the old rules without 15: `neither-number`
+abbrev pub NeitherNumber : Type 0
+NeitherNumber =
+    (rules : Rules) (text lent left : List ℕ) (level : ℕ) (r : Answer) →
+    Plain.Converts (withArrow rules) text lent level r left → (r .number ≡ 14 → ⊥) × (r .number ≡ 15 → ⊥)
+
+-- a refusal writes nothing: `nothing-converted`
+abbrev pub NothingConverted : Type 0
+NothingConverted =
+    (rules : Rules) (text lent left : List ℕ) (level : ℕ) (r : Answer) →
+    Plain.Converts rules text lent level r left → (r .number ≡ 0 → ⊥) → left ≡ lent
+
+-- into a buffer of twice the text's bytes every conversion fits: an 8 is then the reader's own: `converted-room`
+abbrev pub ConvertedRoom : Type 0
+ConvertedRoom =
+    (rules : Rules) (text lent left : List ℕ) (level : ℕ) (r : Answer) → 2 * length text ≤ length lent →
+    Plain.Converts rules text lent level r left → r .number ≡ 8 → Reading rules text (rules .nodes) level r none
+
+-- what was converted is accepted by today's rules, where it keeps the text size, with the same nodes but for what
+-- request 5 excepts, and converted again it is the same bytes: `converted-back`
+abbrev pub ConvertedReadsBack : Type 0
+ConvertedReadsBack =
+    (rules : Rules) (text lent left : List ℕ) (level : ℕ) (r : Answer) →
+    Plain.Converts (withArrow rules) text lent level r left → r .number ≡ 0 → r .count ≤ rules .text →
+    Converted (withArrow rules) rules text level (take (r .count) left)
+
+-- and at every level, whichever the call's, today's reading of it ends like the old reading of the text:
+-- `converted-alike`
+abbrev pub ConvertedAlike : Type 0
+ConvertedAlike =
+    (rules : Rules) (text lent left : List ℕ) (level other space : ℕ) (r a b : Answer) (t u : Option Value) →
+    Plain.Converts (withArrow rules) text lent level r left → r .number ≡ 0 → r .count ≤ rules .text →
+    Reading (withArrow rules) text space other a t → Reading rules (take (r .count) left) space other b u →
+    EndAlike a b
+
+-- of a text that is accepted by today's rules, with its table, it is request 5's plain form: `converted-as-written`
+abbrev pub ConvertedAsWritten : Type 0
+ConvertedAsWritten =
+    (rules : Rules) (text words lent left : List ℕ) (level : ℕ) (r : Answer) →
+    Plain.Writes rules text words lent level r left → r .number ≡ 0 →
+    Plain.Converts (withArrow rules) text lent level r left

@@ -9,3 +9,4 @@ pub mod Contents
 pub mod Steps
 pub mod Files
 pub mod Plain
+pub mod Arrow

@@ -16,6 +16,7 @@ use Rattle.grammar.specs.Tree.{Value}
 use Rattle.grammar.specs.Level.{level2}
 use Rattle.lexicon.proofs.Paddings.{nextState}
 use Rattle.decisions.proofs.Tests.{sameAs, same-as}
+use Rattle.reading.specs.declared.Rules.{Rules}
 use Rattle.reading.specs.Sizes.{baseLimits, base, room}
 use Rattle.reading.specs.Answers as Answers
 use Rattle.reading.specs.Answers.{answer, second, Accepted}
@@ -38,32 +39,33 @@ formed text form none = false
 formed text form (some (Reading.refused n p)) = false
 formed text form (some (holds v)) = sameAs form (plainForm text v)
 
-abbrev test : Rewriting → Bool
-test r = formed (codes (r .text)) (codes (r .form)) (verdict (codes (r .text)) baseLimits level2)
+module _ (rules : Rules) where
+  abbrev test : Rewriting → Bool
+  test r = formed (codes (r .text)) (codes (r .form)) (verdict (codes (r .text)) (rules .limits) level2)
 
-abbrev allTest : List Rewriting → Bool
-allTest [] = true
-allTest (r ∷ rs) = test r && allTest rs
+  abbrev pub allTest : List Rewriting → Bool
+  allTest [] = true
+  allTest (r ∷ rs) = test r && allTest rs
 
-is-rewritten : (r : Rewriting) (o : Option Verdict) → Sound (Right (codes (r .text)) baseLimits level2) o → formed (codes (r .text)) (codes (r .form)) o ≡ true → Rewritten r
-is-rewritten r none s e = absurd (false≢true e)
-is-rewritten r (some (Reading.refused n p)) s e = absurd (false≢true e)
-is-rewritten r (some (holds v)) s e = record { tree = v; accepted = s; form-is = same-as (codes (r .form)) (plainForm (codes (r .text)) v) .true-holds e }
+  is-rewritten : (r : Rewriting) (o : Option Verdict) → Sound (Right (codes (r .text)) (rules .limits) level2) o → formed (codes (r .text)) (codes (r .form)) o ≡ true → Rewritten rules r
+  is-rewritten r none s e = absurd (false≢true e)
+  is-rewritten r (some (Reading.refused n p)) s e = absurd (false≢true e)
+  is-rewritten r (some (holds v)) s e = record { tree = v; accepted = s; form-is = same-as (codes (r .form)) (plainForm (codes (r .text)) v) .true-holds e }
 
-all-rewritten : (rs : List Rewriting) → allTest rs ≡ true → Every Rewritten rs
-all-rewritten [] e = none
-all-rewritten (r ∷ rs) e =
-    also (is-rewritten r (verdict (codes (r .text)) baseLimits level2) (verdict-is (codes (r .text)) baseLimits level2) (and-left (test r) (allTest rs) e))
-    (all-rewritten rs (and-right (test r) (allTest rs) e))
+  pub all-rewritten : (rs : List Rewriting) → allTest rs ≡ true → Every (Rewritten rules) rs
+  all-rewritten [] e = none
+  all-rewritten (r ∷ rs) e =
+      also (is-rewritten r (verdict (codes (r .text)) (rules .limits) level2) (verdict-is (codes (r .text)) (rules .limits) level2) (and-left (test r) (allTest rs) e))
+      (all-rewritten rs (and-right (test r) (allTest rs) e))
 
-tested : allTest rewritings ≡ true
+tested : allTest base rewritings ≡ true
 unfolding has bareFrom between nextState
 tested = refl
 
 -- ---- the answers
 
 abbrev text : List ℕ
-text = codes "{b<-a}"
+text = codes "{a->b}"
 
 abbrev span : ℕ → ℕ → Span
 span i j = record { first = i; end = j }
@@ -71,7 +73,7 @@ span i j = record { first = i; end = j }
 abbrev tree : Value
 tree =
     Tree.plain (Tree.lot (span 0 1)
-    (Tree.oneItem (Tree.joined (Tree.plain (Tree.text word (span 1 2))) (Tree.arrow Tree.leftward) (span 2 4) (Tree.plain (Tree.text word (span 4 5))))) (span 5 6))
+    (Tree.oneItem (Tree.joined (Tree.plain (Tree.text word (span 1 2))) (Tree.arrow Tree.rightward) (span 2 4) (Tree.plain (Tree.text word (span 4 5))))) (span 5 6))
 
 is-accepted : Accepted baseLimits text level2 tree
 unfolding has
@@ -95,7 +97,7 @@ pub plain : Plain
 unfolding between
 plain =
     record {
-      forms = all-rewritten rewritings tested;
+      forms = all-rewritten base rewritings tested;
       written = λ rest lent h. told (shown (reads (words 2 ++ rest) (long 2 rest)) refl) (Buffer.written h);
       no-room = λ rest lent h. told (shown (reads (words 2 ++ rest) (long 2 rest)) refl) (Buffer.noRoom h);
       other-table = λ d rest lent n. not-shown d rest lent n;

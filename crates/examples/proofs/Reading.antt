@@ -1,7 +1,7 @@
 -- The reading of a text, computed: the machine of the grammar over the tokens that come next. What it answers is the answer of the
 -- definitions. Assumes nothing.
-use mathlib.Core.Path.{_≡_, refl, subst}
-use mathlib.Core.Bool.{Bool, true, false, _&&_, false≢true}
+use mathlib.Core.Path.{_≡_, refl, ap, subst}
+use mathlib.Core.Bool.{Bool, true, false, _&&_, not, false≢true}
 use mathlib.Core.List.{List, [], _∷_, _++_}
 use mathlib.Core.Option.{Option, none, some}
 use Prim.Native.Nat.{ℕ, zero, suc}
@@ -9,7 +9,7 @@ use native.Mathlib.Omega.{arith}
 use borrow.Author.Tests.{ltb-true, lt-ltb}
 use lib.Dec.{ltb}
 use lib.ListN.{length}
-use Rattle.rules.proofs.Bools.{and-left, and-right, and-both, clash}
+use Rattle.rules.proofs.Bools.{and-left, and-right, and-both, not-true, clash}
 use Rattle.lexicon.specs.declared.Token as Token
 use Rattle.lexicon.specs.declared.Next.{Next}
 use Rattle.lexicon.specs.declared.Next.the-variants as Next
@@ -25,10 +25,11 @@ use Rattle.decisions.proofs.Next.{nextOf, next-is}
 use Rattle.decisions.proofs.Front.{frontOf, front-is}
 use Rattle.reading.specs.declared.Limits.{Limits}
 use Rattle.reading.specs.Tokens.{seen, Follow, nothing, next, opened}
-use Rattle.reading.specs.Faults.{NewerAt, TooDeep, FirstFault}
+use Rattle.reading.specs.Faults.{NewerAt, Retired, TooDeep, FirstFault}
 use Rattle.reading.specs.Answers.{Accepted}
 use Rattle.reading.proofs.Rows.{pick, no-end, no-none}
-use Rattle.reading.proofs.Stands.{Stands, at-front, goes-on, no-token, wrong-place, wrong-end, newer-form, bad-value, too-deep}
+use Rattle.reading.proofs.Decide.{isArrow, arrow-class}
+use Rattle.reading.proofs.Stands.{Stands, at-front, goes-on, no-token, wrong-place, wrong-end, newer-form, arrow-retired, bad-value, too-deep}
 use Rattle.reading.proofs.At.{accepted}
 
 -- what is answered, if anything is, has the property
@@ -152,6 +153,21 @@ module _ (bytes : List ℕ) (limits : Limits) (l : Level) where
       (newerHolds l ts (seen t) us
       (record { beyond = holdsBeyond l (seen t ∷ us) (a .enough (seen t .at) (n .follow) (beyondHolds l (n .newer .beyond))); place = n .newer .place })) e
 
+  -- ---- the backward arrow
+
+  abbrev retires : Token.Token → Bool
+  retires t = not (limits .arrow) && isArrow (seen t .class)
+
+  is-retired : (t : Token.Token) → retires t ≡ true → Retired limits t
+  is-retired t e =
+      record {
+        retired = not-true (limits .arrow) (and-left (not (limits .arrow)) (isArrow (seen t .class)) e);
+        arrow = arrow-class (seen t .class) (and-right (not (limits .arrow)) (isArrow (seen t .class)) e);
+      }
+
+  not-retired : (t : Token.Token) → retires t ≡ false → Retired limits t → ⊥
+  not-retired t e r = clash (and-both (not (limits .arrow)) (isArrow (seen t .class)) (ap not (r .retired)) (ap isArrow (r .arrow))) e
+
   -- ---- too many brackets
 
   abbrev deeper : List Tok → Token.Token → Bool
@@ -172,15 +188,16 @@ module _ (bytes : List ℕ) (limits : Limits) (l : Level) where
 
   -- ---- the tokens from left to right
 
-  -- a token in its place, by whether its value is bad and whether it is one bracket too many; `again` goes on behind it
-  abbrev valued : Token.Token → Bool → Bool → (Unit {0} → Option Verdict) → Option Verdict
-  valued t true b again = some (refused 5 (t .first))
-  valued t false true again = some (refused 11 (t .first))
-  valued t false false again = again tt
+  -- a token in its place, by whether it is retired, its value is bad and it is one bracket too many; `again` goes on behind it
+  abbrev valued : Token.Token → Bool → Bool → Bool → (Unit {0} → Option Verdict) → Option Verdict
+  valued t true b d again = some (refused 15 (t .first))
+  valued t false true d again = some (refused 5 (t .first))
+  valued t false false true again = some (refused 11 (t .first))
+  valued t false false false again = again tt
 
   abbrev stepped : List Tok → Token.Token → Option Config → (Config → Option Verdict) → Option Verdict
   stepped ts t none again = some (refused 6 (t .first))
-  stepped ts t (some d) again = valued t (t .bad) (deeper ts t) (λ u. again d)
+  stepped ts t (some d) again = valued t (retires t) (t .bad) (deeper ts t) (λ u. again d)
 
   abbrev placed : List Tok → Config → Token.Token → Bool → (Config → Option Verdict) → Option Verdict
   placed ts c t true again = some (refused 7 (t .first))
@@ -215,15 +232,16 @@ module _ (bytes : List ℕ) (limits : Limits) (l : Level) where
         (record { tokens = ts; stands = subst (λ (y : Config). Stands limits l bytes ts p y) x s; deep = refl }) q k .0
 
     module _ (t : Token.Token) (k : Comes bytes p (Next.Token t)) (again : Token.Token → Config → Option Verdict) (go-on : Again again) where
-      valued-is : (d : Config) → (NewerAt l bytes ts t → ⊥) → step l c (seen t) ≡ some d → (a b : Bool) → t .bad ≡ a → deeper ts t ≡ b →
-          Sound Right (valued t a b (λ u. again t d))
-      valued-is d n e true b x y = bad-value limits l bytes s k n e x
-      valued-is d n e false true x y = too-deep limits l bytes s k n e x (is-deeper ts t y)
-      valued-is d n e false false x y = go-on t d (goes-on limits l bytes s k n e x (λ z. not-deeper ts t y z))
+      valued-is : (d : Config) → (NewerAt l bytes ts t → ⊥) → step l c (seen t) ≡ some d → (r a b : Bool) → retires t ≡ r → t .bad ≡ a → deeper ts t ≡ b →
+          Sound Right (valued t r a b (λ u. again t d))
+      valued-is d n e true a b r x y = arrow-retired limits l bytes s k n e (is-retired t r)
+      valued-is d n e false true b r x y = bad-value limits l bytes s k n e (not-retired t r) x
+      valued-is d n e false false true r x y = too-deep limits l bytes s k n e (not-retired t r) x (is-deeper ts t y)
+      valued-is d n e false false false r x y = go-on t d (goes-on limits l bytes s k n e (not-retired t r) x (λ z. not-deeper ts t y z))
 
       stepped-is : (NewerAt l bytes ts t → ⊥) → (m : Option Config) → step l c (seen t) ≡ m → Sound Right (stepped ts t m (again t))
       stepped-is n none e = wrong-place limits l bytes s k n e
-      stepped-is n (some d) e = valued-is d n e (t .bad) (deeper ts t) refl refl
+      stepped-is n (some d) e = valued-is d n e (retires t) (t .bad) (deeper ts t) refl refl refl
 
       placed-is : (us : List Tok) → Ahead (classKind (t .kind)) (t .end) us → (b : Bool) → isNewer l ts (seen t) us ≡ b → Sound Right (placed ts c t b (again t))
       placed-is us a true e = newer-form limits l bytes s k (newer-at a e)

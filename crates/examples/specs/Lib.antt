@@ -1,5 +1,5 @@
 -- The texts that document 01 marks with a star, texts with bad values, base-64 Blobs, pieces of the Blob and Bits
--- calls, texts with the steps of the UTF-8 test, stored files, and plain forms.
+-- calls, texts with the steps of the UTF-8 test, stored files, plain forms, and the backward arrow.
 pub mod Starred
 pub mod Values
 pub mod Padding
@@ -7,3 +7,4 @@ pub mod Contents
 pub mod Steps
 pub mod Files
 pub mod Plain
+pub mod Arrow

@@ -8,7 +8,8 @@ use Rattle.rules.specs.Class.{codes}
 use Rattle.rules.specs.Every.{Every}
 use Rattle.grammar.specs.Tree.{Value}
 use Rattle.grammar.specs.Level.{level2}
-use Rattle.reading.specs.Sizes.{baseLimits, base}
+use Rattle.reading.specs.declared.Rules.{Rules}
+use Rattle.reading.specs.Sizes.{base}
 use Rattle.reading.specs.Answers.{answer, Accepted}
 use Rattle.form.specs.Spell.{plainForm}
 use Rattle.form.specs.Writes.{Writes}
@@ -37,8 +38,7 @@ rewritings =
     ∷ "(::a : ::b)" becomes "(::a:::b)"
     -- pairs are this, `:`, that
     ∷ "{,a->b,}" becomes "{a:b}"
-    ∷ "{b<-a}" becomes "{a:b}"
-    ∷ "((d<-c)<-{b<-a})" becomes "({a:b}:(c:d))"
+    ∷ "({a->b}->(c:d))" becomes "({a:b}:(c:d))"
     -- head words that are no heads are quoted, heads stay
     ∷ "Set" becomes "\"Set\""
     ∷ "(Array->5)" becomes "(\"Array\":5)"
@@ -49,28 +49,28 @@ rewritings =
     ∷ "(Set:{ , a : 0bTRUE , })" becomes "(Set:{a:0bTRUE})"
     ∷ []
 
--- accepted at level 2, and its plain form
-pub record Rewritten (r : Rewriting) : Type 0 where
+-- accepted at level 2 by these rules, and its plain form
+pub record Rewritten (rules : Rules) (r : Rewriting) : Type 0 where
   pub tree : Value
-  pub accepted : Accepted baseLimits (codes (r .text)) level2 tree
+  pub accepted : Accepted (rules .limits) (codes (r .text)) level2 tree
   pub form-is : plainForm (codes (r .text)) tree ≡ codes (r .form)
 
--- the words of the reading of `{b<-a}`, with this for the last
+-- the words of the reading of `{a->b}`, with this for the last
 abbrev pub words : ℕ → List ℕ
-words d = 11 ∷ 0 ∷ 6 ∷ 0 ∷ 0 ∷ 0 ∷ 7 ∷ 1 ∷ 2 ∷ 0 ∷ 3 ∷ 2 ∷ 7 ∷ 4 ∷ 5 ∷ 0 ∷ 1 ∷ d ∷ []
+words d = 11 ∷ 0 ∷ 6 ∷ 0 ∷ 0 ∷ 0 ∷ 7 ∷ 1 ∷ 2 ∷ 0 ∷ 1 ∷ 2 ∷ 7 ∷ 4 ∷ 5 ∷ 0 ∷ 2 ∷ d ∷ []
 
 pub record Plain : Type 0 where
-  pub forms : Every Rewritten rewritings
+  pub forms : Every (Rewritten base) rewritings
   -- words behind those of the nodes are free, and bytes behind the plain form stay
   pub written : (rest lent : List ℕ) → 5 ≤ length lent →
-      Writes base (codes "{b<-a}") (words 2 ++ rest) lent 2 (answer 0 6 5) (codes "{a:b}" ++ drop 5 lent)
+      Writes base (codes "{a->b}") (words 2 ++ rest) lent 2 (answer 0 6 5) (codes "{a:b}" ++ drop 5 lent)
   pub no-room : (rest lent : List ℕ) → length lent < 5 →
-      Writes base (codes "{b<-a}") (words 2 ++ rest) lent 2 (answer 8 6 5) lent
+      Writes base (codes "{a->b}") (words 2 ++ rest) lent 2 (answer 8 6 5) lent
   -- 14 comes behind the reader's 8
   pub other-table : (d : ℕ) (rest lent : List ℕ) → (d ≡ 2 → ⊥) →
-      Writes base (codes "{b<-a}") (words d ++ rest) lent 2 (answer 14 0 0) lent
+      Writes base (codes "{a->b}") (words d ++ rest) lent 2 (answer 14 0 0) lent
   pub short-table : (table lent : List ℕ) → length table < 18 →
-      Writes base (codes "{b<-a}") table lent 2 (answer 8 6 3) lent
+      Writes base (codes "{a->b}") table lent 2 (answer 8 6 3) lent
   -- and before the writer's own, where no byte fits
   pub table-first : (d : ℕ) (rest : List ℕ) → (d ≡ 2 → ⊥) →
-      Writes base (codes "{b<-a}") (words d ++ rest) [] 2 (answer 14 0 0) []
+      Writes base (codes "{a->b}") (words d ++ rest) [] 2 (answer 14 0 0) []

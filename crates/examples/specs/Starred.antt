@@ -1,6 +1,6 @@
 -- The texts that document 01 marks with a star, as one table, and the one statement about it: each text's reading ends
--- as its line says, by the definitions of the tokens, the trees and the answers. proofs/Starred.antt proves it. Assumes
--- nothing.
+-- as its line says, by the definitions of the tokens, the trees and the answers; 02's request 6 has another line for
+-- one of them. proofs/Starred.antt proves it. Assumes nothing.
 use mathlib.Core.List.{List, [], _∷_, _++_}
 use mathlib.Core.Option.{Option, none, some}
 use Prim.Native.Nat.{ℕ, _*_, _≤_}
@@ -10,7 +10,8 @@ use lib.ListN.{length, drop}
 use Rattle.rules.specs.Class.{codes}
 use Rattle.lexicon.specs.Values.{IntegerOf}
 use Rattle.grammar.specs.Nodes.{nodeWords}
-use Rattle.reading.specs.Sizes.{base, room}
+use Rattle.reading.specs.declared.Rules.{Rules}
+use Rattle.reading.specs.Sizes.{room}
 use Rattle.reading.specs.Answers.{answer, Answers}
 
 -- ---- the lines of the table
@@ -62,13 +63,13 @@ atBoth s o = atLevel 1 s o ++ atLevel 2 s o
 
 -- ---- the statement
 
--- with every lent table that has room for the nodes: number, place, count, and every word of the table at exit. Under a
--- refusal there are no nodes, so every table has room for them, and it stays as it was. No other answer holds:
--- reading's law `one-answer`.
-abbrev pub Ends : List ℕ → ℕ → ℕ → ℕ → List Row → Type 0
-Ends bytes level number place nodes =
-    (lent : List ℕ) → length nodes ≤ room base (length lent) →
-    Answers base bytes lent level (answer number place (length nodes))
+-- by these rules and with every lent table that has room for the nodes: number, place, count, and every word of the
+-- table at exit. Under a refusal there are no nodes, so every table has room for them, and it stays as it was. No other
+-- answer holds: reading's law `one-answer`.
+abbrev pub Ends : Rules → List ℕ → ℕ → ℕ → ℕ → List Row → Type 0
+Ends rules bytes level number place nodes =
+    (lent : List ℕ) → length nodes ≤ room rules (length lent) →
+    Answers rules bytes lent level (answer number place (length nodes))
     (wordsOf nodes ++ drop (nodeWords * length nodes) lent)
 
 -- the root is an Integer literal of this value
@@ -77,13 +78,13 @@ Means bytes none ns = Unit {0}
 Means bytes (some z) [] = ⊥
 Means bytes (some z) (n ∷ ns) = IntegerOf bytes (n .first) (n .end) z
 
-pub record Holds (e : Example) : Type 0 where
-  pub ends : Ends (codes (e .text)) (e .level) (e .outcome .number) (e .outcome .place) (e .outcome .nodes)
+pub record Holds (rules : Rules) (e : Example) : Type 0 where
+  pub ends : Ends rules (codes (e .text)) (e .level) (e .outcome .number) (e .outcome .place) (e .outcome .nodes)
   pub means : Means (codes (e .text)) (e .outcome .integer) (e .outcome .nodes)
 
-abbrev pub AllHold : List Example → Type 0
-AllHold [] = Unit {0}
-AllHold (e ∷ es) = Holds e × AllHold es
+abbrev pub AllHold : Rules → List Example → Type 0
+AllHold rules [] = Unit {0}
+AllHold rules (e ∷ es) = Holds rules e × AllHold rules es
 
 -- ---- the table
 
@@ -94,7 +95,8 @@ starred =
     ++ atBoth "{,,}" (accepted 4 (node 11 0 4 0 0 0 ∷ []))
     ++ atBoth "29 56" (accepted-as (pos 2956) 5 (node 3 0 5 0 0 0 ∷ []))
     ++ atBoth "(5:y,)" (refused 6 4)
-    ++ atBoth "{a,b<-c}" (accepted 8 (node 11 0 8 0 0 0 ∷ node 7 1 2 0 1 2 ∷ node 7 3 4 0 3 2 ∷ node 7 6 7 0 1 2 ∷ []))
+    -- 02, request 6: '01's `{a,b<-c}` becomes 15 at 4'
+    ++ atBoth "{a,b<-c}" (refused 15 4)
     ++ atBoth "(x:::y)" (accepted 7 (node 9 0 7 0 0 0 ∷ node 7 1 2 0 1 2 ∷ node 8 3 6 0 2 0 ∷ []))
     ++ atBoth "1/0" (refused 5 0)
     ++ atLevel 1 "[1..10]" (refused 7 0)
