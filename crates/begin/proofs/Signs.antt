@@ -13,6 +13,7 @@ use Rattle.lexicon.specs.declared.Sign.{Sign}
 use Rattle.lexicon.specs.declared.Sign.the-variants as Sign
 use Rattle.grammar.specs.Tokens
 use Rattle.grammar.specs.Tokens.{Class, Mark, classKind, classSign}
+use Rattle.reading.proofs.Decide.{isArrow}
 use Rattle.begin.specs.Signs.{noMark, isClose, literal}
 
 -- ---- the arms' keys are the variants' places in their enum
@@ -135,3 +136,34 @@ close-class (Tokens.mark Tokens.leftArrow) e = absurd (false≢true e)
 close-class (Tokens.mark Tokens.dots) e = absurd (false≢true e)
 close-class (Tokens.mark (Tokens.star a c)) e = absurd (false≢true e)
 close-class Tokens.later e = absurd (false≢true e)
+
+-- ---- `<-`
+
+pub unarrowed-kind : (k : Kind) → OneOf noSymbol (tagOf KindType.the-type k) → isArrow (classKind k) ≡ false
+unarrowed-kind Kind.Ignorance x = refl
+unarrowed-kind (Kind.Boolean b) x = refl
+unarrowed-kind (Kind.Integer b) x = refl
+unarrowed-kind Kind.Fraction x = refl
+unarrowed-kind Kind.Bits x = refl
+unarrowed-kind Kind.Blob x = refl
+unarrowed-kind (Kind.Text f) x = refl
+unarrowed-kind Kind.Later x = refl
+unarrowed-kind (Kind.Symbol s) x = absurd (miss noSymbol 8 tt x)
+unarrowed-kind Kind.Colon x = refl
+unarrowed-kind Kind.TwoColons x = refl
+
+abbrev pub noArrow : List ℕ
+noArrow = 0 ∷ 1 ∷ 2 ∷ 3 ∷ 4 ∷ 5 ∷ 6 ∷ 7 ∷ 9 ∷ 10 ∷ []
+
+pub unarrowed-sign : (s : Sign) → OneOf noArrow (tagOf SignType.the-type s) → isArrow (classSign s) ≡ false
+unarrowed-sign Sign.RoundOpen x = refl
+unarrowed-sign Sign.RoundClose x = refl
+unarrowed-sign Sign.CurlyOpen x = refl
+unarrowed-sign Sign.CurlyClose x = refl
+unarrowed-sign Sign.SquareOpen x = refl
+unarrowed-sign Sign.SquareClose x = refl
+unarrowed-sign Sign.Comma x = refl
+unarrowed-sign Sign.ArrowRight x = refl
+unarrowed-sign Sign.ArrowLeft x = absurd (miss noArrow 8 tt x)
+unarrowed-sign Sign.Dots x = refl
+unarrowed-sign (Sign.Star a b) x = refl

@@ -26,6 +26,7 @@ use Rattle.reading.specs.declared.Limits.{Limits}
 use Rattle.reading.specs.Tokens.{seen}
 use Rattle.reading.specs.Faults.{NewerAt}
 use Rattle.reading.proofs.Rows.{pick}
+use Rattle.reading.proofs.Decide.{isArrow, not-arrow}
 use Rattle.reading.proofs.At as Place
 use Rattle.moves.specs.declared.Forms.{Forms}
 use Rattle.moves.specs.declared.Style.{Style}
@@ -271,7 +272,7 @@ module _ (text : List ℕ) (limits : Limits) (forms : Forms) (d : ℕ) (t : Toke
       Place.literal-on limits l text a u (w .comes) (ap (λ (y : Kind). Place.plain (classKind y)) (w .word-is)) good
       (ap (λ (y : Kind). wantClass l (classKind y) (spanOf u) (opened t K)) (w .word-is)) in
       let c : Stands text limits forms n (s .end) (wantCurly (spanOf t) k (spanOf u) (spanOf s) K) =
-      Place.sign-on limits l text b s (w .then) Tokens.colon (ap classKind (w .sign-is))
+      Place.sign-on limits l text b s (w .then) Tokens.colon (ap classKind (w .sign-is)) (λ y. not-arrow s (ap (λ (z : Kind). isArrow (classKind z)) (w .sign-is)) y)
       (ap (λ (y : Kind). haveClass l (classKind y) (Tree.bare h (spanOf u)) (spanOf s) (opened t K)) (w .sign-is)
       ∙ head-steps l k (spanOf t) (spanOf u) (spanOf s) K i) in
       subst (λ (p : ℕ). Stands text limits forms n p (wantCurly (spanOf t) k (spanOf u) (spanOf s) K)) (sym (w .end-is)) c

@@ -30,7 +30,7 @@ use Rattle.reading.specs.declared.Limits.{Limits}
 use Rattle.reading.specs.Sizes.{widest}
 use Rattle.reading.specs.Tokens.{seen, openMark}
 use Rattle.reading.proofs.Rows.{pick}
-use Rattle.reading.proofs.Decide.{whole}
+use Rattle.reading.proofs.Decide.{whole, isArrow, not-arrow}
 use Rattle.reading.proofs.At.{none-here, end-here, sign-on}
 use Rattle.reading.proofs.Depth.{depth-is}
 use Rattle.moves.specs.declared.Forms.{Forms}
@@ -316,7 +316,7 @@ module _ (text : List ℕ) (limits : Limits) (forms : Forms) where
                   record {
                     tree = Tree.plain (Tree.group (spanOf t) (v .tree) (spanOf w));
                     depth = openMark Tokens.roundClose (v .depth);
-                    stands = sign-on limits (levelOf forms) text (v .stands) w k' Tokens.roundClose i (ap (λ (p : Class). haveClass (levelOf forms) p (v .tree) (spanOf w) (opened t K)) i);
+                    stands = sign-on limits (levelOf forms) text (v .stands) w k' Tokens.roundClose i (λ p. not-arrow w (ap isArrow i) p) (ap (λ (p : Class). haveClass (levelOf forms) p (v .tree) (spanOf w) (opened t K)) i);
                     stops = λ p p' p''. refl;
                     shape-is = refl;
                     bare = λ p p'. absurd (false≢true (ap isBare p'));

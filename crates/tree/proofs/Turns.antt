@@ -3,7 +3,7 @@ use mathlib.Core.Path.{_≡_, refl, sym, ap, subst, _∙_}
 use mathlib.Core.Bool.{Bool, true, false, false≢true}
 use mathlib.Core.Logic.{_⊎_, inl, inr}
 use mathlib.Core.List.{List, [], _∷_, _++_}
-use mathlib.Core.Option.{none}
+use mathlib.Core.Option.{none, some}
 use Prim.Native.Nat.{ℕ, zero, suc, pred, _+_, _≤_}
 use native.Mathlib.Omega.{arith}
 use lib.ListN.{length, length-append}
@@ -12,17 +12,21 @@ use Rattle.lexicon.specs.declared.Token as Token
 use Rattle.lexicon.specs.declared.Next.the-variants as Next
 use Rattle.lexicon.specs.Token.{Comes}
 use Rattle.grammar.specs.Tokens
-use Rattle.grammar.specs.Tokens.{Span, Mark, classKind}
+use Rattle.grammar.specs.Tokens.{Span, Mark, Class, Tok, classKind}
 use Rattle.grammar.specs.Tree
 use Rattle.grammar.specs.Tree.{Value}
+use Rattle.grammar.specs.Level.{Level}
 use Rattle.grammar.specs.Nodes as Nodes
 use Rattle.grammar.specs.Nodes.{Node, nodes, over}
 use Rattle.grammar.proofs.NodeLaws.{roled, relabel, some-node}
 use Rattle.grammar.proofs.Frames as Frames
 use Rattle.grammar.proofs.Frames.{Config, Stack, want, have, namesOf}
+use Rattle.grammar.proofs.Machine.{haveClass, step}
 use Rattle.reading.specs.declared.Limits.{Limits}
 use Rattle.reading.specs.Tokens.{seen, openMark}
-use Rattle.reading.proofs.At.{At, opens, sign-on, literal-on, open-on, never-bad, mayBeBad, plain, kindOf, curly-known, sign-wrong, not-here, deep-here, class-kind}
+use Rattle.reading.specs.Faults.{Retired}
+use Rattle.reading.proofs.Decide.{isArrow, not-arrow}
+use Rattle.reading.proofs.At.{At, opens, sign-on, literal-on, open-on, never-bad, mayBeBad, plain, kindOf, curly-known, sign-wrong, not-here, deep-here, retired-here, class-kind}
 use Rattle.moves.specs.declared.Forms.{Forms}
 use Rattle.moves.specs.declared.Role.{Role}
 use Rattle.moves.specs.declared.Role.the-variants as Role
@@ -33,8 +37,8 @@ use Rattle.moves.specs.declared.Frame.{Frame}
 use Rattle.moves.specs.declared.Mode.{Mode}
 use Rattle.moves.specs.declared.Move.{Move}
 use Rattle.moves.specs.declared.Move.the-variants as Move
-use Rattle.moves.specs.Means.{levelOf, roleOf, shapeOf, before, last, children, openOf}
-use Rattle.moves.specs.Effects.{flat, counting, opening, held, Leads, told, Does}
+use Rattle.moves.specs.Means.{given, levelOf, roleOf, shapeOf, before, last, children, openOf}
+use Rattle.moves.specs.Effects.{flat, counting, opening, held, Leads, Paired, told, Does}
 use Rattle.moves.proofs.Steps.{paired-held, paired-named}
 use Rattle.table.specs.Over.{Written, Stored, Assigned, Put, entryWords}
 use Rattle.table.proofs.Words.{roled-length}
@@ -48,7 +52,7 @@ use Rattle.tree.specs.declared.leaf.Telling as Telling
 use Rattle.tree.specs.Tellings.{leafDetail, LeafTold}
 use Rattle.tree.specs.Readers.{spanOf, Ends, Taken, signs, Holds, Turns}
 use Rattle.tree.proofs.Leaves.{atom-tells}
-use Rattle.tree.specs.Turning.{Narrow, Outer, countEntry, closeEntry, Led, Tupled, Counted, Deepened, Shuts, Closed}
+use Rattle.tree.specs.Turning.{Narrow, Outer, countEntry, closeEntry, Led, Leading, Tupled, Counted, Deepened, Shuts, Closed}
 
 -- ---- roles of the value that was read last
 
@@ -136,6 +140,26 @@ flat-depth Tokens.leftArrow d e = refl
 flat-depth Tokens.dots d e = refl
 flat-depth (Tokens.star a b) d e = refl
 
+-- ---- the backward arrow
+
+-- it ends no bracket
+arrow-flat : (m : Mark) → flat m ≡ false → isArrow (Tokens.mark m) ≡ false
+arrow-flat Tokens.roundClose e = refl
+arrow-flat Tokens.curlyClose e = refl
+arrow-flat Tokens.squareClose e = refl
+arrow-flat Tokens.comma e = refl
+arrow-flat Tokens.colon e = refl
+arrow-flat Tokens.rightArrow e = refl
+arrow-flat Tokens.leftArrow e = absurd (false≢true (sym e))
+arrow-flat Tokens.dots e = refl
+arrow-flat (Tokens.star a b) e = refl
+
+-- and leads nowhere behind `:` and a value
+arrow-paired : {l : Level} {c to : Config} {t : Tok} → Paired l c t → step l c t ≡ some to → t .class ≡ Tokens.mark Tokens.leftArrow → ⊥
+arrow-paired {l} {t = t} p e a =
+    false≢true (sym (ap (λ (x : Config). given (step l x t)) (p .config-is)
+    ∙ ap (λ (k : Class). given (haveClass l k (p .value) (t .at) (Frames.inRound (Frames.pairColon (p .first) (p .name) (p .colon)) ∷ p .stack))) a) ∙ ap given e)
+
 module _ (text : List ℕ) (limits : Limits) (forms : Forms) where
   -- ---- the words: a role told
 
@@ -183,16 +207,23 @@ module _ (text : List ℕ) (limits : Limits) (forms : Forms) where
   module _ {opener : Token.Token} {lent from : List ℕ} {index : ℕ} {K : Stack} {c : Config} {s : State.State} (t : Token.Token)
       (h : Holds text limits forms opener lent from index K c s) (k : Comes text (s .at) (Next.Token t)) where
     -- a sign leads on, in the same depth
-    pub led-on : {left : List ℕ} {mode : Mode} {role : Role} (r : Turn) (parent : ℕ) → Does (levelOf forms) c (seen t) (Move.To mode role) → length left ≡ length from →
-        Led s t mode role from left r → Turns text limits forms opener lent left index parent K r
-    led-on {left} {mode} {role} r parent (m, u, g) e l =
+    led-on : {left : List ℕ} {mode : Mode} {role : Role} (r : Turn) (parent : ℕ) → Does (levelOf forms) c (seen t) (Move.To mode role) → length left ≡ length from →
+        (Retired limits t → ⊥) → Led s t mode role from left r → Turns text limits forms opener lent left index parent K r
+    led-on {left} {mode} {role} r parent (m, u, g) e x l =
         subst (Turns text limits forms opener lent left index parent K) (sym (l .turn-is)) (
           g .to,
           leads-holds t h g
-              (subst (λ (d : ℕ). At limits (levelOf forms) text d (t .end) (g .to)) (flat-depth (m .sign) (s .deep) (m .flat-is)) (sign-on limits (levelOf forms) text (h .stands) t k (m .sign) (m .class-is) (g .steps)))
+              (subst (λ (d : ℕ). At limits (levelOf forms) text d (t .end) (g .to)) (flat-depth (m .sign) (s .deep) (m .flat-is)) (sign-on limits (levelOf forms) text (h .stands) t k (m .sign) (m .class-is) x (g .steps)))
               e (h .count-is ∙ sym (told-length c (roleOf role) index))
               (role-written index c role (h .written) (h .length-is) (l .role-is) (h .last-is) u),
         )
+
+    -- or is refused, where it is retired
+    pub leading-on : {left : List ℕ} {mode : Mode} {role : Role} (r : Turn) (parent : ℕ) → Does (levelOf forms) c (seen t) (Move.To mode role) → length left ≡ length from →
+        Leading s t limits mode role from left r → Turns text limits forms opener lent left index parent K r
+    leading-on {left} r parent (m, u, g) e (inl (x, q)) =
+        subst (Turns text limits forms opener lent left index parent K) (sym q) (retired-here limits (levelOf forms) text (h .stands) t k x (g .steps))
+    leading-on r parent d e (inr (x, l)) = led-on r parent d e x l
 
     -- `}` of a counted collection
     pub shut-on : {left : List ℕ} {style : Style} {role : Role} (r : Turn) (parent : ℕ) → Does (levelOf forms) c (seen t) (Move.Shut style role) → length left ≡ length from →
@@ -200,7 +231,7 @@ module _ (text : List ℕ) (limits : Limits) (forms : Forms) where
     shut-on {left} {style} {role} r parent (m, u, g) e l =
         subst (Turns text limits forms opener lent left index parent K) (sym (l .turn-is)) (
           g .to,
-          leads-holds t h g (sign-on limits (levelOf forms) text (h .stands) t k Tokens.curlyClose m (g .steps))
+          leads-holds t h g (sign-on limits (levelOf forms) text (h .stands) t k Tokens.curlyClose m (λ x. not-arrow t (ap isArrow m) x) (g .steps))
               e (h .count-is ∙ sym (told-length c (roleOf role) index))
               (role-written index c role (h .written) (h .length-is) (l .role-is) (h .last-is) u),
         )
@@ -215,7 +246,7 @@ module _ (text : List ℕ) (limits : Limits) (forms : Forms) where
         subst (Turns text limits forms opener lent left index parent K) (sym (d .led .turn-is)) (
           g .to,
           leads-holds t h g
-              (subst (λ (y : ℕ). At limits (levelOf forms) text y (t .end) (g .to)) (flat-depth (m .sign) (s .deep) (m .flat-is)) (sign-on limits (levelOf forms) text (h .stands) t k (m .sign) (m .class-is) (g .steps)))
+              (subst (λ (y : ℕ). At limits (levelOf forms) text y (t .end) (g .to)) (flat-depth (m .sign) (s .deep) (m .flat-is)) (sign-on limits (levelOf forms) text (h .stands) t k (m .sign) (m .class-is) (λ x. arrow-paired p (g .steps) (x .arrow)) (g .steps)))
               e
               (h .count-is ∙ omega (arith, length-append (roled Nodes.name ns) (roled Nodes.value (last c index)), length-append ns (last c index), same, roled-length Nodes.value (last c index)))
               (written-role (roled Nodes.name ns) (last c index)
@@ -277,7 +308,7 @@ module _ (text : List ℕ) (limits : Limits) (forms : Forms) where
         (record {
           tree = v;
           depth = openMark (m .sign) (s .deep);
-          stands = subst (λ (x : Stack). At limits (levelOf forms) text (openMark (m .sign) (s .deep)) (t .end) (have v x)) (h .stack-is) (sign-on limits (levelOf forms) text (h .stands) t k (m .sign) (m .class-is) (g .steps));
+          stands = subst (λ (x : Stack). At limits (levelOf forms) text (openMark (m .sign) (s .deep)) (t .end) (have v x)) (h .stack-is) (sign-on limits (levelOf forms) text (h .stands) t k (m .sign) (m .class-is) (λ x. not-arrow t (ap isArrow (m .class-is) ∙ arrow-flat (m .sign) (m .flat-is)) x) (g .steps));
           stops = λ x y z. other-names v (g .shape-is);
           shape-is = g .shape-is;
           bare = λ x y. absurd (false≢true (ap isBare y));
@@ -327,8 +358,12 @@ module _ {limits : Limits} {opener t : Token.Token} {s : State.State} {index par
   pub take-value : {f : Frame} → taken ≡ Move.Value f → r ≡ Turn.Ended (Read.Refused 6 (t .first)) → Promise limits opener s t taken from left index parent r
   take-value e q = (subst (λ (y : Turn). Ends opener t y) (sym q) tt, record { turns = λ text forms lent K c h k d g. absurd (false≢true (sym (ap signs e) ∙ g)) })
 
-  pub take-led : {mode : Mode} {role : Role} → taken ≡ Move.To mode role → length left ≡ length from → Led s t mode role from left r → Promise limits opener s t taken from left index parent r
-  take-led e x l = taking e (l .turn-is) (advanced n o) (λ text forms lent K c h k d. led-on text limits forms t h k r parent d x l)
+  pub take-leading : {mode : Mode} {role : Role} → taken ≡ Move.To mode role → length left ≡ length from → Leading s t limits mode role from left r → Promise limits opener s t taken from left index parent r
+  take-leading {mode} {role} e x l = go l
+    where
+      go : Leading s t limits mode role from left r → Promise limits opener s t taken from left index parent r
+      go (inl (y, q)) = taking e q tt (λ text forms lent K c h k d. leading-on text limits forms t h k r parent d x (inl (y, q)))
+      go (inr (y, d')) = taking e (d' .turn-is) (advanced n o) (λ text forms lent K c h k d. leading-on text limits forms t h k r parent d x (inr (y, d')))
 
   pub take-tuple : taken ≡ Move.Tuple → length left ≡ length from → Tupled s t from left index r → Promise limits opener s t taken from left index parent r
   take-tuple e x l = taking e (l .led .turn-is) (advanced n o) (λ text forms lent K c h k d. tuple-on text limits forms t h k r parent d l x)

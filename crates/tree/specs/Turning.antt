@@ -7,6 +7,7 @@ use lib.ListN.{length}
 use Rattle.lexicon.specs.declared.Token as Token
 use Rattle.reading.specs.declared.Limits.{Limits}
 use Rattle.reading.specs.Sizes.{widest}
+use Rattle.reading.specs.Faults.{Retired}
 use Rattle.moves.specs.declared.Role.{Role}
 use Rattle.moves.specs.declared.Role.the-variants as Role
 use Rattle.moves.specs.declared.Shape.the-variants as Shape
@@ -73,6 +74,12 @@ module _ (s : State.State) (t : Token.Token) where
   pub record Led (mode : Mode) (role : Role) (from left : List ℕ) (r : Turn) : Type 0 where
     pub turn-is : r ≡ Turn.On (behind s mode t (s .deep) (s .nodes))
     pub role-is : Assigned from left (s .last) role
+
+  -- unless the sign is retired
+  abbrev pub Leading : Limits → Mode → Role → List ℕ → List ℕ → Turn → Type 0
+  Leading limits mode role from left r =
+      (Retired limits t × (r ≡ Turn.Ended (Read.Refused 15 (t .first)))) ⊎
+      ((Retired limits t → ⊥) × Led mode role from left r)
 
   pub record Tupled (from left : List ℕ) (index : ℕ) (r : Turn) : Type 0 where
     pub named : List ℕ

@@ -1,6 +1,7 @@
 // Inside a bracket: where the reader stands, and what a sign or a count does there.
 // A function with a `requires` is this crate's own: the numbers that it asks for hold in every text that is read.
 use crate::leaf::told;
+use begin::sign::is_retired;
 use lexicon::Token;
 use look::answer::Read;
 use moves::CurlyFrame;
@@ -22,7 +23,7 @@ ghost use Rattle.reading.specs.Sizes.{widest};
 ghost use Rattle.look.specs.declared.answer.Read.the-variants as Read;
 ghost use Rattle.tree.specs.declared.bracket.Turn.the-variants as Turn;
 ghost use Rattle.tree.specs.Readers.{entering as enteringOf, Ends, Taken};
-ghost use Rattle.tree.specs.Turning.{Narrow, Outer, Led, Tupled, Counted, Deepened, Shuts, Closed};
+ghost use Rattle.tree.specs.Turning.{Narrow, Outer, Led, Leading, Tupled, Counted, Deepened, Shuts, Closed};
 
 // What is expected, from which place; the open brackets; the nodes of the members so far; the last member's first node.
 pub struct State {
@@ -65,6 +66,19 @@ fn lead_on(s: State, mode: Mode, role: Role, t: Token, table: &mut [u32]) -> Tur
         nodes: s.nodes,
         last: s.last,
     })
+}
+
+// A sign that may be read leads on; one that is retired is refused where it would have led on.
+fn lead(limits: Limits, s: State, mode: Mode, role: Role, t: Token, table: &mut [u32]) -> Turn
+    ensures { λ r. ⌜ Leading s t limits mode role (now (table .entry)) (now (table .exit)) r ⌝ }
+{
+    if is_retired(limits, t) {
+        return Turn::Ended(Read::Refused {
+            number: 15,
+            place: t.first,
+        });
+    }
+    lead_on(s, mode, role, t, table)
 }
 
 // The comma behind `(name:value`.
@@ -216,7 +230,7 @@ pub(crate) fn take(
 {
     match taken {
         Move::Value(_) => wrong(t),
-        Move::To { mode, role } => lead_on(s, mode, role, t, table),
+        Move::To { mode, role } => lead(limits, s, mode, role, t, table),
         Move::Tuple => tuple(s, t, table, index),
         Move::Count(style) => count(s, style, t, table, index),
         Move::Deeper(style) => deeper(limits, s, style, t),

@@ -15,6 +15,7 @@ use moves::Forms;
 use reading::Answer;
 use reading::BASE;
 use reading::Limits;
+use reading::OLD_RULES;
 use reading::Rules;
 use table::room;
 use token::whole::front;
@@ -22,7 +23,7 @@ use token::whole::utf8;
 ghost use mathlib.Core.Path.{_≡_};
 ghost use Prim.Native.Nat.{_≤_};
 ghost use lib.ListN.{length};
-ghost use Rattle.reading.specs.Sizes.{base, widest};
+ghost use Rattle.reading.specs.Sizes.{base, oldRules, widest};
 ghost use Rattle.reading.specs.Answers.{Answers, answer};
 ghost use Rattle.tree.specs.Whole.{Judged, Told, refusal};
 
@@ -120,9 +121,16 @@ fn reading(rules: Rules, number: u32, text: &[u8], table: &mut [u32]) -> Answer
     tokens(rules, text, forms, table)
 }
 
-// The reading of a text at a level: the answer, and the nodes in the lent table.
+// The reading of a text at a level by the rules of today: the answer, and the nodes in the lent table.
 pub fn read(number: u32, text: &[u8], table: &mut [u32]) -> Answer
     ensures { λ r. ⌜ Answers base (now (text .entry)) (now (table .entry)) number r (now (table .exit)) ⌝ }
 {
     reading(BASE, number, text, table)
+}
+
+// The same by the old rules, under which `<-` may be read.
+pub fn read_old(number: u32, text: &[u8], table: &mut [u32]) -> Answer
+    ensures { λ r. ⌜ Answers oldRules (now (text .entry)) (now (table .entry)) number r (now (table .exit)) ⌝ }
+{
+    reading(OLD_RULES, number, text, table)
 }

@@ -1,6 +1,6 @@
 -- `tree::bracket::take` meets its contract: one law for each move. Assumes nothing.
 use borrow.Author.Needs.{needs}
-use Rattle.tree.proofs.Turns.{take-value, take-led, take-tuple, take-count, take-deeper, take-shut, take-close, take-group, take-wrong}
+use Rattle.tree.proofs.Turns.{take-value, take-leading, take-tuple, take-count, take-deeper, take-shut, take-close, take-group, take-wrong}
 use Rattle.tree.proofs.bracket.take.Statement.{statement}
 use Rattle.tree.proofs.bracket.take.Tie as tie
 
@@ -13,8 +13,8 @@ wrong-requires c κs = search needs
 enum-known-taken : tie.Need-enum-known-taken
 enum-known-taken c = search needs
 
-lead-on-requires : tie.Need-lead-on-requires
-lead-on-requires c κs = search needs
+lead-requires : tie.Need-lead-requires
+lead-requires c κs = search needs
 
 enum-told-2 : tie.Need-enum-told-2
 enum-told-2 c = search needs
@@ -65,7 +65,7 @@ same-length : tie.Need-same-length
 same-length c = search needs
 
 returns-2 : tie.Need-returns-2
-returns-2 c = take-led (c .before .before .before .before .before .before .before .before .pre .0) (c .before .before .before .before .before .before .before .before .pre .1) (c .before .before .before .before .before .taken .given .1) (c .before .before .lead-on .kept .1 .1 .1 .1 .0) (c .before .before .lead-on .ensures)
+returns-2 c = take-leading (c .before .before .before .before .before .before .before .before .pre .0) (c .before .before .before .before .before .before .before .before .pre .1) (c .before .before .before .before .before .taken .given .1) (c .before .before .lead .kept .1 .1 .1 .1 .1 .0) (c .before .before .lead .ensures)
 
 same-length-2 : tie.Need-same-length-2
 same-length-2 c = search needs
@@ -107,7 +107,7 @@ take-spec =
     enum-told
     wrong-requires
     enum-known-taken
-    lead-on-requires
+    lead-requires
     enum-told-2
     tuple-requires
     enum-known-taken-2

@@ -1,4 +1,4 @@
--- `tree::read::read` meets its contract: it is the reading by the rules of 01. Assumes nothing.
+-- `tree::read::read` meets its contract: it is the reading by the rules of today. Assumes nothing.
 use borrow.Author.Needs.{needs}
 use native.Mathlib.Omega.{arith}
 use Rattle.tree.proofs.read.read.Statement.{statement}
