@@ -9,14 +9,15 @@ use crate::byte::byte_of;
 use reading::Answer;
 use reading::TABLE;
 use tree::read::read;
+use tree::read::read_old;
 ghost use mathlib.Core.Path.{_≡_};
 ghost use Prim.Native.Nat.{_+_, _*_, _≤_};
 ghost use lib.ListN.{length};
 ghost use Rattle.rules.specs.Test.{Says};
 ghost use Rattle.buffer.specs.Puts.{Puts};
 ghost use Rattle.grammar.specs.Nodes.{nodeWords};
-ghost use Rattle.reading.specs.Sizes.{base};
-ghost use Rattle.reading.specs.Answers.{answer};
+ghost use Rattle.reading.specs.Sizes.{base, oldRules};
+ghost use Rattle.reading.specs.Answers.{Answers, answer};
 ghost use Rattle.files.specs.File.{file as fileOf};
 ghost use Rattle.files.specs.Writes.{Writes};
 ghost use Rattle.files.specs.Checks.{Unmarked, OtherVersion, Stored, Checks};
@@ -48,7 +49,7 @@ fn fill(table: &[u32], nodes: usize, size: usize, buffer: &mut [u8])
     }
 }
 
-// Writes the table of a text, read at level 2, as a stored file.
+// Writes the table of a text, read at level 2 by the rules of today, as a stored file: none is written of a text with `<-`.
 pub fn write(text: &[u8], buffer: &mut [u8]) -> Answer
     ensures { λ r. ⌜ Writes base (now (text .entry)) (now (buffer .entry)) r (now (buffer .exit)) ⌝ }
 {
@@ -119,12 +120,19 @@ fn same(table: &[u32], nodes: usize, size: usize, file: &[u8]) -> bool
     true
 }
 
-// Whether the file is exactly what `write` gives for the text.
+// The reading of a text that has been stored, by the old rules: files of texts with `<-` were written under them.
+fn reading(text: &[u8], table: &mut [u32]) -> Answer
+    ensures { λ r. ⌜ Answers oldRules (now (text .entry)) (now (table .entry)) 2 r (now (table .exit)) ⌝ }
+{
+    read_old(LEVEL, text, table)
+}
+
+// Whether the file is exactly what `write` gave for the text under the old rules.
 fn stored(text: &[u8], file: &[u8]) -> bool
-    ensures { λ r. ⌜ Says r (Stored base (now (text .entry)) (now (file .entry))) ⌝ }
+    ensures { λ r. ⌜ Says r (Stored oldRules (now (text .entry)) (now (file .entry))) ⌝ }
 {
     let mut table = [0; TABLE];
-    let answer = read(LEVEL, text, &mut table);
+    let answer = reading(text, &mut table);
     if answer.number != 0 {
         return false;
     }
@@ -144,7 +152,7 @@ fn refused(number: u32) -> Answer
 
 // Whether the file is the stored file of the text. The text is read only behind a right mark and version.
 pub fn check(text: &[u8], file: &[u8]) -> Answer
-    ensures { λ r. ⌜ Checks base (now (text .entry)) (now (file .entry)) r ⌝ }
+    ensures { λ r. ⌜ Checks oldRules (now (text .entry)) (now (file .entry)) r ⌝ }
 {
     if unmarked(file) {
         return refused(12);

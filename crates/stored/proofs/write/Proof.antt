@@ -2,6 +2,7 @@
 use mathlib.Core.Path.{refl}
 use native.Mathlib.Omega.{arith}
 use borrow.Author.Needs.{needs}
+use Rattle.reading.specs.Sizes.{base}
 use Rattle.files.specs.Writes.{refused}
 use Rattle.stored.proofs.Tables.{read-refused, read-accepted}
 use Rattle.stored.proofs.Calls.{too-short, all-written}
@@ -15,14 +16,14 @@ read-requires : tie.Need-read-requires
 read-requires c κs = search needs
 
 returns : tie.Need-returns
-returns c = refused (read-refused _ _ refl (c .before .before .before .read .ensures) (c .if1 .taken))
+returns c = refused (read-refused base _ _ refl (c .before .before .before .read .ensures) (c .if1 .taken))
 
 file-bytes-requires : tie.Need-file-bytes-requires
-file-bytes-requires c κs = read-accepted _ _ refl (c .before .before .before .read .ensures) (c .if1 .left) .few
+file-bytes-requires c κs = read-accepted base _ _ refl (c .before .before .before .read .ensures) (c .if1 .left) .few
 
 returns-2 : tie.Need-returns-2
 returns-2 c =
-    let found = read-accepted _ _ refl (c .before .before .before .before .before .read .ensures) (c .before .before .if1 .left) in
+    let found = read-accepted base _ _ refl (c .before .before .before .before .before .read .ensures) (c .before .before .if1 .left) in
     too-short found _ (c .before .file-bytes .ensures) (omega (arith, c .if2 .taken, c .before .file-bytes .ensures))
 
 slice-aggregate-fill : tie.Need-slice-aggregate-fill
@@ -30,7 +31,7 @@ slice-aggregate-fill c = search needs
 
 fill-requires : tie.Need-fill-requires
 fill-requires c κs =
-    let found = read-accepted _ _ refl (c .before .before .before .before .before .before .before .read .ensures) (c .before .before .before .before .if1 .left) in
+    let found = read-accepted base _ _ refl (c .before .before .before .before .before .before .before .read .ensures) (c .before .before .before .before .if1 .left) in
     (found .few, found .within)
 
 same-length : tie.Need-same-length
@@ -39,7 +40,7 @@ same-length c = search needs
 returns-3 : tie.Need-returns-3
 returns-3 c =
     let room = c .before .before .before .before .before in
-    let found = read-accepted _ _ refl (room .before .before .before .before .before .read .ensures) (room .before .before .if1 .left) in
+    let found = read-accepted base _ _ refl (room .before .before .before .before .before .read .ensures) (room .before .before .if1 .left) in
     all-written found _ (room .before .file-bytes .ensures) (omega (arith, room .if2 .left)) (c .before .before .fill .ensures _ (found .tree) (found .held))
 
 pub write-spec : {M : Type 1} → statement M
