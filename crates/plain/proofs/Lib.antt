@@ -1,7 +1,8 @@
--- Laws behind the writer.
+-- Laws behind writer and converter.
 pub mod Tables
 pub mod Searches
 pub mod Steps
 pub mod Written
 pub mod Fits
 pub mod Calls
+pub mod Converts

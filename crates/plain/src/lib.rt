@@ -1,6 +1,6 @@
 // The plain form of a text, from its table of nodes: no byte-order mark, first line, comments, dividing space, groups or `_` between
 // digits; a pair is this, `:`, that.
-// A function with a `requires` is this crate's own. `write`, the public one, has none.
+// A function with a `requires` is this crate's own. `write` and `convert`, the public ones, have none.
 mod node;
 mod value;
 
@@ -8,9 +8,11 @@ use crate::node::count;
 use crate::value::write_node;
 use grammar::NODE_WORDS;
 use reading::Answer;
+use reading::TABLE;
 use tabled::judge;
-ghost use Rattle.reading.specs.Sizes.{base};
-ghost use Rattle.form.specs.Writes.{Writes};
+use tree::read::read_old;
+ghost use Rattle.reading.specs.Sizes.{base, oldRules};
+ghost use Rattle.form.specs.Writes.{Writes, Converts};
 ghost use Rattle.plain.specs.Calls.{Filled, Fitted};
 
 // The plain form of the nodes, into a buffer that has room for it.
@@ -52,5 +54,18 @@ pub fn write(level: u32, text: &[u8], table: &[u32], buffer: &mut [u8]) -> Answe
         return judged;
     }
     let words = judged.count * NODE_WORDS;
+    fit(text, &table[..words], buffer)
+}
+
+// Writes the plain form of a text, read at a level by the old rules: today's take it.
+pub fn convert(level: u32, text: &[u8], buffer: &mut [u8]) -> Answer
+    ensures { λ r. ⌜ Converts oldRules (now (text .entry)) (now (buffer .entry)) level r (now (buffer .exit)) ⌝ }
+{
+    let mut table = [0; TABLE];
+    let answer = read_old(level, text, &mut table);
+    if answer.number != 0 {
+        return answer;
+    }
+    let words = answer.count * NODE_WORDS;
     fit(text, &table[..words], buffer)
 }
