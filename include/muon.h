@@ -1,6 +1,7 @@
 /* A proved reader of MUON plain text (Muldis Object Notation 0.300.0) at the levels 1 and 2: muon_read gives the nodes
    of a text, muon_integer, muon_text, muon_blob and muon_bits give the value of one literal, muon_file_write and muon_file_check keep
-   what was read in a file beside the text, muon_plain writes a text again in its plain form, and muon_utf8 tests bytes for UTF-8 alone.
+   what was read in a file beside the text, muon_plain writes a text again in its plain form, muon_convert does so with a text that may
+   still have the arrow `<-`, and muon_utf8 tests bytes for UTF-8 alone.
 
    The archive is target/staticlib/libcapi.a, written by `rt staticlib capi` (x86-64); it needs no other library, but for memset, which a C
    compiler's own code needs as well. Linking:
@@ -41,16 +42,17 @@ extern "C" {
    that it has to put in quotes. */
 #define MUON_PLAIN_BYTES(text_len) (2 * (text_len))
 
-/* The stack that a call needs at most, in bytes, whatever the input; muon_file_write, muon_file_check and muon_plain have another number.
-   Behind it: the frames of muon_read times the open brackets that there may be come to 28,528 bytes in the archive as built today, those of
+/* The stack that a call needs at most, in bytes, whatever the input; muon_file_write, muon_file_check, muon_plain and muon_convert have
+   another number.
+   Behind it: the frames of muon_read times the open brackets that there may be come to 30,208 bytes in the archive as built today, those of
    muon_integer to 560, of muon_text to 880, of muon_blob and of muon_bits to 800 each and of muon_utf8 to 376; the most that was measured,
-   over the deepest texts and the longest ways through a literal, is 28,156, 556, 880, 796, 796 and 232 (tests/stack prints them and fails
+   over the deepest texts and the longest ways through a literal, is 29,820, 556, 880, 796, 796 and 232 (tests/stack prints them and fails
    if one exceeds the number here).
    No call takes memory from anywhere else. */
 #define MUON_STACK_MAX 32768
-/* The stack that muon_file_write, muon_file_check and muon_plain need at most, since each reads the text into a table on its stack. By the
-   frames it comes to 53,040 bytes for either call of stored files and to 53,152 for muon_plain, and 52,652 and 52,796 were measured
-   (tests/stack, too). */
+/* The stack that muon_file_write, muon_file_check, muon_plain and muon_convert need at most, since each reads the text into a table on its
+   stack. By the frames it comes to 54,832 bytes for either call of stored files and for muon_plain, and to 54,848 for muon_convert, and
+   54,428, 54,460 and 54,460 were measured (tests/stack, too). */
 #define MUON_FILE_STACK_MAX (MUON_STACK_MAX + 4 * MUON_TABLE_MAX)
 
 /* ---- The answer ------------------------------------------------------------------------------------------------------------- */
@@ -58,8 +60,8 @@ extern "C" {
 /* A call returns the answer's number, and writes its place and its count, muon_utf8 its steps in place of a count, in every case.
 
    Accepted is 0: the place is the length of the text or piece, and the count is the number of nodes written by muon_read, of bytes
-   written by muon_text, muon_blob, muon_bits, muon_file_write and muon_plain, of the file's bytes for muon_file_check, and 0 for
-   muon_integer.
+   written by muon_text, muon_blob, muon_bits, muon_file_write, muon_plain and muon_convert, of the file's bytes for muon_file_check, and 0
+   for muon_integer.
    A refusal leaves the table or buffer as it was. Its count is 0, except under MUON_REFUSED_NO_ROOM. */
 #define MUON_ACCEPTED 0
 
@@ -96,12 +98,16 @@ extern "C" {
 #define MUON_REFUSED_OTHER_VERSION 13
 /* Not the stored file of the text, or, from muon_plain, not its table. Place 0. */
 #define MUON_REFUSED_NOT_THE_FILE 14
+/* An arrow `<-` where one was allowed until it was retired: between the two values of a pair, in `(b<-a)` and in `{b<-a}`. Its first byte.
+   Elsewhere it is MUON_REFUSED_WRONG_PLACE, as before. */
+#define MUON_REFUSED_RETIRED_ARROW 15
 
 /* Which refusal is given.
 
    muon_read: 1, 2 and 3 are tested in this order over the whole text. Then the tokens are judged from left to right, and the first
-   faulty one decides: at one token 4, 6, 7, 5, 11 in this order. 8 comes last, so a text that gets it is accepted with a table of
-   count * MUON_NODE_WORDS words, if the count is at most MUON_NODES_MAX. No other.
+   faulty one decides: at one token 4, 6, 15, 7, 5, 11 in this order, and whether an arrow `<-` is 6 is judged as if it were still allowed.
+   8 comes last, so a text that gets it is accepted with a table of count * MUON_NODE_WORDS words, if the count is at most MUON_NODES_MAX.
+   No other. `{a,b<-c}` is 15@4 and `(a<-$` is 15@2, but `(<-a)` is 6@1, `(,a<-b)` is 6@3, `(0L<-5)` is 7@1 and `(1/0<-b)` is 5@1.
    muon_integer: 2, 3, 9, 10 in this order, and no other.
    muon_text, muon_blob: 2, 3, 9, 5, 8 in this order, and no other. A piece that gets 8 is accepted with a buffer of count bytes
    (proved; `told-room` in `crates/values/proofs/Fits.antt`).
@@ -109,10 +115,13 @@ extern "C" {
    muon_file_write: those of muon_read at level 2 with a table of MUON_TABLE_MAX words, with their places and counts; so never 1, and 8 with
    the nodes if they are more than MUON_NODES_MAX. Then 8 with the file's bytes if the buffer is shorter.
    muon_file_check: 12, 13, 14 in this order, and no other, all with place 0 and count 0. Under 12 and 13 the text is not looked at; a text
-   that the reader refuses is 14, whatever its number.
+   that the reader refused before the arrow was retired, too, is 14, whatever its number.
    muon_plain: those of muon_read at that level with a table of that length, with their places and counts; so 8 with the nodes if the table
    is too short for them. Then 14 if the table does not begin with the words that muon_read writes for the text, then 8 with the bytes of
    the plain form if the buffer is shorter. No other.
+   muon_convert: those of muon_read at that level with a table of MUON_TABLE_MAX words, with their places and counts, as they were before
+   the arrow was retired; so never 15, and 8 with the nodes if they are more than MUON_NODES_MAX. Then 8 with the bytes of the plain form if
+   the buffer is shorter. No other.
    muon_utf8: 3, and no other. */
 
 /* ---- The nodes -------------------------------------------------------------------------------------------------------------- */
@@ -152,9 +161,9 @@ extern "C" {
 
 /* Roles. */
 #define MUON_ROLE_ROOT 0
-#define MUON_ROLE_THIS 1        /* the left side of `a:b` and `a->b`, the right side of `b<-a`; a member by itself */
+#define MUON_ROLE_THIS 1        /* the left side of `a:b` and `a->b`, in files stored before the right side of `b<-a`; a member by itself */
 #define MUON_ROLE_THAT_AFTER 2  /* the right side of `a:b` and `a->b` */
-#define MUON_ROLE_THAT_BEFORE 3 /* the left side of `b<-a` */
+#define MUON_ROLE_THAT_BEFORE 3 /* the left side of `b<-a`: only in files stored before the arrow was retired, no reading gives it */
 #define MUON_ROLE_NAME 4        /* the name of an attribute of a Tuple */
 #define MUON_ROLE_VALUE 5       /* the value of an attribute of a Tuple; a member of an Array, a Set or a Bag */
 #define MUON_ROLE_COUNT 6       /* behind a member of an Array, a Set or a Bag */
@@ -206,6 +215,8 @@ extern "C" {
    not followed and may be NULL. */
 
 /* Reads a text at a level, and writes its nodes to a lent table.
+
+   The arrow `<-` is retired, at both levels: for a text that still has it, see muon_convert.
 
    level      1 or 2; every other number is refused with MUON_REFUSED_LEVEL
    text       text_len bytes, read only; need not end in 0
@@ -279,7 +290,8 @@ uint32_t muon_blob(const uint8_t *piece, size_t piece_len, uint8_t *buffer, size
    `crates/values/proofs/BitsAndBlobs.antt` with `enough-room` in `crates/values/proofs/Fits.antt`). */
 uint32_t muon_bits(const uint8_t *piece, size_t piece_len, uint8_t *buffer, size_t buffer_len, size_t *place, size_t *count);
 
-/* Reads a text at level 2, and writes its stored file from the start of a lent buffer on.
+/* Reads a text at level 2, and writes its stored file from the start of a lent buffer on. Nothing is stored with an arrow any more: as a
+   text to be stored, `(b<-a)` is 15@2.
 
    text       text_len bytes, read only; need not end in 0
    buffer     buffer_len bytes; what they held does not matter
@@ -292,8 +304,13 @@ uint32_t muon_bits(const uint8_t *piece, size_t piece_len, uint8_t *buffer, size
    alone does not tell whether nodes or bytes are meant. */
 uint32_t muon_file_write(const uint8_t *text, size_t text_len, uint8_t *buffer, size_t buffer_len, size_t *place, size_t *count);
 
-/* Tests whether a file is the stored file of a text: it is accepted exactly when muon_file_write would give it for the text, all of it and
-   nothing behind it (proved; `accepts-exactly` in `crates/demands/proofs/Requests.antt`). Nothing but place and count is written.
+/* Tests whether a file is the stored file of a text: it is accepted exactly when muon_file_write would give it for the text, or would have
+   given it before the arrow was retired, all of it and nothing behind it (proved; `accepts-exactly` and `written-accepted` in
+   `crates/demands/proofs/Requests.antt`). Nothing but place and count is written.
+
+   So the text is read by the rules of before, and a file that was stored of a text with an arrow is accepted as ever: with the file 46 4E
+   54 00 01 00 03 00 06 00 09 00 00 00 06 00 00 00 00 00 00 00 07 00 01 00 02 00 00 00 03 00 02 00 07 00 04 00 05 00 00 00 01 00 02,
+   `(b<-a)` is accepted. Of a text without an arrow it takes exactly what muon_file_write gives.
 
    The file tells what was read, and not the text's bytes. A text with other bytes, but of the same length and with the same nodes, has the
    same file: `x` has the file 46 4E 54 00 01 00 01 00 01 00 07 00 00 00 01 00 00 00 00 00 02, and so `y` has the file 46 4E 54 00 01 00 01
@@ -311,18 +328,17 @@ uint32_t muon_file_check(const uint8_t *text, size_t text_len, const uint8_t *fi
    less all that means nothing. No byte-order mark, first line `#!`, comment, dividing space or group is left, and no `_` between digits;
    a pair is this, `:` and that, however the text has it; commas stand only between members, and one behind a Tuple's single attribute.
    Everything else is as it stands in the text: signs, bases, zeros, code points, escapes, and the segments of a quoted text, side by side.
-   `( , x : + 0d 1_0 , )` is written `(x:+0d10,)`, `((x):(y))` is written `(x:y)`, `{,a->b,}` is written `{a:b}`, `{b<-a}` is written
-   `{a:b}`, `{,,}` is written `{}`, `[ 1 <=*< 2 ]` is written `[1<=*<2]`, and `- 1 / 2 * 3 ^ - 4` is written `-1/2*3^-4`.
+   `( , x : + 0d 1_0 , )` is written `(x:+0d10,)`, `((x):(y))` is written `(x:y)`, `{,a->b,}` is written `{a:b}`, `{,,}` is written `{}`,
+   `[ 1 <=*< 2 ]` is written `[1<=*<2]`, and `- 1 / 2 * 3 ^ - 4` is written `-1/2*3^-4`. As a text to be written plainly, `{b<-a}` is 15@2.
 
    A bare word that is one of the thirteen heads, but is no head where it stands, is put in quotes: `(Array->5)` is written `("Array":5)`,
    and `::Set::a` is written `::"Set"::a`, but `(Set:{ , a : 0bTRUE , })` is written `(Set:{a:0bTRUE})`. By these quotes the plain form may
    be longer than the text, and even than MUON_TEXT_MAX; it is written all the same, though muon_read refuses it with 2.
 
-   Read at the same level, a plain form of at most MUON_TEXT_MAX bytes gives the nodes of the text, except that they have other places, that
-   a this stands before its that, with the indices that follow from it, that no that has the role MUON_ROLE_THAT_BEFORE, and that a word
-   which was put in quotes has the detail MUON_DETAIL_QUOTED. Its own plain form is itself, byte for byte. At every other level, too, text
-   and such a plain form end alike, in number and count, in tables of the same room: so a reader at level 1 takes the one just if it takes
-   the other (proved; `reads-back` and `ends-alike` in `crates/demands/proofs/Requests.antt`).
+   Read at the same level, a plain form of at most MUON_TEXT_MAX bytes gives the nodes of the text, except that they have other places and
+   that a word which was put in quotes has the detail MUON_DETAIL_QUOTED. Its own plain form is itself, byte for byte. At every other level,
+   too, text and such a plain form end alike, in number and count, in tables of the same room: so a reader at level 1 takes the one just if
+   it takes the other (proved; `reads-back`, `in-order` and `ends-alike` in `crates/demands/proofs/Requests.antt`).
 
    level      1 or 2, as it was read; every other number is refused with MUON_REFUSED_LEVEL
    text       text_len bytes, read only; need not end in 0
@@ -338,6 +354,31 @@ uint32_t muon_file_check(const uint8_t *text, size_t text_len, const uint8_t *fi
    With the table of `(x,y)`, `(x:y)` is 14@0. */
 uint32_t muon_plain(uint32_t level, const uint8_t *text, size_t text_len, const uint32_t *table, size_t table_len, uint8_t *buffer,
                     size_t buffer_len, size_t *place, size_t *count);
+
+/* Converts a text that may still have the arrow `<-`: reads it at a level by the rules of before the arrow was retired, and writes its
+   plain form (see muon_plain), which has no arrow, from the start of a lent buffer on. There `(b<-a)` was the pair of this a and that b.
+   `(b<-a)` converts to `(a:b)`, `{a,b<-c}` converts to `{a,c:b}`, `( Mix <- 5 )` converts to `(5:"Mix")`, and `(a<-(b<-c))` converts to
+   `((c:b):a)`. A text without an arrow converts to what muon_plain writes: `{,a->b,}` converts to `{a:b}`. As a text to be converted,
+   `(a<-$` is 4@4, and `(,a<-b)` is 6@3.
+
+   It needs no table: the text is read as if into one of MUON_TABLE_MAX words. Read at the same level, what is written, if it has at most
+   MUON_TEXT_MAX bytes, is accepted; it has the nodes that the text had by the rules of before, except that they have other places, that a
+   this stands before its that, with the indices that follow from it, that the role MUON_ROLE_THAT_BEFORE has become MUON_ROLE_THAT_AFTER,
+   and that a word which was put in quotes has the detail MUON_DETAIL_QUOTED. Converted again it is itself, byte for byte. At every other
+   level, too, muon_read ends on it as it ended on the text before, in number and count (proved; `converted-back` and `converted-alike` in
+   `crates/demands/proofs/Requests.antt`; which buffer is long enough: `converted-room`).
+
+   level      1 or 2; every other number is refused with MUON_REFUSED_LEVEL
+   text       text_len bytes, read only; need not end in 0
+   buffer     buffer_len bytes; what they held does not matter
+   place      one size_t, written in every case
+   count      one size_t, written in every case
+
+   Accepted, exactly the first *count bytes of the buffer are written. Refused, none.
+   MUON_PLAIN_BYTES(text_len) bytes are room enough for every text: with as many, 8 is given only where there are more than MUON_NODES_MAX
+   nodes, and the count tells them. With fewer, the count alone does not tell whether nodes or bytes are meant. */
+uint32_t muon_convert(uint32_t level, const uint8_t *text, size_t text_len, uint8_t *buffer, size_t buffer_len, size_t *place,
+                      size_t *count);
 
 /* The UTF-8 test alone: MUON_ACCEPTED, with the length for the place, or MUON_REFUSED_NOT_UTF8, with the first byte at which, reading
    well-formed sequences from the front, none begins. It is the test that every other call makes before it gives that refusal, with the

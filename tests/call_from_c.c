@@ -67,6 +67,11 @@ static void write_plain_of_it(void) {
                              &call.count);
 }
 
+/* at the level, into a buffer of so many bytes */
+static void convert_it(void) {
+    call.number = muon_convert(call.level, (const uint8_t *)call.text, call.length, plain, call.bytes, &call.place, &call.count);
+}
+
 /* the steps as the count */
 static void utf8_of_it(void) {
     call.number = muon_utf8((const uint8_t *)call.text, call.length, &call.place, &call.count);
@@ -118,6 +123,17 @@ static void answers(void) {
     expect(1, "(Set:{7,7})", WORDS, MUON_REFUSED_NEWER_FORM, 0, 0);
     expect(2, "(x:y)", 17, MUON_REFUSED_NO_ROOM, 5, 3);
     expect(2, deep, WORDS, MUON_REFUSED_TOO_DEEP, MUON_DEPTH_MAX, 0);
+    /* the arrow: where it was allowed, and elsewhere */
+    for (uint32_t level = 1; level <= 2; level++) {
+        expect(level, "{a,b<-c}", WORDS, MUON_REFUSED_RETIRED_ARROW, 4, 0);
+        expect(level, "(a<-$", 0, MUON_REFUSED_RETIRED_ARROW, 2, 0);
+        expect(level, "(Mix<-5)", WORDS, MUON_REFUSED_RETIRED_ARROW, 4, 0);
+        expect(level, "<-", WORDS, MUON_REFUSED_WRONG_PLACE, 0, 0);
+        expect(level, "(<-a)", WORDS, MUON_REFUSED_WRONG_PLACE, 1, 0);
+        expect(level, "(,a<-b)", WORDS, MUON_REFUSED_WRONG_PLACE, 3, 0);
+        expect(level, "(0L<-5)", WORDS, MUON_REFUSED_NEWER_FORM, 1, 0);
+        expect(level, "(1/0<-b)", WORDS, MUON_REFUSED_BAD_VALUE, 1, 0);
+    }
     /* nothing lent */
     size_t place = 1, count = 1;
     if (muon_read(2, NULL, 0, NULL, 0, &place, &count) != MUON_REFUSED_WRONG_PLACE || place != 0 || count != 0) exit(1);
@@ -332,6 +348,7 @@ static void files(void) {
     expect_written("(x", 64, MUON_REFUSED_WRONG_PLACE, 2, 0);
     expect_written("(x", 0, MUON_REFUSED_WRONG_PLACE, 2, 0);
     expect_written("1/0", 64, MUON_REFUSED_BAD_VALUE, 0, 0);
+    expect_written("(b<-a)", 64, MUON_REFUSED_RETIRED_ARROW, 2, 0);
     /* a form of level 2, and one beyond it */
     expect_written("[1..10]", 64, MUON_ACCEPTED, 7, MUON_FILE_BYTES(3));
     expect_written("(Mix:{})", 64, MUON_REFUSED_NEWER_FORM, 0, 0);
@@ -352,6 +369,16 @@ static void files(void) {
     expect_checked("(x:y)", 4, MUON_REFUSED_NOT_THE_MARK);
     stored[sizeof pair - 1] ^= 1;
     expect_checked("(x:y)", sizeof pair, MUON_REFUSED_NOT_THE_FILE);
+    /* stored before the arrow was retired */
+    static const uint8_t arrow[] = {
+        'F', 'N', 'T', 0, MUON_FILE_VERSION, 0, 3, 0, 6,
+        0, MUON_KIND_PAIR, 0, 0, 0, 6, 0, 0, 0, MUON_ROLE_ROOT, 0, 0,
+        0, MUON_KIND_TEXT, 0, 1, 0, 2, 0, 0, 0, MUON_ROLE_THAT_BEFORE, 0, MUON_DETAIL_WORD,
+        0, MUON_KIND_TEXT, 0, 4, 0, 5, 0, 0, 0, MUON_ROLE_THIS, 0, MUON_DETAIL_WORD,
+    };
+    memcpy(stored, arrow, sizeof arrow);
+    expect_checked("(b<-a)", sizeof arrow, MUON_ACCEPTED);
+    expect_checked("(a->b)", sizeof arrow, MUON_REFUSED_NOT_THE_FILE);
     /* version and mark, whatever the text */
     stored[4] = 2;
     expect_checked("(x:y)", sizeof pair, MUON_REFUSED_OTHER_VERSION);
@@ -383,26 +410,31 @@ static void files(void) {
     expect_written(most, MUON_FILE_MAX, MUON_REFUSED_NO_ROOM, 2 * MUON_NODES_MAX + 2, MUON_NODES_MAX + 1);
 }
 
-/* Read into the whole table, and then written with so many words of it; under a refusal nothing is. */
-static void expect_plain(uint32_t level, const char *text, size_t words, size_t bytes, uint32_t number, size_t place, size_t count,
-                         const char *form) {
+/* Writes a form of the text to a buffer of so many bytes; under a refusal nothing is. */
+static void expect_form_by(void (*run)(void), size_t bytes, uint32_t number, size_t place, size_t count, const char *form) {
     static uint8_t before[sizeof plain];
     memset(plain, PAINT, sizeof plain);
     memset(before, PAINT, sizeof before);
+    call.bytes = bytes;
+    run();
+    expect_answer("form", number, place, count);
+    size_t written = number == MUON_ACCEPTED ? count : 0;
+    if (written == strlen(form) && memcmp(plain, form, written) == 0 && memcmp(plain + written, before, sizeof plain - written) == 0)
+        return;
+    printf("form of %.40s: not %s\n", call.text, form);
+    exit(1);
+}
+
+/* Read into the whole table, and then written with so many words of it. */
+static void expect_plain(uint32_t level, const char *text, size_t words, size_t bytes, uint32_t number, size_t place, size_t count,
+                         const char *form) {
     call.level = level;
     call.text = text;
     call.length = strlen(text);
     call.words = WORDS;
     read_it();
     call.words = words;
-    call.bytes = bytes;
-    write_plain_of_it();
-    expect_answer("plain form", number, place, count);
-    size_t written = number == MUON_ACCEPTED ? count : 0;
-    if (written == strlen(form) && memcmp(plain, form, written) == 0 && memcmp(plain + written, before, sizeof plain - written) == 0)
-        return;
-    printf("plain form of %.40s: not %s\n", text, form);
-    exit(1);
+    expect_form_by(write_plain_of_it, bytes, number, place, count, form);
 }
 
 /* At both levels, with just enough room, and with a byte less. */
@@ -419,7 +451,7 @@ static void expect_form(const char *text, const char *form) {
 static void plain_forms(void) {
     expect_form("( , x : + 0d 1_0 , )", "(x:+0d10,)");
     expect_form("\xEF\xBB\xBF#!x\n((x):(y)) `c`", "(x:y)");
-    expect_form("{b<-a, c->d, }", "{a:b,c:d}");
+    expect_form("{a:b, c->d, }", "{a:b,c:d}");
     expect_form("(Array->5)", "(\"Array\":5)");
     expect_form("::Set::a", "::\"Set\"::a");
     expect_form("\"a_ b\" `c` \"\\\\n\"", "\"a_ b\"\"\\\\n\"");
@@ -432,6 +464,7 @@ static void plain_forms(void) {
         expect_plain(1, " [5]", words, BYTES, MUON_REFUSED_NEWER_FORM, 1, 0, "");
         expect_plain(2, "(x", words, 0, MUON_REFUSED_WRONG_PLACE, 2, 0, "");
         expect_plain(2, "\xFF", words, BYTES, MUON_REFUSED_NOT_UTF8, 0, 0, "");
+        expect_plain(2, "{b<-a}", words, BYTES, MUON_REFUSED_RETIRED_ARROW, 2, 0, "");
     }
     /* a table that is too short, one that is just long enough, and one that is another's */
     expect_plain(2, "(x:y)", 0, BYTES, MUON_REFUSED_NO_ROOM, 5, 3, "");
@@ -455,14 +488,14 @@ static void plain_forms(void) {
     if (muon_plain(2, NULL, 0, NULL, 0, NULL, 0, &place, &count) != MUON_REFUSED_WRONG_PLACE || place != 0 || count != 0) exit(1);
     if (muon_plain(2, (const uint8_t *)"5", 1, NULL, 0, NULL, 0, &place, &count) != MUON_REFUSED_NO_ROOM || count != 1) exit(1);
     /* the text and the table are only read */
-    static const char text[] = "{b<-a}";
+    static const char text[] = "{b->a}";
     static uint32_t kept[WORDS];
     expect(2, text, WORDS, MUON_ACCEPTED, 6, 3);
     memcpy(kept, table, sizeof kept);
     call.bytes = BYTES;
     write_plain_of_it();
     expect_answer("plain form", MUON_ACCEPTED, 6, 5);
-    if (memcmp(kept, table, sizeof kept) != 0 || strcmp(text, "{b<-a}") != 0) exit(1);
+    if (memcmp(kept, table, sizeof kept) != 0 || strcmp(text, "{b->a}") != 0) exit(1);
     /* the longest text, of words that are put in quotes: longer than a text may be, and so not to be read again */
     static char heads[MUON_TEXT_MAX + 1];
     for (size_t at = 0; at + 5 <= MUON_TEXT_MAX; at += 5) memcpy(heads + at, "::Set", 5);
@@ -471,6 +504,64 @@ static void plain_forms(void) {
     write_plain_of_it();
     expect_answer("plain form", MUON_ACCEPTED, 32765, 45871);
     if (muon_read(2, plain, call.count, table, WORDS, &place, &count) != MUON_REFUSED_TOO_LONG) exit(1);
+}
+
+static void expect_convert(uint32_t level, const char *text, size_t bytes, uint32_t number, size_t place, size_t count, const char *form) {
+    call.level = level;
+    call.text = text;
+    call.length = strlen(text);
+    expect_form_by(convert_it, bytes, number, place, count, form);
+}
+
+/* At both levels, with just enough room, and with a byte less; then converted again. */
+static void expect_converted(const char *text, const char *form) {
+    size_t length = strlen(text), bytes = strlen(form);
+    for (uint32_t level = 1; level <= 2; level++) {
+        expect_convert(level, text, MUON_PLAIN_BYTES(length), MUON_ACCEPTED, length, bytes, form);
+        expect_convert(level, text, bytes, MUON_ACCEPTED, length, bytes, form);
+        expect_convert(level, text, bytes - 1, MUON_REFUSED_NO_ROOM, length, bytes, "");
+        expect_convert(level, text, 0, MUON_REFUSED_NO_ROOM, length, bytes, "");
+        expect_convert(level, form, bytes, MUON_ACCEPTED, bytes, bytes, form);
+    }
+}
+
+static void conversions(void) {
+    expect_converted("(b<-a)", "(a:b)");
+    expect_converted("{a,b<-c}", "{a,c:b}");
+    expect_converted("(Mix<-5)", "(5:\"Mix\")");
+    expect_converted("(a<-(b<-c))", "((c:b):a)");
+    expect_converted("\xEF\xBB\xBF#!x\n{ b `c` <- (a), c->d, }", "{a:b,c:d}");
+    expect_converted("( , x : + 0d 1_0 , )", "(x:+0d10,)");
+    expect_convert(2, "[ 1 .. (b<-a) ]", BYTES, MUON_ACCEPTED, 15, 10, "[1..(a:b)]");
+    /* the reader's refusals of before, whatever the buffer is */
+    for (size_t bytes = 0; bytes <= BYTES; bytes += BYTES) {
+        expect_convert(3, "(b<-a)", bytes, MUON_REFUSED_LEVEL, 0, 0, "");
+        expect_convert(1, "(b<-[5])", bytes, MUON_REFUSED_NEWER_FORM, 4, 0, "");
+        expect_convert(2, "(b<-", bytes, MUON_REFUSED_WRONG_PLACE, 4, 0, "");
+        expect_convert(2, "(,b<-a)", bytes, MUON_REFUSED_WRONG_PLACE, 3, 0, "");
+        expect_convert(2, "(a<-$", bytes, MUON_REFUSED_NO_TOKEN, 4, 0, "");
+        expect_convert(2, "(a<-1/0)", bytes, MUON_REFUSED_BAD_VALUE, 4, 0, "");
+        expect_convert(2, "(b<-a)\xFF", bytes, MUON_REFUSED_NOT_UTF8, 6, 0, "");
+    }
+    /* nothing lent */
+    size_t place = 1, count = 1;
+    if (muon_convert(2, NULL, 0, NULL, 0, &place, &count) != MUON_REFUSED_WRONG_PLACE || place != 0 || count != 0) exit(1);
+    if (muon_convert(2, (const uint8_t *)"5", 1, NULL, 0, &place, &count) != MUON_REFUSED_NO_ROOM || place != 1 || count != 1) exit(1);
+    /* a byte too many */
+    static uint8_t spaces[MUON_TEXT_MAX + 1];
+    memset(spaces, ' ', sizeof spaces);
+    if (muon_convert(2, spaces, sizeof spaces, plain, sizeof plain, &place, &count) != MUON_REFUSED_TOO_LONG || place != 0) exit(1);
+    /* the most nodes, and one more */
+    static char most[5 * (MUON_NODES_MAX / 2) + 3] = "{";
+    for (size_t i = 1; i < MUON_NODES_MAX / 2; i++) strcat(most, "b<-a,");
+    strcat(most, "c}");
+    expect(2, most, WORDS, MUON_REFUSED_RETIRED_ARROW, 2, 0);
+    call.bytes = sizeof plain;
+    convert_it();
+    expect_answer("conversion", MUON_ACCEPTED, call.length, 4 * (MUON_NODES_MAX / 2 - 1) + 3);
+    if (muon_read(2, plain, call.count, table, WORDS, &place, &count) != MUON_ACCEPTED || count != MUON_NODES_MAX) exit(1);
+    strcpy(most + call.length - 2, "b<-c}");
+    expect_convert(2, most, sizeof plain, MUON_REFUSED_NO_ROOM, strlen(most), MUON_NODES_MAX + 1, "");
 }
 
 static void expect_utf8(const char *text, uint32_t number, size_t place, size_t steps) {
@@ -578,6 +669,18 @@ static size_t most_touched_writing_it_plainly(void) {
     return most;
 }
 
+/* At both levels, and with no buffer and a whole one. */
+static size_t most_touched_converting_it(void) {
+    size_t most = 0;
+    for (call.level = 1; call.level <= 2; call.level++) {
+        for (call.bytes = 0; call.bytes <= sizeof plain; call.bytes += sizeof plain) {
+            size_t bytes = touched(convert_it);
+            if (bytes > most) most = bytes;
+        }
+    }
+    return most;
+}
+
 /* As many brackets as may be open around the literals. */
 static size_t most_touched_by_a_reading(size_t (*most_by)(void)) {
     static const char *const openers[][2] = {
@@ -585,6 +688,7 @@ static size_t most_touched_by_a_reading(size_t (*most_by)(void)) {
         {"(a->", ")"},   {"(b<-", ")"},      {"{a:", "}"},    {"{a,", "}"},     {"{,", "}"},         {"[a..", "]"},
         {"[a<=*<", "]"}, {"[*<=", "]"},      {"(Set:{", "})"}, {"(Bag:{", "})"}, {"(Array:{a,", "})"}, {"((a:", "))"},
         {"({", "})"},    {"([", "])"},       {"{(", ")}"},    {"[(", ")]"},     {"(a:b,c:", ")"},    {"(((a,", ")))"},
+        {"(", "<-b)"},   {"{b<-", "}"},      {"{", "<-b}"},   {"{a,b<-", "}"},  {"(", "->b)"},       {"{", ":b}"},
     };
     size_t none = touched(read_nothing), most = 0;
     for (size_t o = 0; o < sizeof openers / sizeof *openers; o++) {
@@ -617,6 +721,7 @@ int main(void) {
     bits();
     files();
     plain_forms();
+    conversions();
     utf8();
     printf("muon_read %zu\n", most_touched_by_a_reading(most_touched_reading_it));
     printf("muon_integer %zu\n", most_touched_by(integer_of_it));
@@ -626,6 +731,7 @@ int main(void) {
     printf("muon_file_write %zu\n", most_touched_by_a_reading(most_touched_writing_its_file));
     printf("muon_file_check %zu\n", most_touched_by_a_reading(most_touched_checking_its_file));
     printf("muon_plain %zu\n", most_touched_by_a_reading(most_touched_writing_it_plainly));
+    printf("muon_convert %zu\n", most_touched_by_a_reading(most_touched_converting_it));
     printf("muon_utf8 %zu\n", most_touched_by(utf8_of_it));
     return 0;
 }

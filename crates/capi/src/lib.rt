@@ -1,6 +1,6 @@
 // The library for C: lent memory is a pointer and a length, and no two lent parts overlap.
 use lexicon::Encoding;
-ghost use Rattle.reading.specs.Sizes.{base};
+ghost use Rattle.reading.specs.Sizes.{base, oldRules};
 ghost use Rattle.reading.specs.Answers.{answer, Answers};
 ghost use Rattle.values.specs.Utf8.{Utf8Answers};
 ghost use Rattle.values.specs.Integer.{IntegerAnswers};
@@ -138,7 +138,7 @@ pub extern "C" fn muon_file_write(
 }
 
 // uint32_t muon_file_check(const uint8_t *text, size_t text_len, const uint8_t *file, size_t file_len, size_t *place, size_t *count);
-// Whether the file is exactly the stored file of the text.
+// Whether the file is exactly the stored file of the text, which is read by the old rules.
 #[no_mangle]
 pub extern "C" fn muon_file_check(
     text: &[u8],
@@ -146,7 +146,7 @@ pub extern "C" fn muon_file_check(
     place: &mut usize,
     count: &mut usize,
 ) -> u32
-    ensures { λ r. ⌜ Checks base (now (text .entry)) (now (file .entry)) (answer r (now (place .exit)) (now (count .exit))) ⌝ }
+    ensures { λ r. ⌜ Checks oldRules (now (text .entry)) (now (file .entry)) (answer r (now (place .exit)) (now (count .exit))) ⌝ }
 {
     let checked = stored::check(text, file);
     *place = checked.place;
@@ -171,4 +171,22 @@ pub extern "C" fn muon_plain(
     *place = rewritten.place;
     *count = rewritten.count;
     rewritten.number
+}
+
+// uint32_t muon_convert(uint32_t level, const uint8_t *text, size_t text_len, uint8_t *buffer, size_t buffer_len, size_t *place, size_t *count);
+// The plain form of a text, read at a level by the old rules, from the buffer's start on.
+#[no_mangle]
+pub extern "C" fn muon_convert(
+    level: u32,
+    text: &[u8],
+    buffer: &mut [u8],
+    place: &mut usize,
+    count: &mut usize,
+) -> u32
+    ensures { λ r. ⌜ Plain.Converts oldRules (now (text .entry)) (now (buffer .entry)) level (answer r (now (place .exit)) (now (count .exit))) (now (buffer .exit)) ⌝ }
+{
+    let converted = plain::convert(level, text, buffer);
+    *place = converted.place;
+    *count = converted.count;
+    converted.number
 }
