@@ -23,6 +23,7 @@ pub const TOO_DEEP: u32 = 11;
 pub const NOT_THE_MARK: u32 = 12;
 pub const OTHER_VERSION: u32 = 13;
 pub const NOT_THE_FILE: u32 = 14;
+pub const RETIRED_ARROW: u32 = 15;
 
 /// Number 0 means accepted.
 #[derive(Clone, Copy, Debug, PartialEq, Eq)]

@@ -1,7 +1,7 @@
 //! The stored file: what the box read, kept beside the text.
 
 use crate::answer::{Answer, NODES_MAX, NODE_WORDS, NOT_THE_FILE, NOT_THE_MARK, OTHER_VERSION};
-use crate::tree;
+use crate::tree::{self, Rules};
 use crate::value::written;
 
 const LEVEL: u32 = 2;
@@ -21,13 +21,14 @@ pub const fn length(nodes: usize) -> usize {
 /// The longest file.
 pub const FILE_MAX: usize = length(NODES_MAX);
 
-/// Writes the file of a text to the buffer's start; a refusal leaves the
-/// buffer unchanged.
+/// Writes the file of a text to the buffer's start, by today's rules; a refusal
+/// leaves the buffer unchanged.
 pub fn write(text: &[u8], buffer: &mut [u8]) -> Answer {
-    written(text, of(text), buffer)
+    written(text, of(Rules::Today, text), buffer)
 }
 
-/// Whether the file is the text's, byte for byte.
+/// Whether the file is the text's, byte for byte; by the old rules, since it may
+/// have been stored under them.
 pub fn check(text: &[u8], file: &[u8]) -> Answer {
     match fault(text, file) {
         Some(number) => Answer::refused(number, 0),
@@ -35,10 +36,10 @@ pub fn check(text: &[u8], file: &[u8]) -> Answer {
     }
 }
 
-/// The file of a text, or the reader's refusal.
-fn of(text: &[u8]) -> Result<Vec<u8>, Answer> {
+/// The file of a text by these rules, or the reader's refusal.
+pub fn of(rules: Rules, text: &[u8]) -> Result<Vec<u8>, Answer> {
     let mut table = [0; NODES_MAX * NODE_WORDS];
-    let answer = tree::read(LEVEL, text, &mut table);
+    let answer = tree::read_by(rules, LEVEL, text, &mut table);
     if answer.number != 0 {
         return Err(answer);
     }
@@ -60,7 +61,7 @@ fn fault(text: &[u8], file: &[u8]) -> Option<u32> {
     if file[MARK.len()..FRONT] != VERSION.to_be_bytes() {
         return Some(OTHER_VERSION);
     }
-    match of(text) {
+    match of(Rules::Old, text) {
         Ok(whole) if whole == file => None,
         _ => Some(NOT_THE_FILE),
     }

@@ -2,12 +2,12 @@
 //! out.
 //!
 //! It is written from this package's own tree of the text; the table is only
-//! compared with it.
+//! compared with it.  The converter takes no table, and reads by the old rules.
 
-use crate::answer::{Answer, NODE_WORDS, NOT_THE_FILE};
+use crate::answer::{Answer, NODES_MAX, NODE_WORDS, NOT_THE_FILE};
 use crate::space;
 use crate::token::{self, Form, Kind, Lexed};
-use crate::tree::{self, kind, role, Value};
+use crate::tree::{self, kind, role, Rules, Value};
 use crate::value::written;
 
 type Children = [(u32, Value)];
@@ -23,16 +23,30 @@ pub fn write(level: u32, text: &[u8], table: &[u32], buffer: &mut [u8]) -> Answe
     written(text, of(level, text, table), buffer)
 }
 
+/// Writes the plain form of a text that is read by the old rules, as if with
+/// room for 1,024 nodes, to the buffer's start; a refusal leaves the buffer
+/// unchanged.
+pub fn convert(level: u32, text: &[u8], buffer: &mut [u8]) -> Answer {
+    let derived = tree::derived(Rules::Old, level, text, NODES_MAX * NODE_WORDS);
+    let plain = derived.map(|(root, _)| form(text, &root));
+    written(text, plain, buffer)
+}
+
 /// The plain form of a text that is read so, or the refusal of text and table.
 fn of(level: u32, text: &[u8], table: &[u32]) -> Result<Vec<u8>, Answer> {
-    let (root, words) = tree::derived(level, text, table.len())?;
+    let (root, words) = tree::derived(Rules::Today, level, text, table.len())?;
     if !table.starts_with(&words) {
         return Err(Answer::refused(NOT_THE_FILE, 0));
     }
+    Ok(form(text, &root))
+}
+
+/// The plain form of a text with this value.
+fn form(text: &[u8], root: &Value) -> Vec<u8> {
     let plain = Vec::with_capacity(text.len());
     let mut writer = Writer { text, plain };
-    writer.value(&root);
-    Ok(writer.plain)
+    writer.value(root);
+    writer.plain
 }
 
 struct Writer<'a> {

@@ -1,8 +1,10 @@
-use super::{check, length, write, FILE_MAX};
+use super::{check, length, of, write, FILE_MAX};
 use crate::answer::{
-    Answer, NOT_THE_FILE, NOT_THE_MARK, OTHER_VERSION, TEXT_MAX, TOO_LONG, WRONG_PLACE,
+    Answer, NOT_THE_FILE, NOT_THE_MARK, OTHER_VERSION, RETIRED_ARROW, TEXT_MAX, TOO_LONG,
+    WRONG_PLACE,
 };
-use crate::samples::{members, readings};
+use crate::samples::{before, members, readings};
+use crate::tree::Rules;
 
 const FILLED: u8 = 0xA5;
 
@@ -61,6 +63,22 @@ fn the_file_of_a_pair() {
     assert_eq!(found, digits.into_iter().collect::<String>());
     assert_eq!(length(3), 45);
     assert_eq!(check(b"(x:y)", &file(b"(x:y)")), Answer::accepted(5, 45));
+}
+
+/// What was stored with an arrow is still taken, and no more is stored.
+#[test]
+fn files_of_before() {
+    for &(text, file) in before::FILES {
+        assert_eq!(of(Rules::Old, text).as_deref(), Ok(file));
+        assert_eq!(check(text, file), Answer::accepted(text.len(), file.len()));
+        let (answer, written) = writes(text, FILE_MAX);
+        assert_eq!((answer.number, written), (RETIRED_ARROW, vec![]));
+        assert_eq!(of(Rules::Today, text), Err(answer));
+        assert!(text[answer.place..].starts_with(b"<-"));
+    }
+    // the same pair by today's rules has another file
+    refused(b"(b<-a)", &file(b"(a->b)"), NOT_THE_FILE);
+    refused(b"(a->b)", before::FILES[0].1, NOT_THE_FILE);
 }
 
 #[test]

@@ -1,24 +1,37 @@
-use super::{turned, write, Turned};
+use super::{convert, turned, write, Turned};
 use crate::answer::{
-    Answer, LEVEL, NEWER_FORM, NODES_MAX, NODE_WORDS, NOT_THE_FILE, TEXT_MAX, TOO_LONG, WRONG_PLACE,
+    Answer, LEVEL, NEWER_FORM, NODES_MAX, NODE_WORDS, NOT_THE_FILE, RETIRED_ARROW, TEXT_MAX,
+    TOO_LONG, WRONG_PLACE,
 };
 use crate::samples::{self, members, readings};
-use crate::tree;
+use crate::tree::{self, Rules};
 
 const FILLED: u8 = 0xA5;
 
 /// The table of an accepted text, exactly as long as its nodes are.
 fn table(level: u32, text: &[u8]) -> Option<Vec<u32>> {
+    table_by(Rules::Today, level, text)
+}
+
+fn table_by(rules: Rules, level: u32, text: &[u8]) -> Option<Vec<u32>> {
     let mut table = vec![0; NODES_MAX * NODE_WORDS];
-    let answer = tree::read(level, text, &mut table);
+    let answer = tree::read_by(rules, level, text, &mut table);
     table.truncate(answer.count * NODE_WORDS);
     (answer.number == 0).then_some(table)
 }
 
-/// What is written to a buffer of so many bytes; those behind it stay.
 fn writes(level: u32, text: &[u8], table: &[u32], room: usize) -> (Answer, Vec<u8>) {
+    written(|buffer| write(level, text, table, buffer), room)
+}
+
+fn converts(level: u32, text: &[u8], room: usize) -> (Answer, Vec<u8>) {
+    written(|buffer| convert(level, text, buffer), room)
+}
+
+/// What is written to a buffer of so many bytes; those behind it stay.
+fn written(call: impl FnOnce(&mut [u8]) -> Answer, room: usize) -> (Answer, Vec<u8>) {
     let mut buffer = vec![FILLED; room];
-    let answer = write(level, text, table, &mut buffer);
+    let answer = call(&mut buffer);
     let written = if answer.number == 0 { answer.count } else { 0 };
     assert!(buffer[written..].iter().all(|&byte| byte == FILLED));
     buffer.truncate(written);
@@ -31,6 +44,13 @@ fn plain(level: u32, text: &[u8]) -> Vec<u8> {
     let (answer, plain) = writes(level, text, &table, 2 * text.len());
     assert_eq!(answer, Answer::accepted(text.len(), plain.len()));
     plain
+}
+
+/// What a text is converted to that is good by the old rules.
+fn converted(level: u32, text: &[u8]) -> Vec<u8> {
+    let (answer, form) = converts(level, text, 2 * text.len());
+    assert_eq!(answer, Answer::accepted(text.len(), form.len()));
+    form
 }
 
 fn shown(text: &[u8]) -> String {
@@ -53,9 +73,6 @@ fn what_is_left_out_and_what_is_kept() {
         ("((((5))))", "5"),
         ("(5:y)", "(5:y)"),
         ("(y->5)", "(y:5)"),
-        ("(y<-5)", "(5:y)"),
-        ("(a<-(b<-(c<-d)))", "(((d:c):b):a)"),
-        ("{a,b<-c,d:e,f<-g,h}", "{a,c:b,d:e,g:f,h}"),
         ("()", "()"),
         ("(,x,)", "(x,)"),
         ("(,x)", "(x,)"),
@@ -89,12 +106,82 @@ fn what_is_left_out_and_what_is_kept() {
         ("1 / `2` 0b 1_1", "1/0b11"),
         (":: a `c` :: \"b\" \"c\"", "::a::\"b\"\"c\""),
         ("(:: Relation : Heading)", "(::\"Relation\":\"Heading\")"),
-        ("(Set<-5)", "(5:\"Set\")"),
-        ("(5<-Set)", "(\"Set\":5)"),
         ("((Set):5)", "(\"Set\":5)"),
     ] {
         assert_eq!(shown(&plain(2, text.as_bytes())), shown(want.as_bytes()));
+        assert_eq!(
+            shown(&converted(2, text.as_bytes())),
+            shown(want.as_bytes())
+        );
     }
+}
+
+#[test]
+fn conversions_of_the_readings() {
+    for &(text, room, number, place, count, bytes) in readings::CONVERTED {
+        let answer = Answer {
+            number,
+            place,
+            count,
+        };
+        assert_eq!(converts(2, text, room), (answer, bytes.to_vec()));
+    }
+    for (text, want) in readings::PLAIN {
+        assert_eq!(shown(&converted(2, text)), shown(want), "{}", shown(text));
+    }
+}
+
+/// An arrow is turned by the converter, and refused where a plain form is
+/// asked for.
+#[test]
+fn arrows_are_converted() {
+    for (text, place, want) in [
+        ("(y<-5)", 2, "(5:y)"),
+        ("(a<-(b<-(c<-d)))", 2, "(((d:c):b):a)"),
+        ("{a,b<-c,d:e,f<-g,h}", 4, "{a,c:b,d:e,g:f,h}"),
+        ("(Set<-5)", 4, "(5:\"Set\")"),
+        ("(5<-Set)", 2, "(\"Set\":5)"),
+        ("{ b `c` <- ( a ) , }", 8, "{a:b}"),
+        ("(::a<-::b)", 4, "(::b:::a)"),
+        ("(a<--5)", 2, "(-5:a)"),
+    ] {
+        let (text, refusal) = (text.as_bytes(), Answer::refused(RETIRED_ARROW, place));
+        for level in [1, 2] {
+            assert_eq!(shown(&converted(level, text)), shown(want.as_bytes()));
+            assert_eq!(writes(level, text, &[7; 60], 60).0, refusal);
+            assert_eq!(writes(level, text, &[], 0).0, refusal);
+        }
+    }
+}
+
+/// Those of the reading by the old rules, then the buffer's.
+#[test]
+fn the_converter_s_refusals() {
+    for (level, text, answer) in [
+        (0, &b"(b<-a)"[..], Answer::refused(LEVEL, 0)),
+        (3, b"(b<-a)", Answer::refused(LEVEL, 0)),
+        (2, &[b' '; TEXT_MAX + 1], Answer::refused(TOO_LONG, 0)),
+        (2, b"(b<-", Answer::refused(WRONG_PLACE, 4)),
+        (2, b"(,b<-a)", Answer::refused(WRONG_PLACE, 3)),
+        (1, b"(b<-[5])", Answer::refused(NEWER_FORM, 4)),
+    ] {
+        for room in [0, 100] {
+            assert_eq!(converts(level, text, room), (answer, vec![]));
+        }
+    }
+    let want = Answer::no_room(6, 5);
+    for room in [0, 4] {
+        assert_eq!(converts(2, b"(b<-a)", room), (want, vec![]));
+    }
+    assert_eq!(converts(2, b"(b<-a)", 5).0, Answer::accepted(6, 5));
+    for (pairs, answer) in [(512, (2_562, 1_025)), (600, (3_002, 1_201))] {
+        let text = format!("{{{}}}", "b<-a,".repeat(pairs)).into_bytes();
+        let (place, nodes) = answer;
+        assert_eq!(converts(2, &text, 10_000).0, Answer::no_room(place, nodes));
+        assert_eq!(converts(1, &text, 0).0, Answer::no_room(place, nodes));
+    }
+    let most = format!("{{{}c}}", "b<-a,".repeat(511)).into_bytes();
+    assert_eq!(converted(1, &most).len(), 2 + 4 * 511 + 1);
 }
 
 /// The table is looked at after the text, and the buffer after the table.
@@ -140,21 +227,26 @@ fn longer_than_a_text_may_be() {
     assert_eq!((text.len(), plain(2, &text).len()), (32_765, 45_871));
 }
 
-/// Reading the plain form gives the same nodes, and writing it the same bytes.
+/// Reading the plain form by today's rules gives the nodes that the old ones
+/// give for the text, and writing or converting it the same bytes.
 #[test]
 fn read_and_written_again() {
     let mut turns = 0;
     for sample in samples::all() {
         for level in [1, 2] {
-            let Some(before) = table(level, sample.text) else {
+            let Some(before) = table_by(Rules::Old, level, sample.text) else {
                 continue;
             };
-            let form = plain(level, sample.text);
+            let form = converted(level, sample.text);
             let after = table(level, &form).expect("a plain form is accepted");
             assert_eq!(turned(&before).0, turned(&after).0, "{}", shown(&form));
             assert!(turned(&after).1.windows(2).all(|pair| pair[0] < pair[1]));
             assert_eq!(shown(&plain(level, &form)), shown(&form));
-            turns += usize::from(before.len() > 6 && turned(&before).1[1] != 1);
+            assert_eq!(shown(&converted(level, &form)), shown(&form));
+            match table(level, sample.text) {
+                Some(_) => assert_eq!(shown(&plain(level, sample.text)), shown(&form)),
+                None => turns += 1,
+            }
         }
     }
     assert!(turns > 0);
@@ -168,7 +260,7 @@ fn turned_nodes() {
         role,
         detail: 0,
     };
-    let words = table(2, b"{\"b\"<-(1,),c<-d}").expect("a good text");
+    let words = table_by(Rules::Old, 2, b"{\"b\"<-(1,),c<-d}").expect("a good text");
     let want = [
         node(11, 0, 0),
         node(10, 0, 1),

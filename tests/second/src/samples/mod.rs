@@ -1,5 +1,6 @@
 //! Texts with the answers the papers give for them.
 
+pub mod before;
 pub mod readings;
 pub mod scope;
 pub mod source;
@@ -23,6 +24,8 @@ pub struct Sample {
     pub text: &'static [u8],
     pub one: Want,
     pub two: Want,
+    /// Those by the old rules.
+    pub old: [Want; 2],
 }
 
 const fn no(number: u32, place: usize) -> Want {
@@ -46,7 +49,21 @@ const fn both(text: &'static [u8], want: Want) -> Sample {
 }
 
 const fn each(text: &'static [u8], one: Want, two: Want) -> Sample {
-    Sample { text, one, two }
+    let old = [one, two];
+    Sample {
+        text,
+        one,
+        two,
+        old,
+    }
+}
+
+/// An arrow at this place is refused at both levels; by the old rules both
+/// answer so.
+const fn retired(text: &'static [u8], place: usize, old: Want) -> Sample {
+    let old = [old, old];
+    let today = both(text, no(crate::answer::RETIRED_ARROW, place));
+    Sample { old, ..today }
 }
 
 /// All samples of all papers.

@@ -1,7 +1,7 @@
-//! The settled readings, sections A to D and R1 to R5, transcribed example by
+//! The settled readings, sections A to D and R1 to R6, transcribed example by
 //! example; where a request changes an answer of before, the new one.
 
-use super::{both, count, each, lacks, no, ok, Sample, Want};
+use super::{both, count, each, lacks, no, ok, retired, Sample, Want};
 
 pub const EXAMPLES: &[(&str, &[Sample])] = &[
     (
@@ -184,8 +184,9 @@ pub const EXAMPLES: &[(&str, &[Sample])] = &[
                 b"(a->-5)",
                 ok(&[[9, 0, 7, 0, 0], [7, 1, 2, 1, 2], [3, 4, 6, 2, 0]]),
             ),
-            both(
+            retired(
                 b"(a<--5)",
+                2,
                 ok(&[[9, 0, 7, 0, 0], [7, 1, 2, 3, 2], [3, 4, 6, 1, 0]]),
             ),
             both(b"5-6", no(6, 1)),
@@ -427,8 +428,9 @@ pub const EXAMPLES: &[(&str, &[Sample])] = &[
                 b"(Mix->5)",
                 ok(&[[9, 0, 8, 0, 0], [7, 1, 4, 1, 2], [3, 6, 7, 2, 0]]),
             ),
-            both(
+            retired(
                 b"(Mix<-5)",
+                4,
                 ok(&[[9, 0, 8, 0, 0], [7, 1, 4, 3, 2], [3, 6, 7, 1, 0]]),
             ),
             both(
@@ -648,12 +650,14 @@ pub const EXAMPLES: &[(&str, &[Sample])] = &[
         &[
             both(b"((x))", ok(&[[7, 2, 3, 0, 2]])),
             both(b" ( ( x ) ) ", ok(&[[7, 5, 6, 0, 2]])),
-            both(
+            retired(
                 b"(b<-a)",
+                2,
                 ok(&[[9, 0, 6, 0, 0], [7, 1, 2, 3, 2], [7, 4, 5, 1, 2]]),
             ),
-            both(
+            retired(
                 b"{b<-a}",
+                2,
                 ok(&[[11, 0, 6, 0, 0], [7, 1, 2, 3, 2], [7, 4, 5, 1, 2]]),
             ),
             each(
@@ -738,6 +742,47 @@ pub const EXAMPLES: &[(&str, &[Sample])] = &[
             both(b"# !\n5", no(4, 0)),
             both(b"\xEF\xBB", no(3, 0)),
             both(b"#!x\n\xEF\xBB\xBF5", no(4, 4)),
+        ],
+    ),
+    (
+        "R6.1",
+        &[
+            retired(
+                b"{a,b<-c}",
+                4,
+                ok(&[
+                    [11, 0, 8, 0, 0],
+                    [7, 1, 2, 1, 2],
+                    [7, 3, 4, 3, 2],
+                    [7, 6, 7, 1, 2],
+                ]),
+            ),
+            retired(
+                b"(a<-b)",
+                2,
+                ok(&[[9, 0, 6, 0, 0], [7, 1, 2, 3, 2], [7, 4, 5, 1, 2]]),
+            ),
+            retired(b"(a<-$", 2, no(4, 4)),
+            both(b"<-", no(6, 0)),
+            both(b"(<-a)", no(6, 1)),
+            both(b"(,a<-b)", no(6, 3)),
+            each(b"[a<-b]", no(7, 0), no(6, 2)),
+            both(b"(a:b<-c)", no(6, 4)),
+            each(b"(Array:{a<-5})", no(7, 0), no(6, 9)),
+            retired(
+                b"(Mix<-5)",
+                4,
+                ok(&[[9, 0, 8, 0, 0], [7, 1, 4, 3, 2], [3, 6, 7, 1, 0]]),
+            ),
+            both(b"(0L<-5)", no(7, 1)),
+        ],
+    ),
+    (
+        "R6.3",
+        &[
+            both(b"(1/0<-b)", no(5, 1)),
+            retired(b"(a<-1/0)", 2, no(5, 4)),
+            retired(b"{a<-b,$", 2, no(4, 6)),
         ],
     ),
 ];
@@ -868,7 +913,6 @@ pub const PLAIN: &[(&[u8], &[u8])] = &[
     (b"( , x : + 0d 1_0 , )", b"(x:+0d10,)"),
     (b"((x):(y))", b"(x:y)"),
     (b"{,a->b,}", b"{a:b}"),
-    (b"{b<-a}", b"{a:b}"),
     (b"(x,)", b"(x,)"),
     (b"[ 1 <=*< 2 ]", b"[1<=*<2]"),
     (b"\"a_ b\" `c` \"\\\\n\"", b"\"a_ b\"\"\\\\n\""),
@@ -885,6 +929,17 @@ pub const PLAIN: &[(&[u8], &[u8])] = &[
     (b"(Array:{Array:2})", b"(Array:{\"Array\":2})"),
     (b"((Bag),x)", b"(\"Bag\",x)"),
     (b"{Set,Bag}", b"{\"Set\",\"Bag\"}"),
+];
+
+/// Text, buffer length, number, place, count and bytes of the converter at
+/// level 2.
+pub const CONVERTED: &[BytesCall] = &[
+    (b"{b<-a}", 64, 0, 6, 5, b"{a:b}"),
+    (b"(b<-a)", 64, 0, 6, 5, b"(a:b)"),
+    (b"(x:1,x:2)", 64, 0, 9, 9, b"(x:1,x:2)"),
+    (b"{a<-\"\\\\<0cxD800>\"}", 64, 5, 4, 0, b""),
+    (b"(b<-a)", 4, 8, 6, 5, b""),
+    (b"(a<-$", 0, 4, 4, 0, b""),
 ];
 
 /// Standard input and output of the program.

@@ -1,6 +1,6 @@
 //! The texts of the scope paper with the answers it gives.
 
-use super::{both, count, each, no, ok, Sample};
+use super::{both, count, each, no, ok, retired, Sample};
 
 const DEEP_32: &[u8] = b"{{{{{{{{{{{{{{{{{{{{{{{{{{{{{{{{}}}}}}}}}}}}}}}}}}}}}}}}}}}}}}}}";
 const DEEP_33: &[u8] = b"{{{{{{{{{{{{{{{{{{{{{{{{{{{{{{{{{}}}}}}}}}}}}}}}}}}}}}}}}}}}}}}}}}";
@@ -14,8 +14,9 @@ pub const EXAMPLES: &[Sample] = &[
     both(b"29 56", ok(&[[3, 0, 5, 0, 0]])),
     both(b"(5:y,)", no(6, 4)),
     both(b"(a,,b)", no(6, 3)),
-    both(
+    retired(
         b"{a,b<-c}",
+        4,
         ok(&[
             [11, 0, 8, 0, 0],
             [7, 1, 2, 1, 2],

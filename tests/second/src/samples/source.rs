@@ -12,6 +12,10 @@ const fn apart(text: &'static str, one: Want, two: Want) -> Sample {
     super::each(text.as_bytes(), one, two)
 }
 
+const fn retired(text: &'static str, place: usize, old: Want) -> Sample {
+    super::retired(text.as_bytes(), place, old)
+}
+
 pub const EXAMPLES: &[Sample] = &[
     // SYNOPSIS
     same(
@@ -167,9 +171,10 @@ sales"#,
 (x->y)"#,
         count(3),
     ),
-    same(
+    retired(
         r#"`Same thing.`
 (y<-x)"#,
+        16,
         count(3),
     ),
     // Tuple / Attribute Set

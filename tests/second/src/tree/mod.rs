@@ -21,9 +21,23 @@ pub(crate) struct Value {
     pub children: Vec<(u32, Value)>,
 }
 
-/// Reads `text`; a refusal leaves the table unchanged.
+/// What a reading makes of the arrow `<-` at a place where it may stand.
+#[derive(Clone, Copy, Debug, PartialEq, Eq)]
+pub enum Rules {
+    /// It is refused.
+    Today,
+    /// It makes a pair, as it did until it was retired.
+    Old,
+}
+
+/// Reads `text` by today's rules; a refusal leaves the table unchanged.
 pub fn read(level: u32, text: &[u8], table: &mut [u32]) -> Answer {
-    match derived(level, text, table.len()) {
+    read_by(Rules::Today, level, text, table)
+}
+
+/// The same by these rules.
+pub fn read_by(rules: Rules, level: u32, text: &[u8], table: &mut [u32]) -> Answer {
+    match derived(rules, level, text, table.len()) {
         Ok((_, words)) => {
             table[..words.len()].copy_from_slice(&words);
             Answer::accepted(text.len(), words.len() / NODE_WORDS)
@@ -35,11 +49,12 @@ pub fn read(level: u32, text: &[u8], table: &mut [u32]) -> Answer {
 /// The value of a text and the words of its nodes, if a table of so many
 /// words has room for them.
 pub(crate) fn derived(
+    rules: Rules,
     level: u32,
     text: &[u8],
     table_len: usize,
 ) -> Result<(Value, Vec<u32>), Answer> {
-    let root = read_root(level, text)?;
+    let root = read_root(rules, level, text)?;
     let mut words = Vec::new();
     write_nodes(&root, 0, 0, &mut words);
     let count = words.len() / NODE_WORDS;
@@ -50,7 +65,7 @@ pub(crate) fn derived(
     Ok((root, words))
 }
 
-fn read_root(level: u32, text: &[u8]) -> Result<Value, Answer> {
+fn read_root(rules: Rules, level: u32, text: &[u8]) -> Result<Value, Answer> {
     if level != 1 && level != 2 {
         return Err(Answer::refused(LEVEL, 0));
     }
@@ -61,7 +76,7 @@ fn read_root(level: u32, text: &[u8]) -> Result<Value, Answer> {
     if bad < text.len() {
         return Err(Answer::refused(NOT_UTF8, bad));
     }
-    parse::whole(level, &token::list(text, front::begin(text)))
+    parse::whole(rules, level, &token::list(text, front::begin(text)))
 }
 
 /// Adds the six words of `value` and of all it holds, parent first.

@@ -5,8 +5,10 @@
 //! first faulty token.  The only look ahead is the two tokens that tell a
 //! head; it judges nothing.
 
-use super::Value;
-use crate::answer::{Answer, BAD_VALUE, DEPTH_MAX, NEWER_FORM, NO_TOKEN, TOO_DEEP, WRONG_PLACE};
+use super::{Rules, Value};
+use crate::answer::{
+    Answer, BAD_VALUE, DEPTH_MAX, NEWER_FORM, NO_TOKEN, RETIRED_ARROW, TOO_DEEP, WRONG_PLACE,
+};
 use crate::token::{Form, Head, Kind, Lexed, Symbol, Token};
 
 pub(crate) mod kind {
@@ -38,8 +40,9 @@ type Children = Vec<(u32, Value)>;
 
 /// The value of a whole text.  The list ends with the end or with the place
 /// of no token.
-pub fn whole(level: u32, tokens: &[Lexed]) -> Read<Value> {
+pub fn whole(rules: Rules, level: u32, tokens: &[Lexed]) -> Read<Value> {
     let mut parser = Parser {
+        rules,
         level,
         tokens,
         next: 0,
@@ -88,6 +91,7 @@ impl Counted {
 }
 
 struct Parser<'a> {
+    rules: Rules,
     level: u32,
     tokens: &'a [Lexed],
     next: usize,
@@ -280,11 +284,26 @@ impl Parser<'_> {
     fn pairing(&mut self, before: Value) -> Read<Children> {
         let (one, other) = match self.current_symbol()? {
             Some(Symbol::Colon | Symbol::ArrowRight) => (role::THIS, role::THAT_AFTER),
-            Some(Symbol::ArrowLeft) => (role::THAT_BEFORE, role::THIS),
+            Some(Symbol::ArrowLeft) => {
+                self.arrow_left()?;
+                (role::THAT_BEFORE, role::THIS)
+            }
             _ => return self.wrong_place(),
         };
         self.next += 1;
         Ok(vec![(one, before), (other, self.value()?)])
+    }
+
+    /// The current token is an arrow `<-` that the old rules allow: no token
+    /// before it was refused, and it is not in the wrong place.
+    fn arrow_left(&self) -> Read<()> {
+        match self.rules {
+            Rules::Today => Err(Answer::refused(
+                RETIRED_ARROW,
+                self.tokens[self.next].first(),
+            )),
+            Rules::Old => Ok(()),
+        }
     }
 
     fn pair_end(&mut self, first: usize, children: Children) -> Read<Value> {

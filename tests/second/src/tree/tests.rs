@@ -1,5 +1,5 @@
-use super::read;
-use crate::answer::{Answer, NODES_MAX, NODE_WORDS};
+use super::{read_by, Rules};
+use crate::answer::{Answer, NODES_MAX, NODE_WORDS, RETIRED_ARROW, WRONG_PLACE};
 use crate::samples::{self, readings, Want};
 
 const WORDS: usize = NODES_MAX * NODE_WORDS + 7;
@@ -8,9 +8,9 @@ const UNTOUCHED: u32 = 0xA5A5_5A5A;
 
 /// Reads with a table of this many words and checks all that holds of every
 /// answer.
-fn checked(level: u32, text: &[u8], words: usize) -> (Answer, Vec<u32>) {
+fn checked(rules: Rules, level: u32, text: &[u8], words: usize) -> (Answer, Vec<u32>) {
     let mut table = vec![UNTOUCHED; words];
-    let answer = read(level, text, &mut table);
+    let answer = read_by(rules, level, text, &mut table);
     let written = match answer.number {
         0 => answer.count * NODE_WORDS,
         _ => 0,
@@ -43,8 +43,13 @@ fn check_parents(table: &[u32]) {
 }
 
 fn meets(level: u32, text: &[u8], words: usize, want: Want) {
-    let (answer, table) = checked(level, text, words);
-    let shown = format!("level {level}: {:?}", String::from_utf8_lossy(text));
+    meets_by(Rules::Today, level, text, words, want);
+}
+
+fn meets_by(rules: Rules, level: u32, text: &[u8], words: usize, want: Want) {
+    let (answer, table) = checked(rules, level, text, words);
+    let text_shown = String::from_utf8_lossy(text);
+    let shown = format!("{rules:?}, level {level}: {text_shown:?}");
     match want {
         Want::Refused(number, place, count) => {
             let refusal = Answer {
@@ -71,6 +76,9 @@ fn meets(level: u32, text: &[u8], words: usize, want: Want) {
 fn meets_both(sample: &samples::Sample) {
     meets(1, sample.text, WORDS, sample.one);
     meets(2, sample.text, WORDS, sample.two);
+    for (level, want) in [1, 2].into_iter().zip(sample.old) {
+        meets_by(Rules::Old, level, sample.text, WORDS, want);
+    }
 }
 
 #[test]
@@ -121,21 +129,26 @@ fn level_then_length_then_utf8() {
 /// The parents, which the papers' short notation leaves out.
 #[test]
 fn parents() {
-    let (_, table) = checked(2, b"{(x:y),[a..(Bag:{b:2})]}", WORDS);
+    let (_, table) = checked(Rules::Today, 2, b"{(x:y),[a..(Bag:{b:2})]}", WORDS);
     let parents: Vec<u32> = table.chunks(NODE_WORDS).map(|node| node[3]).collect();
     assert_eq!(parents, [0, 0, 1, 1, 0, 4, 4, 6, 6]);
 }
 
-/// The third demand: unless level 1 says "newer form", the levels agree; if
-/// it does, level 2 accepts or refuses there or later.
+/// The third demand, by both rules: unless level 1 says "newer form", the
+/// levels agree; if it does, level 2 accepts or refuses there or later.
 #[test]
 fn levels_end_alike_or_level_1_says_newer_form() {
     let generated = crate::generate::texts(7, 3_000);
     let texts = samples::all().into_iter().map(|s| s.text.to_vec());
     for text in texts.chain(generated) {
-        for words in [WORDS, 17] {
-            let one = checked(1, &text, words);
-            let two = checked(2, &text, words);
+        for (rules, words) in [
+            (Rules::Today, WORDS),
+            (Rules::Today, 17),
+            (Rules::Old, WORDS),
+            (Rules::Old, 17),
+        ] {
+            let one = checked(rules, 1, &text, words);
+            let two = checked(rules, 2, &text, words);
             if one.0.number == 7 {
                 assert!(two.0.place >= one.0.place);
             } else {
@@ -143,6 +156,36 @@ fn levels_end_alike_or_level_1_says_newer_form() {
             }
         }
     }
+}
+
+/// The two rules differ in an arrow `<-` that the old ones allow, and only
+/// there: what stands behind it is not looked at.
+#[test]
+fn the_rules_differ_at_the_first_arrow() {
+    let (mut refused, mut alike) = (0, 0);
+    let arrows = crate::generate::arrow_texts(3, 3_000);
+    for text in arrows.into_iter().chain(crate::generate::arrow_rows()) {
+        for level in [1, 2] {
+            let today = checked(Rules::Today, level, &text, WORDS);
+            let old = checked(Rules::Old, level, &text, WORDS);
+            if today.0.number != RETIRED_ARROW {
+                assert_eq!(today, old, "{}", text.escape_ascii());
+                assert!(today.1.chunks(NODE_WORDS).all(|node| node[4] != 3));
+                alike += 1;
+                continue;
+            }
+            refused += 1;
+            let place = today.0.place;
+            assert!(text[place..].starts_with(b"<-"));
+            assert!(old.0.number == 0 || old.0.place >= place + 2);
+            // the arrow itself is sound by the old rules, whatever is behind it
+            let front = checked(Rules::Old, level, &text[..place + 2], WORDS).0;
+            assert_eq!(front, Answer::refused(WRONG_PLACE, place + 2));
+            let today = checked(Rules::Today, level, &text[..place + 2], WORDS).0;
+            assert_eq!(today, Answer::refused(RETIRED_ARROW, place));
+        }
+    }
+    assert!(refused > 3_000 && alike > 3_000, "{refused}, {alike}");
 }
 
 /// Deep groups and long look ahead cost no more than their length.
@@ -154,8 +197,8 @@ fn long_texts_are_answered_quickly() {
     texts.push([b"{".to_vec(), b"(a:b),".repeat(5_000), b"}".to_vec()].concat());
     for text in texts {
         let start = std::time::Instant::now();
-        checked(1, &text, WORDS);
-        checked(2, &text, WORDS);
+        checked(Rules::Today, 1, &text, WORDS);
+        checked(Rules::Today, 2, &text, WORDS);
         assert!(start.elapsed() < std::time::Duration::from_secs(4));
     }
 }
