@@ -161,19 +161,22 @@ pub enum Refusal {
     /// The bracket at the place would be the 33rd open.
     TooDeep = 11,
     /// The file has fewer than five bytes, or does not begin with the mark;
-    /// place 0.  This and the next two are of [`check`](crate::file::check)
-    /// only.
+    /// place 0.  This and the next are of [`check`](crate::file::check) only.
     NotTheMark = 12,
     /// The file is of another version than 1; place 0.
     OtherVersion = 13,
     /// The file, or the table of a plain form, is not the one of the text; place
-    /// 0.
+    /// 0.  Of [`check`](crate::file::check) and [`plain`](crate::plain) only.
     NotTheFile = 14,
+    /// At the place stands an arrow `<-` where one was allowed until it was
+    /// retired.  Never of [`check`](crate::file::check) and of
+    /// [`convert`](mod@crate::convert), which still read it.
+    RetiredArrow = 15,
 }
 
 impl Refusal {
     /// All refusals in the order of their numbers, which begin at 1.
-    pub const ALL: [Refusal; 14] = [
+    pub const ALL: [Refusal; 15] = [
         Refusal::Level,
         Refusal::TooLong,
         Refusal::NotUtf8,
@@ -188,6 +191,7 @@ impl Refusal {
         Refusal::NotTheMark,
         Refusal::OtherVersion,
         Refusal::NotTheFile,
+        Refusal::RetiredArrow,
     ];
 
     /// The refusal with this number; none for 0 and for what no call answers.
@@ -219,6 +223,7 @@ impl fmt::Display for Refusal {
             Refusal::NotTheMark => "not a stored file",
             Refusal::OtherVersion => "a stored file of another version",
             Refusal::NotTheFile => "not the file or table of the text",
+            Refusal::RetiredArrow => "arrow <- is retired",
         })
     }
 }

@@ -41,7 +41,8 @@ pub const fn bytes(nodes: usize) -> usize {
     9 + 12 * nodes
 }
 
-/// Reads `text` at level 2 and writes its file to the start of `buffer`.
+/// Reads `text` at level 2 and writes its file to the start of `buffer`.  A text
+/// with an arrow `<-` is refused, as by [`read`](crate::read).
 ///
 /// Accepted, exactly the first `count` bytes are written; refused, none.  What
 /// the buffer held doesn't matter.  Refusals are those of
@@ -75,14 +76,22 @@ pub fn write(text: &[u8], buffer: &mut [u8]) -> Answer {
 }
 
 /// Tests whether `file` is the file of `text`: it is accepted exactly when
-/// [`write()`] would give it for the text, all of it and nothing behind it.
+/// [`write()`] would give it for the text, all of it and nothing behind it, or
+/// would have given it before the arrow `<-` was retired.  So what was stored
+/// with an arrow is still accepted, though no more is written.
 ///
 /// Accepted, the place is the text's length and the count the file's.  The
 /// refusals are 12, 13, 14 in this order, all with place and count 0, and no
-/// other; a text that [`read`](crate::read) refuses has no file.
+/// other; a text that [`read`](crate::read) refused before, too, has no file.
 ///
 /// ```
 /// use muon::{file, Refusal};
+///
+/// // stored before
+/// let old = b"FNT\0\x01\0\x03\0\x06\0\x09\0\0\0\x06\0\0\0\0\0\0\
+///     \0\x07\0\x01\0\x02\0\0\0\x03\0\x02\0\x07\0\x04\0\x05\0\0\0\x01\0\x02";
+/// assert_eq!(file::check(b"(b<-a)", old).accepted(), Ok(45));
+/// assert_eq!(file::to_vec(b"(b<-a)"), Err(Refusal::RetiredArrow));
 ///
 /// for (stored, refusal) in [
 ///     (&b"FNT\0"[..], Refusal::NotTheMark),

@@ -74,6 +74,18 @@
 //! # Ok::<(), muon::Refusal>(())
 //! ```
 //!
+//! [`mod@convert`] takes a text that still has arrows `<-`, which [`read`] refuses,
+//! and writes it so, too:
+//!
+//! ```
+//! use muon::{convert, Refusal};
+//!
+//! let answer = muon::read(2, b"(b <- a)", &mut [0; 18]);
+//! assert_eq!(answer.refusal(), Some(Refusal::RetiredArrow));
+//! assert_eq!(convert::to_vec(2, b"(b <- a)")?, b"(a:b)");
+//! # Ok::<(), muon::Refusal>(())
+//! ```
+//!
 //! [`utf8`] is the UTF-8 test alone, for a text of any length; it tells its
 //! steps, too:
 //!
@@ -95,6 +107,7 @@
 #![warn(missing_docs)]
 
 mod answer;
+pub mod convert;
 pub mod file;
 mod node;
 pub mod plain;

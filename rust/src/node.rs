@@ -108,11 +108,13 @@ pub mod kind {
 pub mod role {
     /// The root, which has no parent.
     pub const ROOT: u32 = 0;
-    /// The left of `a:b` and `a->b`, the right of `b<-a`; a member by itself.
+    /// The left of `a:b` and `a->b`; a member by itself.  In files stored before
+    /// the arrow was retired also the right of `b<-a`.
     pub const THIS: u32 = 1;
     /// The right of `a:b` and `a->b`.
     pub const THAT_AFTER: u32 = 2;
-    /// The left of `b<-a`.
+    /// The left of `b<-a`, in files stored before the arrow was retired only: no
+    /// reading gives it any more.
     pub const THAT_BEFORE: u32 = 3;
     /// The name of an attribute of a Tuple.
     pub const NAME: u32 = 4;

@@ -12,7 +12,7 @@
 //! use muon::plain;
 //!
 //! let office = plain::to_vec(2, b"{ frost : -1_5 , `the neighbours were asked` }")?;
-//! let site = plain::to_vec(2, b"{-15<-frost}")?;
+//! let site = plain::to_vec(2, b"{,(frost)->-15}")?;
 //! assert_eq!(office, b"{frost:-15}");
 //! assert_eq!(site, office);
 //! # Ok::<(), muon::Refusal>(())
@@ -42,9 +42,9 @@ pub const fn bytes(text_len: usize) -> usize {
 /// text's length the last one is never given.
 ///
 /// Read at the same level, a plain form that is no longer than
-/// [`TEXT_MAX`](crate::TEXT_MAX) gives the same nodes, except for their places,
-/// the order of this and that, the role of a that, and a Text's detail; its own
-/// plain form is itself.
+/// [`TEXT_MAX`](crate::TEXT_MAX) gives the same nodes, except for their places
+/// and a Text's detail; its own plain form is itself.  A text with an arrow `<-`
+/// is refused, as by `read`; [`convert`](mod@crate::convert) takes it.
 ///
 /// ```
 /// use muon::{plain, Refusal};

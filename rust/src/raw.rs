@@ -76,6 +76,16 @@ extern "C" {
         count: *mut usize,
     ) -> u32;
 
+    pub fn muon_convert(
+        level: u32,
+        text: *const u8,
+        text_len: usize,
+        buffer: *mut u8,
+        buffer_len: usize,
+        place: *mut usize,
+        count: *mut usize,
+    ) -> u32;
+
     pub fn muon_utf8(text: *const u8, text_len: usize, place: *mut usize, steps: *mut usize)
         -> u32;
 }

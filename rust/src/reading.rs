@@ -13,7 +13,8 @@ pub const NODES_MAX: usize = 1_024;
 /// The longest table that is made use of, in words.
 pub const TABLE_MAX: usize = NODES_MAX * NODE_WORDS;
 /// The stack that a call needs at most, in bytes; those of
-/// [`file`](mod@crate::file) and [`plain`](crate::plain) have [another
+/// [`file`](mod@crate::file), [`plain`](crate::plain) and
+/// [`convert`](mod@crate::convert) have [another
 /// number](crate::file::STACK_MAX).
 pub const STACK_MAX: usize = 32_768;
 
@@ -21,7 +22,8 @@ pub const STACK_MAX: usize = 32_768;
 ///
 /// Accepted, exactly the first [`NODE_WORDS`]` * count` words are written;
 /// refused, none.  What the table held doesn't matter.  Levels other than 1
-/// and 2 are refused.
+/// and 2 are refused, and so is the arrow `<-`; for texts that still have it,
+/// see [`convert`](mod@crate::convert).
 ///
 /// ```
 /// use muon::Refusal;
@@ -30,6 +32,11 @@ pub const STACK_MAX: usize = 32_768;
 /// let answer = muon::read(2, b"(engines : {7, 8", &mut [0; 60]);
 /// assert_eq!(answer.refusal(), Some(Refusal::WrongPlace));
 /// assert_eq!(answer.place, 16);
+///
+/// // an arrow, which is retired
+/// let answer = muon::read(2, b"{a, b <- c}", &mut [0; 60]);
+/// assert_eq!(answer.refusal(), Some(Refusal::RetiredArrow));
+/// assert_eq!(answer.place, 6);
 ///
 /// // a table that is too short: the count tells what is needed
 /// let answer = muon::read(2, b"{a, b, c}", &mut []);

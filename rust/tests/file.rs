@@ -10,6 +10,12 @@ const PAIR: &[u8] = b"FNT\0\x01\0\x03\0\x05\
     \0\x07\0\x01\0\x02\0\0\0\x01\0\x02\
     \0\x07\0\x03\0\x04\0\0\0\x02\0\x02";
 
+/// Of `(b<-a)`, stored before the arrow was retired.
+const OLD: &[u8] = b"FNT\0\x01\0\x03\0\x06\
+    \0\x09\0\0\0\x06\0\0\0\0\0\0\
+    \0\x07\0\x01\0\x02\0\0\0\x03\0\x02\
+    \0\x07\0\x04\0\x05\0\0\0\x01\0\x02";
+
 fn written(text: &[u8], room: usize) -> (Answer, Vec<u8>) {
     answers::written(|buffer| file::write(text, buffer), room)
 }
@@ -83,12 +89,28 @@ fn every_refusal_of_a_writing() {
         (b"(Mix:{})".to_vec(), refused(Refusal::NewerForm, 0, 0)),
         (vec![b'{'; 33], refused(Refusal::TooDeep, 32, 0)),
         (nodes(1_025), refused(Refusal::NoRoom, 2_050, 1_025)),
+        (b"(x<-y)".to_vec(), refused(Refusal::RetiredArrow, 2, 0)),
     ] {
         for room in [0, 45, file::MAX + 1] {
             assert_eq!(written(&text, room), (answer, vec![]));
         }
         assert_eq!(file::to_vec(&text).err(), answer.refusal());
         assert_eq!(fault(&text, PAIR), Some(Refusal::NotTheFile));
+    }
+}
+
+/// Still accepted, byte for byte, and no more written.
+#[test]
+fn a_file_of_before() {
+    assert_eq!(file::check(b"(b<-a)", OLD), accepted(6, 45));
+    assert_eq!(file::to_vec(b"(b<-a)"), Err(Refusal::RetiredArrow));
+    for text in [&b"(a->b)"[..], b"(b->a)", b"{b<-a}", b"(b<-5)"] {
+        assert_eq!(fault(text, OLD), Some(Refusal::NotTheFile));
+    }
+    for at in 5..OLD.len() {
+        let mut other = OLD.to_vec();
+        other[at] ^= 1;
+        assert_eq!(fault(b"(b<-a)", &other), Some(Refusal::NotTheFile));
     }
 }
 

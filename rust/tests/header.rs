@@ -1,6 +1,6 @@
 //! The numbers here are those of the C header.
 
-use muon::{detail, file, kind, plain, role, Refusal};
+use muon::{convert, detail, file, kind, plain, role, Refusal};
 
 const HEADER: &str = include_str!("../../include/muon.h");
 
@@ -49,6 +49,8 @@ fn formulas() {
     assert_eq!(file::STACK_MAX, muon::STACK_MAX + 4 * muon::TABLE_MAX);
     assert!(defined_as("PLAIN_BYTES(text_len)", "(2 * (text_len))"));
     assert_eq!(plain::bytes(7), 2 * 7);
+    let stacks = [plain::STACK_MAX, convert::STACK_MAX];
+    assert_eq!(stacks, [file::STACK_MAX; 2]);
 }
 
 #[test]
@@ -83,6 +85,7 @@ fn refusals() {
         ("REFUSED_NOT_THE_MARK", Refusal::NotTheMark),
         ("REFUSED_OTHER_VERSION", Refusal::OtherVersion),
         ("REFUSED_NOT_THE_FILE", Refusal::NotTheFile),
+        ("REFUSED_RETIRED_ARROW", Refusal::RetiredArrow),
     ] {
         assert_eq!(defined(name), Some(refusal.number() as usize), "{name}");
     }
@@ -91,7 +94,7 @@ fn refusals() {
     for refusal in Refusal::ALL {
         assert_eq!(Refusal::from_number(refusal.number()), Some(refusal));
     }
-    for number in [0, 15, u32::MAX] {
+    for number in [0, 16, u32::MAX] {
         assert_eq!(Refusal::from_number(number), None);
     }
 }

@@ -43,8 +43,7 @@ fn forms_of_both_levels() {
         ("( , x : + 0d 1_0 , )", "(x:+0d10,)"),
         ("((x):(y))", "(x:y)"),
         ("{,a->b,}", "{a:b}"),
-        ("{b<-a}", "{a:b}"),
-        ("{a,b<-c,(d<-e)}", "{a,c:b,(e:d)}"),
+        ("{a,b->c,(d:e)}", "{a,b:c,(d:e)}"),
         ("(x,)", "(x,)"),
         ("(x , y , )", "(x,y)"),
         ("()", "()"),
@@ -98,6 +97,12 @@ fn every_refusal_of_the_reader() {
         (2, b"(x".to_vec(), refused(Refusal::WrongPlace, 2, 0)),
         (2, vec![], refused(Refusal::WrongPlace, 0, 0)),
         (1, b" [5]".to_vec(), refused(Refusal::NewerForm, 1, 0)),
+        (1, b"{b<-a}".to_vec(), refused(Refusal::RetiredArrow, 2, 0)),
+        (
+            2,
+            b"(x:(b<-$".to_vec(),
+            refused(Refusal::RetiredArrow, 5, 0),
+        ),
         (2, vec![b'{'; 33], refused(Refusal::TooDeep, 32, 0)),
     ] {
         for words in [0, 6, muon::TABLE_MAX] {

@@ -65,8 +65,29 @@ fn every_refusal_of_a_reading() {
         (2, vec![], Refusal::WrongPlace, 0),
         (1, b"(Set:{7,7})".to_vec(), Refusal::NewerForm, 0),
         (2, vec![b'{'; 33], Refusal::TooDeep, 32),
+        (1, b"{a,b<-c}".to_vec(), Refusal::RetiredArrow, 4),
+        (2, b"(a<-$".to_vec(), Refusal::RetiredArrow, 2),
     ] {
         assert_eq!(refused(level, &text), (Some(refusal), place), "{refusal}");
+    }
+}
+
+/// The arrow `<-` is retired only where it was allowed, and behind what was
+/// refused before it.
+#[test]
+fn arrows_that_are_refused_otherwise() {
+    for (text, refusal, place) in [
+        (&b"<-"[..], Refusal::WrongPlace, 0),
+        (b"(<-a)", Refusal::WrongPlace, 1),
+        (b"(,a<-b)", Refusal::WrongPlace, 3),
+        (b"(a:b<-c)", Refusal::WrongPlace, 4),
+        (b"(0L<-5)", Refusal::NewerForm, 1),
+        (b"(1/0<-b)", Refusal::BadValue, 1),
+        (b"($<-b)", Refusal::NoToken, 1),
+    ] {
+        for level in [1, 2] {
+            assert_eq!(refused(level, text), (Some(refusal), place), "{refusal}");
+        }
     }
 }
 
