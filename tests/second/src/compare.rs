@@ -1,5 +1,8 @@
 //! What the comparisons with the verified archives share.
 
+#[cfg(feature = "muon")]
+pub mod forms;
+
 use crate::answer::Answer;
 use crate::generate::Random;
 use std::fmt::Debug;
@@ -89,6 +92,14 @@ pub fn lengths(some: &[usize], need: usize, random: &mut Random) -> Vec<usize> {
 pub fn all_met(name: &str, answers: &[usize], numbers: &[usize]) -> Compared {
     match numbers.iter().find(|number| answers[**number] == 0) {
         Some(number) => Err(Difference(format!("the {name} never answered {number}"))),
+        None => Ok(()),
+    }
+}
+
+/// That each of these was met, so many times.
+pub fn each_met(times: &[(&str, usize)]) -> Compared {
+    match times.iter().find(|(_, times)| *times == 0) {
+        Some((what, _)) => Err(Difference(format!("there was never {what}"))),
         None => Ok(()),
     }
 }

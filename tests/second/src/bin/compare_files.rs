@@ -1,35 +1,42 @@
 //! Compares this package's stored files with those of the verified archive:
 //! of the writer number, place, count and every byte of the lent buffer; of
 //! the checker number, place and count.  Checks of the archive that its writer
-//! stores what its own reader answers and writes to a table.
+//! stores what its own reader answers and writes to a table, and that its
+//! checker takes what was stored with an arrow `<-`, which its writer refuses.
 //!
 //! The texts are every sample, broken off at every byte, generated and damaged
-//! ones, random bytes, and long ones.  The files are those of these texts, whole
-//! and changed, broken off and longer, under their own and under other texts,
-//! and bytes that are no file.
+//! ones, ones with arrows, random bytes, and long ones.  The files are those of
+//! these texts by the old rules, whole and changed, broken off and longer, under
+//! their own and under other texts, a few as they were written before, and bytes
+//! that are no file.
 //!
 //! Exits with 1 at the first disagreement.
 
-use second::answer::{Answer, NODES_MAX, TEXT_MAX};
+use second::answer::{Answer, NODES_MAX, RETIRED_ARROW, TEXT_MAX};
 use second::compare::{
-    all_met, finish, lengths, listed, same, same_written, Compared, Difference, TURNS,
+    all_met, each_met, finish, lengths, listed, same, same_written, Compared, Difference, TURNS,
 };
 use second::file::{self, FILE_MAX};
-use second::generate::{good_texts, long_texts, random_bytes, texts, Random};
+use second::generate::{
+    arrow_rows, arrow_texts, good_texts, long_texts, old_texts, random_bytes, sized_forms, texts,
+    Random,
+};
 use second::samples;
+use second::tree::Rules;
 use std::collections::HashMap;
 use std::process::ExitCode;
 
 const SEED: u64 = 20_261_119;
 const GENERATED: usize = 12_000;
 const GOOD: usize = 6_000;
+const ARROWS: usize = 4_000;
 const RANDOM_BYTES: usize = 200_000;
 /// Mark, version, node count and text length.
 const HEAD: usize = 9;
 /// A node's bytes.
 const NODE: usize = 12;
 /// The answers that the writer and the checker can give.
-const WRITTEN: [usize; 9] = [0, 2, 3, 4, 5, 6, 7, 8, 11];
+const WRITTEN: [usize; 10] = [0, 2, 3, 4, 5, 6, 7, 8, 11, 15];
 const CHECKED: [usize; 4] = [0, 12, 13, 14];
 /// Bytes that are no file of version 1, and the front of one.
 const FRONTS: [&[u8]; 16] = [
@@ -82,10 +89,12 @@ enum Care {
 struct Counts {
     random: Random,
     texts: usize,
-    written: [usize; 15],
-    checked: [usize; 15],
+    written: [usize; 16],
+    checked: [usize; 16],
     /// Texts whose file is what the archive's own reader wrote.
     as_read: usize,
+    /// Files with an arrow, which are no more written.
+    before: usize,
     /// Files of accepted texts by the text's length: the last one each.
     stored: HashMap<usize, Vec<u8>>,
     /// The last file, whatever its text.
@@ -97,9 +106,10 @@ impl Counts {
         Counts {
             random: Random::new(SEED),
             texts: 0,
-            written: [0; 15],
-            checked: [0; 15],
+            written: [0; 16],
+            checked: [0; 16],
             as_read: 0,
+            before: 0,
             stored: HashMap::new(),
             last: Vec::new(),
         }
@@ -128,9 +138,9 @@ impl Counts {
         same(&what, text, ours, theirs)
     }
 
-    /// The text's file, if it has one, with buffers of several lengths; and
+    /// The text's file, if it is written, with buffers of several lengths; and
     /// that it is what the archive reads.
-    fn writings(&mut self, text: &[u8]) -> Result<Option<Vec<u8>>, Difference> {
+    fn writings(&mut self, text: &[u8]) -> Compared {
         self.texts += 1;
         let need = file::write(text, &mut []).count;
         // none, the head's and the longest among them
@@ -140,24 +150,26 @@ impl Counts {
         }
         as_read(text)?;
         self.as_read += 1;
-        let mut stored = vec![0; FILE_MAX];
-        let answer = file::write(text, &mut stored);
-        stored.truncate(answer.count);
-        Ok((answer.number == 0).then_some(stored))
+        Ok(())
     }
 
-    /// A file written by either is accepted by both.
+    /// A file is written by the archive, or has an arrow and was written
+    /// before; it is accepted by both.
     fn both_accept(&mut self, text: &[u8], ours: &[u8]) -> Compared {
         let mut theirs = vec![0; FILE_MAX];
-        let count = archive::write(text, &mut theirs).count;
-        theirs.truncate(count);
-        same("file", text, ours, &theirs[..])?;
+        let answer = archive::write(text, &mut theirs);
+        if answer.number == RETIRED_ARROW {
+            self.before += 1;
+        } else {
+            theirs.truncate(answer.count);
+            same("file", text, ours, &theirs[..])?;
+        }
         let want = Answer::accepted(text.len(), ours.len());
         same(
             "own check of its file",
             text,
             want,
-            archive::check(text, &theirs),
+            archive::check(text, ours),
         )?;
         if file::check(text, ours) != want {
             let shown = text.escape_ascii();
@@ -288,10 +300,10 @@ impl Counts {
     }
 
     fn text(&mut self, text: &[u8], care: Care) -> Compared {
-        let stored = self.writings(text)?;
+        self.writings(text)?;
         self.files_of_others(text)?;
         self.no_files(text)?;
-        let Some(whole) = stored else {
+        let Ok(whole) = file::of(Rules::Old, text) else {
             return Ok(());
         };
         self.both_accept(text, &whole)?;
@@ -305,16 +317,18 @@ impl Counts {
 
     fn every_answer(&self) -> Compared {
         all_met("writer", &self.written, &WRITTEN)?;
-        all_met("checker", &self.checked, &CHECKED)
+        all_met("checker", &self.checked, &CHECKED)?;
+        each_met(&[("a file of before", self.before)])
     }
 
     fn summary(&self) -> String {
         format!(
-            "{} texts, writer ({}), checker ({}), {} as read",
+            "{} texts, writer ({}), checker ({}), {} as read, {} files with an arrow",
             self.texts,
             listed(&self.written, &WRITTEN),
             listed(&self.checked, &CHECKED),
-            self.as_read
+            self.as_read,
+            self.before
         )
     }
 }
@@ -352,7 +366,24 @@ fn sized_texts() -> Vec<Vec<u8>> {
     all
 }
 
+/// What the writer gave before, byte for byte, is accepted, and refused with 15
+/// where it is to be written.
+fn files_of_before() -> Compared {
+    for &(text, stored) in samples::before::FILES {
+        let want = Answer::accepted(text.len(), stored.len());
+        let answer = archive::check(text, stored);
+        same("check of a file of before", text, want, answer)?;
+        let number = archive::write(text, &mut [0; FILE_MAX]).number;
+        same("writing of it", text, RETIRED_ARROW, number)?;
+    }
+    Ok(())
+}
+
 fn run(counts: &mut Counts) -> Compared {
+    files_of_before()?;
+    for (text, _) in samples::before::FILES {
+        counts.text(text, Care::Every)?;
+    }
     for sample in samples::all() {
         counts.text(sample.text, Care::Every)?;
         for length in 0..sample.text.len() {
@@ -365,10 +396,17 @@ fn run(counts: &mut Counts) -> Compared {
     for made in good_texts(SEED, GOOD) {
         counts.text(&made.text, Care::Some(6))?;
     }
+    for made in old_texts(SEED, GOOD) {
+        counts.text(&made.text, Care::Some(6))?;
+    }
+    for text in arrow_texts(SEED, ARROWS).iter().chain(&arrow_rows()) {
+        counts.text(text, Care::Some(2))?;
+    }
     for text in random_bytes(SEED, RANDOM_BYTES) {
         counts.text(&text, Care::Some(2))?;
     }
-    for text in sized_texts().iter().chain(&long_texts()) {
+    let long = [sized_texts(), sized_forms("<-"), long_texts()].concat();
+    for text in &long {
         counts.text(text, Care::Some(30))?;
     }
     counts.every_answer()

@@ -1,10 +1,10 @@
 //! Compares what the proved program writes with this package's listing: every
-//! sample, once whole and once in small pieces of a pipe, and texts around
-//! the size of its buffer.
+//! sample, once whole and once in small pieces of a pipe, generated texts, some
+//! with arrows `<-`, and texts around the size of its buffer.
 //!
 //! `compare_listings PROGRAM`; exits with 1 at the first disagreement.
 
-use second::generate::texts;
+use second::generate::{arrow_texts, texts};
 use second::listing::{listing, BUFFER};
 use second::samples;
 use std::io::{self, Write};
@@ -12,6 +12,7 @@ use std::process::{Command, ExitCode, Stdio};
 
 const SEED: u64 = 20_261_118;
 const GENERATED: usize = 300;
+const ARROWS: usize = 60;
 const PIECE: usize = 7;
 
 /// The program's output for a text that comes in pieces of at most `piece`
@@ -36,6 +37,7 @@ fn main() -> io::Result<ExitCode> {
     let program = std::env::args().nth(1).expect("the program's path");
     let mut all: Vec<Vec<u8>> = samples::all().iter().map(|s| s.text.to_vec()).collect();
     all.extend(texts(SEED, GENERATED));
+    all.extend(arrow_texts(SEED, ARROWS));
     for length in [BUFFER - 2, BUFFER - 1, BUFFER, BUFFER + 1, 2 * BUFFER] {
         all.push(samples::members(length));
         all.push(vec![b' '; length]);

@@ -7,30 +7,39 @@
 //! The texts are every sample, broken off at every byte and with a comment put
 //! in at every byte, generated and damaged ones, random bytes, and long ones;
 //! the tables those of these texts, exact, cut off, longer and changed, and
-//! those of others.
+//! those of others.  Texts with arrows `<-` are refused here; compare_convert
+//! has what is written for them.
 //!
 //! Exits with 1 at the first disagreement.
 
-use second::answer::{Answer, DEPTH_MAX, NODES_MAX, NODE_WORDS, NOT_THE_FILE, TEXT_MAX};
+use second::answer::{Answer, NODE_WORDS, NOT_THE_FILE, TEXT_MAX};
+use second::compare::forms::{end, read, read_again};
 use second::compare::{
-    all_met, finish, lengths, listed, same, same_written, Compared, Difference, TURNS,
+    all_met, each_met, finish, lengths, listed, same, same_written, Compared, Difference, TURNS,
 };
-use second::generate::{good_texts, long_texts, random_bytes, texts, Random};
-use second::plain::{self, turned};
+use second::generate::{
+    arrow_rows, arrow_texts, deep_forms, good_texts, head_forms, long_texts, random_bytes,
+    sized_forms, texts, Random,
+};
+use second::plain;
 use second::samples::readings::PLAIN;
 use second::token::Lexed;
+use second::tree::{read_by, Rules};
 use second::{front, samples, token};
 use std::process::ExitCode;
 
 const SEED: u64 = 20_261_123;
 const GENERATED: usize = 12_000;
 const GOOD: usize = 6_000;
+const ARROWS: usize = 1_000;
+/// Of the rows with an arrow, one in so many; all are converted elsewhere.
+const SPARSELY: usize = 7;
 const RANDOM_BYTES: usize = 200_000;
 const COMMENT: &[u8] = b"`)_\"`";
 const LEVELS: [u32; 2] = [1, 2];
 const NO_LEVELS: [u32; 4] = [0, 3, 258, u32::MAX];
 /// The answers that the call can give.
-const ANSWERS: [usize; 11] = [0, 1, 2, 3, 4, 5, 6, 7, 8, 11, 14];
+const ANSWERS: [usize; 12] = [0, 1, 2, 3, 4, 5, 6, 7, 8, 11, 14, 15];
 
 /// The words and the plain form of an accepted text.
 type Form = (Vec<u32>, Vec<u8>);
@@ -41,36 +50,6 @@ mod archive {
 
     pub fn write(level: u32, text: &[u8], table: &[u32], buffer: &mut [u8]) -> Answer {
         muon::plain::write(level, text, table, buffer).into()
-    }
-
-    /// The words of an accepted text, or its refusal.
-    pub fn read(level: u32, text: &[u8]) -> Result<Vec<u32>, Answer> {
-        let mut table = vec![0; muon::TABLE_MAX];
-        let answer = muon::read(level, text, &mut table);
-        if !answer.is_accepted() {
-            return Err(answer.into());
-        }
-        table.truncate(answer.count * muon::NODE_WORDS);
-        Ok(table)
-    }
-
-    /// What a literal of this kind stands for, if there is a call that tells:
-    /// the answer's number, and the value as bytes.
-    pub fn value(kind: u32, piece: &[u8]) -> Option<(u32, Vec<u8>)> {
-        let call = match kind {
-            muon::kind::INTEGER => {
-                let answer = muon::integer(piece);
-                return Some((answer.number, answer.value.to_be_bytes().to_vec()));
-            }
-            muon::kind::BITS => muon::bits,
-            muon::kind::BLOB => muon::blob,
-            muon::kind::TEXT => muon::text,
-            _ => return None,
-        };
-        let mut buffer = vec![0; 4 * piece.len()];
-        let answer = call(piece, &mut buffer);
-        buffer.truncate(answer.count);
-        Some((answer.number, buffer))
     }
 }
 
@@ -87,11 +66,9 @@ enum Care {
 struct Counts {
     random: Random,
     texts: usize,
-    answers: [usize; 15],
-    /// Forms that were read and written again, and those of them whose nodes
-    /// have another order than the text's.
+    answers: [usize; 16],
+    /// Forms that were read and written again.
     again: usize,
-    turned: usize,
     /// Forms longer than a text may be.
     longer: usize,
     /// Literals whose values were compared.
@@ -107,9 +84,8 @@ impl Counts {
         Counts {
             random: Random::new(SEED),
             texts: 0,
-            answers: [0; 15],
+            answers: [0; 16],
             again: 0,
-            turned: 0,
             longer: 0,
             values: 0,
             gaps: 0,
@@ -145,7 +121,7 @@ impl Counts {
     /// with buffers of several lengths.
     fn forms(&mut self, level: u32, text: &[u8]) -> Result<Option<Form>, Difference> {
         self.texts += 1;
-        let words = match archive::read(level, text) {
+        let words = match read(level, text) {
             Ok(words) => words,
             Err(refusal) => {
                 self.refused(level, text, refusal)?;
@@ -167,11 +143,14 @@ impl Counts {
         Ok(Some((words, form)))
     }
 
-    /// A refused text is refused alike, whatever table and buffer are.
+    /// A refused text is refused alike, whatever table and buffer are; the table
+    /// that it has by the old rules among them.
     fn refused(&mut self, level: u32, text: &[u8], refusal: Answer) -> Compared {
         let rubbish = vec![7; muon::TABLE_MAX];
         let last = self.last.clone();
-        for table in [&[][..], &rubbish, &last] {
+        let mut old = vec![0; muon::TABLE_MAX];
+        read_by(Rules::Old, level, text, &mut old);
+        for table in [&[][..], &rubbish, &last, &old] {
             for length in [0, 2 * text.len()] {
                 let answer = self.answered(level, text, table, length)?;
                 same("refusal of the reader", text, refusal, answer)?;
@@ -187,41 +166,20 @@ impl Counts {
             self.longer += 1;
             return Ok(());
         }
-        let Ok(after) = archive::read(level, form) else {
-            let (text, form) = (text.escape_ascii(), form.escape_ascii());
-            return Err(Difference(format!(
-                "the archive does not read its plain form b\"{form}\" of b\"{text}\""
-            )));
-        };
-        let ((nodes, from), (read, order)) = (turned(words), turned(&after));
-        same("nodes of the plain form", text, &nodes, &read)?;
-        same(
-            "order of the plain form's nodes",
-            form,
-            in_order(&order),
-            true,
-        )?;
-        for (at, node) in nodes.iter().enumerate() {
-            let value = |text, words, index| archive::value(node.kind, piece(text, words, index));
-            let (before, behind) = (value(text, words, from[at]), value(form, &after, order[at]));
-            self.values += usize::from(before.is_some());
-            same("value in the plain form", text, before, behind)?;
-        }
+        let found = read_again(level, text, words, form)?;
+        self.values += found.values;
+        same("another order", text, found.turned, false)?;
         for level in LEVELS {
-            let end = |text| match archive::read(level, text) {
-                Ok(words) => (0, words.len() / NODE_WORDS),
-                Err(refusal) => (refusal.number, refusal.count),
-            };
+            let end = |text| end(&read(level, text));
             let what = format!("number and count at level {level} of the plain form");
             same(&what, text, end(text), end(form))?;
         }
         let mut twice = vec![0; form.len()];
-        let answer = archive::write(level, form, &after, &mut twice);
+        let answer = archive::write(level, form, &found.words, &mut twice);
         let want = Answer::accepted(form.len(), form.len());
         same("answer of the form written again", form, want, answer)?;
         same("form written again", form, form, &twice[..])?;
         self.again += 1;
-        self.turned += usize::from(!in_order(&from));
         Ok(())
     }
 
@@ -284,7 +242,7 @@ impl Counts {
         self.write(level, text, &last, 2 * text.len())?;
         let filled: Vec<u32> = last.into_iter().chain(words.iter().copied()).collect();
         self.write(level, text, &filled, 2 * text.len())?;
-        if let Ok(own) = archive::read(level, form) {
+        if let Ok(own) = read(level, form) {
             self.write(level, text, &own, 2 * text.len())?;
             self.write(level, form, words, 2 * text.len())?;
         }
@@ -341,126 +299,24 @@ impl Counts {
     /// Every answer is met, and every kind of form.
     fn every_answer(&self) -> Compared {
         all_met("call", &self.answers, &ANSWERS)?;
-        for (what, times) in [
-            ("another order", self.turned),
+        each_met(&[
             ("a form longer than a text", self.longer),
             ("a value", self.values),
             ("a gap", self.gaps),
-        ] {
-            if times == 0 {
-                return Err(Difference(format!("there was never {what}")));
-            }
-        }
-        Ok(())
+        ])
     }
 
     fn summary(&self) -> String {
         format!(
-            "{} texts, {}, {} forms read and written again ({} in another order, {} values), {} too long for that, {} gaps with a comment",
+            "{} texts, {}, {} forms read and written again ({} values), {} too long for that, {} gaps with a comment",
             self.texts,
             listed(&self.answers, &ANSWERS),
             self.again,
-            self.turned,
             self.values,
             self.longer,
             self.gaps
         )
     }
-}
-
-fn in_order(indices: &[usize]) -> bool {
-    indices.windows(2).all(|pair| pair[0] < pair[1])
-}
-
-/// The bytes of a node.
-fn piece<'a>(text: &'a [u8], words: &[u32], index: usize) -> &'a [u8] {
-    let node = &words[index * NODE_WORDS..];
-    &text[node[1] as usize..node[2] as usize]
-}
-
-/// Brackets as deep as may be, around members or the innermost value.
-fn deep_texts() -> Vec<Vec<u8>> {
-    let mut all = Vec::new();
-    let wrapped = [
-        ("(b<-", ")"),
-        ("{b<-", "}"),
-        ("{a,b<-", ",c<-d}"),
-        ("(", "<-a)"),
-        ("{", "<-a}"),
-        ("{", "<-Set,Bag<-b}"),
-        ("(", "->a)"),
-        ("(", ")"),
-        ("(", ",)"),
-        ("(,", ")"),
-        ("(x:", ",)"),
-        ("(Set->", ")"),
-        ("[", "..b]"),
-        ("[a<*<=", "]"),
-        ("[*<", "]"),
-        ("{,", ",}"),
-    ];
-    for (open, close) in wrapped {
-        for inner in ["a", "{Set}", "(c<-d)", "[ 1 ]", ""] {
-            for depth in [DEPTH_MAX - 1, DEPTH_MAX, DEPTH_MAX + 1] {
-                let (open, close) = (open.repeat(depth), close.repeat(depth));
-                all.push(format!("{open}{inner}{close}").into_bytes());
-            }
-        }
-    }
-    let pairs = "b<-a,".repeat(300);
-    let (open, close) = ("{".repeat(DEPTH_MAX), "}".repeat(DEPTH_MAX));
-    all.push(format!("{open}{pairs}{close}").into_bytes());
-    all
-}
-
-/// Words that are put in quotes, in texts as long as may be.
-fn head_texts() -> Vec<Vec<u8>> {
-    let mut all = Vec::new();
-    for (front, unit, rear) in [
-        ("", "::Set", ""),
-        ("", "::Bag", "::a"),
-        ("", ":: Mix", " "),
-        ("", "::Interval_Set", ""),
-        ("(", "::Array", ":Set)"),
-        ("{5:", "::Renaming", "}"),
-    ] {
-        for length in [TEXT_MAX / 7 * 5, TEXT_MAX] {
-            let room = length - front.len() - rear.len();
-            let text = [front, &unit.repeat(room / unit.len()), rear].concat();
-            all.push(text.into_bytes());
-        }
-    }
-    // forms of the text size, less a byte and a byte more
-    for spare in 5..=7 {
-        let text = format!("{}::{}", "::Set".repeat(4_680), "a".repeat(spare));
-        all.push(text.into_bytes());
-    }
-    for members in [1, 2, NODES_MAX - 1, NODES_MAX] {
-        all.push(format!("{{{}}}", "Set,".repeat(members)).into_bytes());
-        all.push(format!("({})", "Bag , ".repeat(members)).into_bytes());
-        all.push(format!("(Set:{{{}}})", "Set,".repeat(members)).into_bytes());
-    }
-    all
-}
-
-/// Around 1,024 nodes, and around the longest text.
-fn sized_texts() -> Vec<Vec<u8>> {
-    let lots = [2 * NODES_MAX - 2, 2 * NODES_MAX, 2 * NODES_MAX + 2];
-    let mut all: Vec<Vec<u8>> = lots.map(samples::members).to_vec();
-    for unit in [
-        "b<-a,",
-        "b<-(c<-d),",
-        "x,y<-z,",
-        "::a::b:5,",
-        "{b<-a}<-[1..2],",
-    ] {
-        all.push(format!("{{{}}}", unit.repeat(200)).into_bytes());
-        all.push(format!("{{{}}}", unit.repeat(1_000)).into_bytes());
-    }
-    all.push(format!("{{{}}}", "b<-a,".repeat(511)).into_bytes());
-    let lengths = [TEXT_MAX - 1, TEXT_MAX, TEXT_MAX + 1];
-    all.extend(lengths.into_iter().flat_map(samples::digit_at_either_end));
-    all
 }
 
 fn sampled() -> Vec<&'static [u8]> {
@@ -490,10 +346,16 @@ fn run(counts: &mut Counts) -> Compared {
     for text in random_bytes(SEED, RANDOM_BYTES) {
         counts.text(&text, Care::Some(1))?;
     }
-    for text in deep_texts() {
+    for text in arrow_texts(SEED, ARROWS) {
+        counts.text(&text, Care::Some(1))?;
+    }
+    for text in arrow_rows().iter().step_by(SPARSELY) {
+        counts.text(text, Care::Some(1))?;
+    }
+    for text in deep_forms("->") {
         counts.text(&text, Care::Some(6))?;
     }
-    let long = [head_texts(), sized_texts(), long_texts()].concat();
+    let long = [head_forms(), sized_forms("->"), long_texts()].concat();
     for text in long {
         counts.text(&text, Care::Some(3))?;
     }

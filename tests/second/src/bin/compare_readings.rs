@@ -4,16 +4,18 @@
 //! long inputs.
 //!
 //! The texts are every sample, broken off at every byte and with bits
-//! flipped, texts made by the grammar or nearly, random bytes, rows of bytes
-//! that may be read at once, every two groups of some base-64 characters,
-//! every two characters before padding, and long ones.
+//! flipped, texts made by the grammar or nearly, arrows `<-` at many places,
+//! random bytes, rows of bytes that may be read at once, every two groups of
+//! some base-64 characters, every two characters before padding, and long
+//! ones.
 //!
 //! Exits with 1 at the first disagreement.
 
 use second::answer::{Answer, DEPTH_MAX, NEWER_FORM, NODE_WORDS, NO_ROOM, TEXT_MAX};
 use second::compare::{finish, same, Compared, Difference};
 use second::generate::{
-    flipped, long_texts, paddings, random_bytes, row_texts, texts, two_groups, Random,
+    arrow_rows, arrow_texts, flipped, long_texts, paddings, random_bytes, row_texts, texts,
+    two_groups, Random,
 };
 use second::{samples, tree};
 use std::process::ExitCode;
@@ -21,6 +23,7 @@ use std::time::{Duration, Instant};
 
 const SEED: u64 = 20_261_116;
 const GENERATED: usize = 100_000;
+const ARROWS: usize = 20_000;
 const RANDOM_BYTES: usize = 4_000_000;
 /// Of the texts with rows, one in so many; the tokens of all are compared.
 const SPARSELY: usize = 11;
@@ -30,7 +33,7 @@ const WORDS_MAX: usize = 6_200;
 const GUARD: usize = 8;
 const NO_LEVELS: [u32; 4] = [0, 3, 257, u32::MAX];
 /// The answers a reading can give.
-const NUMBERS: [usize; 10] = [0, 1, 2, 3, 4, 5, 6, 7, 8, 11];
+const NUMBERS: [usize; 11] = [0, 1, 2, 3, 4, 5, 6, 7, 8, 11, 15];
 /// For one reading of a text of 32 KB, groups included, which are read once
 /// more for each bracket around them; a quadratic scan takes far longer.
 const TIME_BOUND: Duration = Duration::from_millis(250);
@@ -96,7 +99,7 @@ struct Counts {
     random: Random,
     texts: usize,
     readings: usize,
-    answers: [usize; 12],
+    answers: [usize; 16],
     slowest: Duration,
 }
 
@@ -106,7 +109,7 @@ impl Counts {
             random: Random::new(SEED),
             texts: 0,
             readings: 0,
-            answers: [0; 12],
+            answers: [0; 16],
             slowest: Duration::ZERO,
         }
     }
@@ -269,6 +272,9 @@ fn run(counts: &mut Counts) -> Compared {
     }
     for text in texts(SEED, GENERATED) {
         counts.text(&text)?;
+    }
+    for text in arrow_texts(SEED, ARROWS).iter().chain(&arrow_rows()) {
+        counts.text(text)?;
     }
     for text in random_bytes(SEED, RANDOM_BYTES) {
         counts.text(&text)?;

@@ -1,9 +1,10 @@
 //! Reads a sample of texts, writes and checks their stored files, writes their
-//! plain forms, asks for the values of a sample of pieces and tests a sample of
-//! UTF-8, through the C interface out of and into memory of exactly the size
-//! lent, to be run under valgrind: a read or write outside of it is an error
-//! there, and so is an answer that depends on what the table or buffer held, or
-//! on the words behind a text's, since nothing is written to it before.
+//! plain forms, converts them, asks for the values of a sample of pieces and
+//! tests a sample of UTF-8, through the C interface out of and into memory of
+//! exactly the size lent, to be run under valgrind: a read or write outside of it
+//! is an error there, and so is an answer that depends on what the table or
+//! buffer held, or on the words behind a text's, since nothing is written to it
+//! before.
 //!
 //! Exits with 1 if an answer, a written word or byte, the text, the piece, the
 //! file or the table is not as it should be.  `lent_memory overstated` tells one byte
@@ -17,9 +18,11 @@ use muon as _;
 use second::answer::{Answer, DEPTH_MAX, NODES_MAX, NODE_WORDS, TEXT_MAX};
 use second::compare::{finish, same, Compared};
 use second::generate::{
-    around, encoded_texts, flipped, framed, long_packed_pieces, long_texts, packed_pieces, pieces,
-    random_bytes, random_packed_pieces, row, sample_pieces, texts, Random, FRAMES, RUN_MAX,
+    around, arrow_texts, deep_forms, encoded_texts, flipped, framed, long_packed_pieces,
+    long_texts, packed_pieces, pieces, random_bytes, random_packed_pieces, row, sample_pieces,
+    texts, Random, FRAMES, RUN_MAX,
 };
+use second::tree::Rules;
 use second::utf8::{self, Tested};
 use second::{file, plain, samples, tree, value};
 use std::alloc::{alloc, dealloc, handle_alloc_error, Layout};
@@ -29,6 +32,7 @@ use std::slice;
 
 const SEED: u64 = 20_261_115;
 const GENERATED: usize = 1_500;
+const ARROWS: usize = 300;
 const RANDOM_BYTES: usize = 60_000;
 /// Of the short pieces for Blobs and Bits, one in so many.
 const SPARSELY: usize = 40;
@@ -94,6 +98,15 @@ extern "C" {
         text_len: usize,
         table: *const u32,
         table_len: usize,
+        buffer: *mut u8,
+        buffer_len: usize,
+        place: *mut usize,
+        count: *mut usize,
+    ) -> u32;
+    fn muon_convert(
+        level: u32,
+        text: *const u8,
+        text_len: usize,
         buffer: *mut u8,
         buffer_len: usize,
         place: *mut usize,
@@ -368,6 +381,46 @@ fn compare_plain(level: u32, text: &[u8], words: &[u32], behind: usize, length: 
     same(&format!("{what}: the table"), text, words, words_after)
 }
 
+/// What a text is converted to in a buffer of this length, held against the
+/// second program's.
+fn compare_convert(level: u32, text: &[u8], length: usize) -> Compared {
+    let mut bytes = vec![0; length];
+    let answer = plain::convert(level, text, &mut bytes);
+    let written = if answer.number == 0 { answer.count } else { 0 };
+
+    let lent = Lent::holding(text);
+    let buffer = Lent::<u8>::new(length);
+    // SAFETY: each pointer is to memory of its own, of the length that is told.
+    let proved = answered(|place, count| unsafe {
+        let (text_start, start) = (lent.start.as_ptr(), buffer.start.as_ptr());
+        muon_convert(level, text_start, text.len(), start, length, place, count)
+    });
+    let what = format!("conversion at level {level} in {length} bytes");
+    same(&what, text, answer, proved)?;
+    // SAFETY: the text is as long, and of an accepted one so many bytes are
+    // written, which valgrind checks.
+    let (after, theirs) = unsafe { (lent.written(text.len()), buffer.written(written)) };
+    same(
+        &format!("{what}: the bytes"),
+        text,
+        &bytes[..written],
+        theirs,
+    )?;
+    same(&format!("{what}: the text"), text, text, after)
+}
+
+/// With no buffer, with what the conversion needs, a byte less and a byte more.
+fn converted(text: &[u8], conversions: &mut usize) -> Compared {
+    for level in [1, 2] {
+        let need = plain::convert(level, text, &mut []).count;
+        for length in [0, need.saturating_sub(1), need, need + 1] {
+            *conversions += 1;
+            compare_convert(level, text, length)?;
+        }
+    }
+    Ok(())
+}
+
 /// A text's plain form with no buffer, with what it needs, a byte less and a
 /// byte more; with words behind its table, with one too few, and with its first
 /// and its last word changed.  Of a refused text, with a table of which nothing
@@ -402,22 +455,17 @@ fn plainly(text: &[u8], forms: &mut usize) -> Compared {
 }
 
 /// A text's file with no buffer, with what it needs, a byte less and a byte
-/// more; and checks of it: whole, a byte longer, cut off in its head, by a byte
-/// and by a node, and with its first, its middle and its last byte changed.
+/// more; and checks of the one that it has by the old rules: whole, a byte
+/// longer, cut off in its head, by a byte and by a node, and with its first, its
+/// middle and its last byte changed.
 fn stored(text: &[u8], files: &mut usize) -> Compared {
     let need = file::write(text, &mut []).count;
     for length in [0, need.saturating_sub(1), need, need + 1] {
         *files += 1;
         compare_value(&FILE, text, length)?;
     }
-    let mut whole = vec![0; file::FILE_MAX];
-    let answer = file::write(text, &mut whole);
-    if answer.number != 0 {
-        // another text's
-        whole = b"FNT\0\x01\0\x01\0\x01\0\x07\0\0\0\x01\0\0\0\0\0\x02".to_vec();
-    } else {
-        whole.truncate(answer.count);
-    }
+    let another = b"FNT\0\x01\0\x01\0\x01\0\x07\0\0\0\x01\0\0\0\0\0\x02";
+    let whole = file::of(Rules::Old, text).unwrap_or_else(|_| another.to_vec());
     let mut check = |bytes: &[u8]| {
         *files += 1;
         compare_check(text, bytes)
@@ -530,7 +578,9 @@ fn written_texts() -> Vec<Vec<u8>> {
         .map(|sample| sample.text.to_vec())
         .collect();
     all.extend(texts(SEED, GENERATED));
+    all.extend(arrow_texts(SEED, ARROWS));
     all.extend(deep_texts());
+    all.extend(deep_forms("<-").into_iter().step_by(LONG_SPARSELY));
     all.extend(long_texts().into_iter().step_by(LONG_SPARSELY));
     all.extend([2 * NODES_MAX, 2 * NODES_MAX + 2, TEXT_MAX, TEXT_MAX + 2].map(samples::members));
     all
@@ -549,6 +599,14 @@ fn all_forms(forms: &mut usize) -> Compared {
     plainly(&b"::Set".repeat(TEXT_MAX / 5), forms)
 }
 
+fn all_conversions(conversions: &mut usize) -> Compared {
+    for text in written_texts() {
+        converted(&text, conversions)?;
+    }
+    let nesting = b"::Set".repeat(TEXT_MAX / 5 - 1);
+    converted(&[b"(5<-", &nesting[..], b")"].concat(), conversions)
+}
+
 fn all_readings(readings: &mut usize) -> Compared {
     let mut random = Random::new(SEED);
     for sample in samples::all() {
@@ -565,6 +623,9 @@ fn all_readings(readings: &mut usize) -> Compared {
     }
     for generated in texts(SEED, GENERATED) {
         text(&generated, readings)?;
+    }
+    for arrows in arrow_texts(SEED, ARROWS) {
+        text(&arrows, readings)?;
     }
     for bytes in random_bytes(SEED, RANDOM_BYTES) {
         text(&bytes, readings)?;
@@ -602,14 +663,16 @@ fn main() -> ExitCode {
         }
         _ => {}
     }
-    let (mut readings, mut files, mut forms, mut values, mut tests) = (0, 0, 0, 0, 0);
+    let (mut readings, mut files, mut forms) = (0, 0, 0);
+    let (mut conversions, mut values, mut tests) = (0, 0, 0);
     let outcome = all_readings(&mut readings)
         .and_then(|()| all_files(&mut files))
         .and_then(|()| all_forms(&mut forms))
+        .and_then(|()| all_conversions(&mut conversions))
         .and_then(|()| all_values(&mut values))
         .and_then(|()| all_tests(&mut tests));
     let compared = format!(
-        "{readings} readings, {files} writings and checks of files, {forms} plain forms, {values} values, {tests} UTF-8 tests"
+        "{readings} readings, {files} writings and checks of files, {forms} plain forms, {conversions} conversions, {values} values, {tests} UTF-8 tests"
     );
     finish("lent_memory", &compared, outcome)
 }

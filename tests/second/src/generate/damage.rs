@@ -1,11 +1,21 @@
 //! Texts that were good, or nearly, before a few bytes were changed.
 
 use super::random::Random;
-use super::{grammar, noise};
+use super::{arrows, grammar, noise, MISCHIEF};
 use crate::samples;
 
 pub fn text(random: &mut Random) -> Vec<u8> {
-    let mut text = sound(random);
+    let text = sound(random);
+    damaged(text, random)
+}
+
+/// One that had arrows where they may stand.
+pub fn arrow_text(random: &mut Random) -> Vec<u8> {
+    let text = arrows::made(random, false);
+    damaged(text, random)
+}
+
+fn damaged(mut text: Vec<u8>, random: &mut Random) -> Vec<u8> {
     for _ in 0..1 + random.below(3) {
         damage(&mut text, random);
     }
@@ -14,7 +24,7 @@ pub fn text(random: &mut Random) -> Vec<u8> {
 
 fn sound(random: &mut Random) -> Vec<u8> {
     if random.once_in(2) {
-        return grammar::text(random, true).text;
+        return grammar::text(random, MISCHIEF).text;
     }
     let samples = samples::all();
     samples[random.below(samples.len())].text.to_vec()

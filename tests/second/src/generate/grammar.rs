@@ -1,4 +1,4 @@
-//! Texts made by the grammar of level 2.
+//! Texts made by the grammar of level 2, arrows `<-` among them.
 
 use super::random::Random;
 
@@ -8,14 +8,22 @@ pub struct Made {
     pub nodes: usize,
 }
 
-/// A random value with dividing space around it.  With `mischief` some
-/// literals have bad values and some constructs are newer forms.
-pub fn text(random: &mut Random, mischief: bool) -> Made {
+/// What a text has that is refused.
+#[derive(Clone, Copy)]
+pub struct Mischief {
+    /// Some literals have bad values, and some constructs are newer forms.
+    pub bad: bool,
+    /// One pair in so many has an arrow `<-`.
+    pub arrows: Option<usize>,
+}
+
+/// A random value with dividing space around it.
+pub fn text(random: &mut Random, mischief: Mischief) -> Made {
     let front = match random.once_in(12) {
         true => random.pick(&["\u{FEFF}", "#!x\n", "\u{FEFF}#!`\r\n"]),
         false => "",
     };
-    let depth = match mischief && random.once_in(12) {
+    let depth = match mischief.bad && random.once_in(12) {
         true => 40,
         false => 1 + random.below(5),
     };
@@ -40,7 +48,7 @@ pub fn text(random: &mut Random, mischief: bool) -> Made {
 
 struct Writer<'a> {
     random: &'a mut Random,
-    mischief: bool,
+    mischief: Mischief,
     text: Vec<u8>,
     nodes: usize,
 }
@@ -89,8 +97,18 @@ impl<'a> Writer<'a> {
         self.space();
     }
 
+    /// The sign of a pair.
+    fn between_sides(&mut self) {
+        let arrow = |times| self.random.once_in(times);
+        let sign = match self.mischief.arrows.is_some_and(arrow) {
+            true => "<-",
+            false => self.random.pick(&[":", "->"]),
+        };
+        self.between(sign);
+    }
+
     fn value(&mut self, depth: usize) {
-        if self.mischief && self.random.once_in(60) {
+        if self.mischief.bad && self.random.once_in(60) {
             return self.newer(depth);
         }
         if depth == 0 || self.random.once_in(3) {
@@ -217,7 +235,7 @@ impl<'a> Writer<'a> {
 
     /// An unsigned number of at least `least`, unless mischief is made.
     fn not_below(&mut self, least: usize) {
-        if self.mischief && self.random.once_in(8) {
+        if self.mischief.bad && self.random.once_in(8) {
             return self.put_one(&["0", "0x0_0", "0b 0", "0o0", "1", "0b1"]);
         }
         match least {
@@ -239,7 +257,7 @@ impl<'a> Writer<'a> {
         match self.random.below(4) {
             0 => self.packed("0xb", "01", 8),
             1 => self.packed("0xx", "0123456789ABCDEF", 2),
-            2 if self.mischief => self.packed("0xy", "AZaz09+/=", 4),
+            2 if self.mischief.bad => self.packed("0xy", "AZaz09+/=", 4),
             _ => self.base64(),
         }
     }
@@ -249,7 +267,7 @@ impl<'a> Writer<'a> {
         self.packed("0xy", "AZaz09+/", 4);
         match self.random.below(6) {
             0 | 1 => self.put_one(&["AA==", "+Q==", "TWE=", "/wA="]),
-            2 if self.mischief => self.put_one(&["====", "A===", "AB==", "AAB="]),
+            2 if self.mischief.bad => self.put_one(&["====", "A===", "AB==", "AAB="]),
             _ => (),
         }
     }
@@ -325,7 +343,7 @@ impl<'a> Writer<'a> {
     }
 
     fn code_point(&mut self) {
-        if self.mischief && self.random.once_in(8) {
+        if self.mischief.bad && self.random.once_in(8) {
             return self.put_one(&["0cxD800", "0c57343", "0cx110000", "0cd9999999"]);
         }
         self.put_one(&[
@@ -380,8 +398,7 @@ impl<'a> Writer<'a> {
         self.put("(");
         self.space();
         self.not_a_head(depth);
-        let sign = self.random.pick(&[":", "->", "<-"]);
-        self.between(sign);
+        self.between_sides();
         self.value(depth);
         self.space();
         self.put(")");
@@ -436,8 +453,7 @@ impl<'a> Writer<'a> {
         self.braces(depth, |writer, depth| {
             writer.value(depth);
             if writer.random.once_in(2) {
-                let sign = writer.random.pick(&[":", "->", "<-"]);
-                writer.between(sign);
+                writer.between_sides();
                 writer.value(depth);
             }
         });

@@ -3,7 +3,7 @@
 
 use super::long::long_texts;
 use super::random::Random;
-use super::{grammar, noise};
+use super::{grammar, noise, MISCHIEF};
 use crate::answer::TEXT_MAX;
 use crate::samples::{self, readings};
 use crate::token::{self, Lexed};
@@ -358,7 +358,7 @@ fn escaped(character: char, piece: &mut String, random: &mut Random) {
 
 /// A token of a text made by the grammar: a literal of any kind, or a symbol.
 fn cut(random: &mut Random) -> Vec<u8> {
-    let text = grammar::text(random, true).text;
+    let text = grammar::text(random, MISCHIEF).text;
     let all = tokens(&text);
     match all.len() {
         0 => text,
