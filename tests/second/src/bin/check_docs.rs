@@ -61,6 +61,11 @@ impl Library for Proved {
         written(write, text)
     }
 
+    fn convert(&self, level: u32, text: &[u8]) -> (u32, usize, Vec<u8>) {
+        let convert = |text: &[u8], buffer: &mut [u8]| muon::convert::write(level, text, buffer);
+        written(convert, text)
+    }
+
     fn utf8(&self, text: &[u8]) -> (u32, usize, usize) {
         let answer = muon::utf8(text);
         (answer.number, answer.place, answer.steps)
@@ -224,7 +229,10 @@ fn self_test(repository: &Repository, root: &Path) -> Result<(), String> {
         "`seventeen letters` has 4 steps",
         "`x` has the file 46 4E 54 00 01",
         "With the file 46 4E 54 00, `x` is 13@0",
-        "`{b<-a}` is written `{b:a}`",
+        "`{b->a}` is written `{a:b}`",
+        "`{b<-a}` converts to `{b:a}`",
+        "`{a,b<-c}` is 15@3",
+        "By the old rules `(b<-a)` has the node `9 0 6 0 0 0`",
         "With the table of `(x,y)`, `(x:y)` is 8@5",
         "`1..10` has the tokens `1.`, `.10`",
         "    $ printf '5' | target/bin/muon\n    ok 2 2\n",
@@ -237,7 +245,9 @@ fn self_test(repository: &Repository, root: &Path) -> Result<(), String> {
         "`seventeen` has 2 steps, in the UTF-8 call `a\\xFF` is 3@1",
         "`x` has the file 46 4E 54 00 01 00 01 00 01 00 07 00 00 00 01 00 00 00 00 00 02",
         "With the file 46 4E 54 00, `x` is 12@0; as a text to be stored `(x` is 6@2",
-        "`{b<-a}` is written `{a:b}`, `(x)` is written `x`; to be written plainly, `(x` is 6@2",
+        "`{b->a}` is written `{b:a}`, `(x)` is written `x`; to be written plainly, `(x` is 6@2",
+        "`{b<-a}` converts to `{a:b}`, `(x)` converts to `x`; to be converted, `(b<-` is 6@4",
+        "`{a,b<-c}` is 15@4; by the old rules `(b<-a)` has the nodes `9 0 6 0 0 0`, `7 1 2 0 3 2`, `7 4 5 0 1 2`",
         "With the table of `(x,y)`, `(x:y)` is 14@0",
         "    $ printf '5' | target/bin/muon\n    ok 2 1\n    3 0 1 0 0 0\n",
     ];

@@ -14,11 +14,19 @@
 //!   step", by the UTF-8 call. There `\xFF` in a text is that byte;
 //! * "TEXT has the file 46 4E 54", by the writer of stored files, whose refusal
 //!   is "TEXT is 6@2" where the sentence says "to be stored" before; and "TEXT
-//!   is 12@0", by their checker, where it says "with the file 46 4E" before;
+//!   is 12@0" or "TEXT is accepted", by their checker, where it says "with the
+//!   file 46 4E" before;
 //! * "TEXT is written OTHER", its plain form at level 2, or at the one that the
 //!   sentence names before; of a refusal "TEXT is 6@2" where the sentence says
 //!   "to be written plainly" before, or "TEXT is 14@0" where it says "with the
-//!   table of OTHER" before.
+//!   table of OTHER" before;
+//! * "TEXT converts to OTHER", by the converter at level 2, or at the one that
+//!   the sentence names before; of a refusal "TEXT is 6@2" where it says "to be
+//!   converted" before;
+//! * where the sentence says "by the old rules" before: "TEXT is 4@4", by the
+//!   converter at both levels, since the old reading is seen there; and "TEXT
+//!   has the nodes NODE, NODE", by the checker of stored files, which takes the
+//!   file with these nodes.
 //!
 //! In a table with the columns "text", "old reader" and "new reader" or "both
 //! readers": an answer, nodes, a number of nodes, or "the same" as before.
@@ -43,8 +51,12 @@ pub enum Call {
     File,
     /// Of these bytes as the file.
     Check(Vec<u8>),
+    /// Of the file that has the wanted nodes.
+    CheckNodes,
     /// At a level, with the table of the text, or of another.
     Plain(u32, Option<String>),
+    /// At a level.
+    Convert(u32),
     /// The text is a command.
     Shell,
 }
@@ -53,6 +65,8 @@ pub enum Call {
 pub enum Want {
     /// Number and place.
     Refused(u32, usize),
+    /// Of a file that is checked.
+    Accepted,
     Nodes(Vec<String>),
     Count(usize),
     /// As at level 1, word for word.
@@ -85,6 +99,8 @@ pub struct Example {
 const PLAIN_LEVEL: u32 = 2;
 /// Between a text and its plain form.
 const IS_WRITTEN: &str = " is written ";
+/// Between a text and what the converter writes.
+const CONVERTS_TO: &str = " converts to ";
 /// In front of a text whose table is lent.
 const TABLE_OF: &str = "ith the table of ";
 
@@ -102,6 +118,8 @@ enum Asked {
     Check(Vec<u8>),
     /// With the table of this text, if not of the same.
     Plain(Option<String>),
+    Convert,
+    OldRules,
 }
 
 impl Asked {
@@ -117,6 +135,16 @@ impl Asked {
             Asked::File => vec![Call::File],
             Asked::Check(bytes) => vec![Call::Check(bytes.clone())],
             Asked::Plain(_) => vec![self.plain()],
+            Asked::Convert => vec![self.convert()],
+            Asked::OldRules => vec![Call::Convert(1), Call::Convert(2)],
+        }
+    }
+
+    /// The calls that tell a text's nodes.
+    fn nodes(&self) -> Vec<Call> {
+        match self {
+            Asked::OldRules => vec![Call::CheckNodes],
+            _ => self.calls(),
         }
     }
 
@@ -126,6 +154,14 @@ impl Asked {
             Asked::Level(level) => Call::Plain(*level, None),
             Asked::Plain(other) => Call::Plain(PLAIN_LEVEL, other.clone()),
             _ => Call::Plain(PLAIN_LEVEL, None),
+        }
+    }
+
+    /// The call that converts a text in such a sentence.
+    fn convert(&self) -> Call {
+        match self {
+            Asked::Level(level) => Call::Convert(*level),
+            _ => Call::Convert(PLAIN_LEVEL),
         }
     }
 }
@@ -277,13 +313,15 @@ fn leading_count(text: &str, noun: &str) -> Option<usize> {
 }
 
 /// Whether what looks like a name is a text, by the prose on its two sides: its
-/// steps or its file are told, it is written plainly or is a plain form, or its
-/// table is meant.
+/// steps or its file are told, it is written plainly, converted or a plain form,
+/// or its table is meant.
 pub fn is_text(before: &str, behind: &str) -> bool {
     let told = behind.strip_prefix(" has ");
     let of_text = |rest| leading_count(rest, "step").is_some() || rest.starts_with("the file ");
     told.is_some_and(of_text)
-        || [before, behind].contains(&IS_WRITTEN)
+        || [before, behind]
+            .iter()
+            .any(|prose| [IS_WRITTEN, CONVERTS_TO].contains(prose))
         || before.ends_with(TABLE_OF)
 }
 
@@ -324,8 +362,10 @@ fn asked(before: Asked, prose: &str) -> Asked {
         ("Blob call", Asked::Blob),
         ("Bits call", Asked::Bits),
         ("UTF-8 call", Asked::Utf8),
-        ("to be stored", Asked::File),
-        ("to be written plainly", Asked::Plain(None)),
+        ("o be stored", Asked::File),
+        ("o be written plainly", Asked::Plain(None)),
+        ("o be converted", Asked::Convert),
+        ("y the old rules", Asked::OldRules),
     ];
     for (phrase, call) in phrases {
         if sentence.contains(phrase) {
@@ -405,11 +445,22 @@ impl Reader<'_> {
             return false;
         };
         let said = one_spaced(prose);
-        if let (IS_WRITTEN, Some(Part::Code { text: form, .. })) = (&said[..], behind.get(1)) {
-            self.add(line, text, &[context.plain()], &Want::Form(form.clone()));
-            return false;
+        if let Some(Part::Code { text: form, .. }) = behind.get(1) {
+            let call = match &said[..] {
+                IS_WRITTEN => Some(context.plain()),
+                CONVERTS_TO => Some(context.convert()),
+                _ => None,
+            };
+            if let Some(call) = call {
+                self.add(line, text, &[call], &Want::Form(form.clone()));
+                return false;
+            }
         }
         if let Some(rest) = said.strip_prefix(" is ") {
+            if matches!(context, Asked::Check(_)) && rest.starts_with("accepted") {
+                self.add(line, text, &context.calls(), &Want::Accepted);
+                return false;
+            }
             let Some(((number, place), end)) = leading_answer(rest) else {
                 return false;
             };
@@ -436,7 +487,7 @@ impl Reader<'_> {
                 .into_iter()
                 .take_while(|code| is_node(code))
                 .collect();
-            self.add(line, text, &context.calls(), &Want::Nodes(nodes));
+            self.add(line, text, &context.nodes(), &Want::Nodes(nodes));
         } else if let Some(count) = leading_count(rest, "node") {
             self.add(line, text, &context.calls(), &Want::Count(count));
         } else if let Some(steps) = leading_count(rest, "step") {
@@ -541,6 +592,7 @@ pub trait Library {
     fn check(&self, text: &[u8], file: &[u8]) -> (u32, usize);
     /// Number, place and bytes.
     fn plain(&self, level: u32, text: &[u8], table: &[u32]) -> (u32, usize, Vec<u8>);
+    fn convert(&self, level: u32, text: &[u8]) -> (u32, usize, Vec<u8>);
     /// Number, place and steps.
     fn utf8(&self, text: &[u8]) -> (u32, usize, usize);
     /// Spans of the tokens, and the place where none starts.
@@ -589,6 +641,11 @@ impl Library for Second {
         written(write, text)
     }
 
+    fn convert(&self, level: u32, text: &[u8]) -> (u32, usize, Vec<u8>) {
+        let convert = |text: &[u8], buffer: &mut [u8]| plain::convert(level, text, buffer);
+        written(convert, text)
+    }
+
     fn utf8(&self, text: &[u8]) -> (u32, usize, usize) {
         let tested = utf8::test(text);
         (tested.number, tested.place, tested.steps)
@@ -627,15 +684,17 @@ pub fn run(example: &Example, library: &dyn Library) -> Result<(), String> {
         Call::Bits => bytes(library.bits(text)),
         Call::Utf8 => steps(&example.want, library.utf8(&unescaped(&example.text))),
         Call::File => bytes(library.file(text)),
-        Call::Check(file) => {
-            let (number, place) = library.check(text, file);
-            Want::Refused(number, place)
+        Call::Check(file) => checked(&Want::Accepted, library.check(text, file)),
+        Call::CheckNodes => {
+            let file = file_with(text, &example.want);
+            checked(&example.want, library.check(text, &file))
         }
         Call::Plain(level, other) => {
             let read = other.as_ref().map_or(text, String::as_bytes);
             let (_, _, table) = library.read(*level, read);
             form(library.plain(*level, text, &table))
         }
+        Call::Convert(level) => form(library.convert(*level, text)),
         Call::Shell => return Ok(()),
     };
     if found == example.want {
@@ -645,6 +704,33 @@ pub fn run(example: &Example, library: &dyn Library) -> Result<(), String> {
         "{} by {:?}: {found:?}, not {:?}",
         example.text, example.call, example.want
     ))
+}
+
+/// What is true of a file if it is accepted, or its refusal.
+fn checked(accepted: &Want, (number, place): (u32, usize)) -> Want {
+    match number {
+        0 => accepted.clone(),
+        _ => Want::Refused(number, place),
+    }
+}
+
+/// The stored file of a text with the nodes that are wanted.
+fn file_with(text: &[u8], want: &Want) -> Vec<u8> {
+    let Want::Nodes(nodes) = want else {
+        return Vec::new();
+    };
+    let numbers = |words: &str| -> Vec<u16> {
+        let numbers = words.split(' ').map(str::parse);
+        numbers.map_while(Result::ok).collect()
+    };
+    let head = [1, nodes.len() as u16, text.len() as u16];
+    let words = nodes.iter().flat_map(|node| numbers(node));
+    let all = head.into_iter().chain(words);
+    b"FNT"
+        .iter()
+        .copied()
+        .chain(all.flat_map(u16::to_be_bytes))
+        .collect()
 }
 
 /// What was read, in the terms that are wanted.
@@ -741,11 +827,15 @@ mod tests {
             `seventeen letters` has 3 steps. The UTF-8 call: `aaaaaaaa\\xC3\\x41` is 3@8 after 1 step, and `a\\xFF` has 1 step. \
             `x` has the file 46 4E 54 00 01 00 01 00 01 00 07 00 00 00 01 00 00 00 00 00 02. As a text to be stored, `(x` is 6@2. \
             With the file 46 4E 54 00, `x` is 12@0. With the file 46 4E 54 00 01, `(x` is 14@0. \
-            `( , x : + 0d 1_0 , )` is written `(x:+0d10,)`, and `(x)` is written `x`. At level 1 `{b<-a}` is written `{a:b}`. \
+            `( , x : + 0d 1_0 , )` is written `(x:+0d10,)`, and `(x)` is written `x`. At level 1 `{b->a}` is written `{b:a}`. \
             As a text to be written plainly, `(x` is 6@2. With the table of `(x,y)`, `(x:y)` is 14@0; \
-            with the table of `(a:b)`, `(x:y)` is written `(x:y)`, and with the table of `x`, `(x:y)` is 8@5.";
+            with the table of `(a:b)`, `(x:y)` is written `(x:y)`, and with the table of `x`, `(x:y)` is 8@5. \
+            `{a,b<-c}` is 15@4, but `(<-a)` is 6@1. As a text to be stored, `(b<-a)` is 15@2, and as one to be written plainly, `(b<-a)` is 15@2. \
+            `(b<-a)` converts to `(a:b)`, and `x` converts to `x`. At level 1 `{b<-a}` converts to `{a:b}`. As a text to be converted, `(b<-` is 6@4. \
+            By the old rules `(a<-$` is 4@4, and `(b<-a)` has the nodes `9 0 6 0 0 0`, `7 1 2 0 3 2`, `7 4 5 0 1 2`. \
+            With the file 46 4E 54 00 01 00 01 00 01 00 07 00 00 00 01 00 00 00 00 00 02, `x` is accepted.";
         let found = of(text);
-        assert_eq!(found.examples.len(), 33);
+        assert_eq!(found.examples.len(), 47);
         assert_eq!(wrong(text), 0);
     }
 
@@ -771,7 +861,17 @@ mod tests {
         assert_eq!(wrong("A text to be stored: `(x` is 6@1"), 1);
         assert_eq!(wrong("With the file 46 4E 54 00 02, `x` is 12@0"), 1);
         assert_eq!(wrong("With the file 46 4E 54 00 01, `x` is 13@0"), 1);
-        assert_eq!(wrong("`{b<-a}` is written `{b:a}`"), 1);
+        assert_eq!(wrong("`{b->a}` is written `{a:b}`"), 1);
+        assert_eq!(wrong("`{b<-a}` is written `{a:b}`"), 1);
+        assert_eq!(wrong("`{b<-a}` converts to `{b:a}`"), 1);
+        assert_eq!(wrong("At level 1 `{b<-[]}` converts to `{[]:b}`"), 1);
+        assert_eq!(wrong("A text to be converted: `(b<-` is 15@2"), 1);
+        assert_eq!(wrong("By the old rules `(a<-$` is 15@2"), 2);
+        assert_eq!(
+            wrong("By the old rules `(b<-a)` has the nodes `9 0 6 0 0 0`, `7 1 2 0 2 2`, `7 4 5 0 1 2`"),
+            1
+        );
+        assert_eq!(wrong("With the file 46 4E 54 00 01, `x` is accepted"), 1);
         assert_eq!(wrong("At level 1 `[ 5 ]` is written `[5]`"), 1);
         assert_eq!(wrong("A text to be written plainly: `(x` is 6@1"), 1);
         assert_eq!(wrong("With the table of `(x:y)`, `(x:y)` is 14@0"), 1);
