@@ -50,13 +50,31 @@ pub const UTF8_SHAPES: [(&str, Shape); 4] = [
 pub const WRITE_SHAPES: [(&str, Shape); 1] = [("file-written", settings)];
 pub const CHECK_SHAPES: [(&str, Shape); 1] = [("file-checked", settings)];
 
-/// And pairs that are turned, of which each side is looked for.
+/// And pairs.
 pub const PLAIN_SHAPES: [(&str, Shape); 5] = [
     ("plain-settings", settings),
-    ("plain-pairs", pairs),
-    ("plain-arrows", arrows),
-    ("plain-deep-this", |size| deep_pairs("(b<-", ")", size)),
-    ("plain-deep-that", |size| deep_pairs("(", "<-b)", size)),
+    ("plain-pairs", |size| pairs("->", size)),
+    ("plain-chain", |size| chain("->", size)),
+    ("plain-deep-this", |size| {
+        deep_pairs("(", "->b)", "->", size)
+    }),
+    ("plain-deep-that", |size| {
+        deep_pairs("(b->", ")", "->", size)
+    }),
+];
+
+/// And pairs with the arrow that is retired: they are turned, and each side is
+/// looked for.
+pub const CONVERT_SHAPES: [(&str, Shape); 5] = [
+    ("convert-settings", settings),
+    ("convert-pairs", |size| pairs("<-", size)),
+    ("convert-chain", |size| chain("<-", size)),
+    ("convert-deep-this", |size| {
+        deep_pairs("(b<-", ")", "<-", size)
+    }),
+    ("convert-deep-that", |size| {
+        deep_pairs("(", "<-b)", "<-", size)
+    }),
 ];
 
 /// Plain ASCII.
@@ -165,28 +183,30 @@ fn nesting(size: usize) -> Vec<u8> {
     padded(format!("{open}{inner}{}", "}".repeat(DEPTH_MAX)), size)
 }
 
-/// A Lot of pairs, written that before this: as many as fit, or as may be with
-/// a pair around it for each further bracket.
-fn pairs(size: usize) -> Vec<u8> {
+/// A Lot of pairs with this sign: as many as fit, or as may be with a pair around
+/// it for each further bracket.
+fn pairs(sign: &str, size: usize) -> Vec<u8> {
     let most = NODES_MAX / 2 - DEPTH_MAX;
     let each = (size / most).max("b<-a,".len());
     let word = "a".repeat((each - "<-,".len()) / 2);
-    let members = format!("{word}<-{word},").repeat(most.min((size - 2) / each));
+    let members = format!("{word}{sign}{word},").repeat(most.min((size - 2) / each));
     padded(format!("{{{members}}}"), size)
 }
 
-/// As many pairs as may be, each the this of the one around it.
-fn arrows(size: usize) -> Vec<u8> {
+/// As many pairs as may be, each what stands behind the sign of the one around
+/// it.
+fn chain(sign: &str, size: usize) -> Vec<u8> {
     let each = size / DEPTH_MAX - 1;
-    let open = format!("({}<-", "b".repeat(each - "(<-)".len()));
+    let open = format!("({}{sign}", "b".repeat(each - "(<-)".len()));
     let (open, close) = (open.repeat(DEPTH_MAX), ")".repeat(DEPTH_MAX));
     padded(format!("{open}a{close}"), size)
 }
 
-/// Pairs around a Lot of pairs, which is the innermost this or that.
-fn deep_pairs(open: &str, close: &str, size: usize) -> Vec<u8> {
+/// Pairs around a Lot of pairs with this sign, which is the innermost this or
+/// that.
+fn deep_pairs(open: &str, close: &str, sign: &str, size: usize) -> Vec<u8> {
     let [open, close] = [open, close].map(|part| part.repeat(DEPTH_MAX - 1));
-    let inner = pairs(size - open.len() - close.len());
+    let inner = pairs(sign, size - open.len() - close.len());
     let inner = String::from_utf8(inner).expect("pairs are UTF-8");
     padded(format!("{open}{inner}{close}"), size)
 }

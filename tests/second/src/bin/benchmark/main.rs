@@ -8,8 +8,8 @@
 mod inputs;
 
 use inputs::{
-    grouped, Shape, BITS_SHAPES, BLOB_SHAPES, CHECK_SHAPES, PLAIN_SHAPES, SHAPES, SIZES,
-    UTF8_SHAPES, WRITE_SHAPES,
+    grouped, Shape, BITS_SHAPES, BLOB_SHAPES, CHECK_SHAPES, CONVERT_SHAPES, PLAIN_SHAPES, SHAPES,
+    SIZES, UTF8_SHAPES, WRITE_SHAPES,
 };
 use second::answer::DEPTH_MAX;
 use second::generate::long_shapes;
@@ -99,6 +99,14 @@ const PLAIN: Calls = [
         plain::write(LEVEL, text, &lent.read, &mut lent.buffer).number
     }),
 ];
+const CONVERT: Calls = [
+    ("proved", |text, lent| {
+        muon::convert::write(LEVEL, text, &mut lent.buffer).number
+    }),
+    ("second", |text, lent| {
+        plain::convert(LEVEL, text, &mut lent.buffer).number
+    }),
+];
 const UTF8: Calls = [
     ("proved", |text, _| muon::utf8(text).number),
     ("second", |text, _| utf8::test(text).number),
@@ -117,6 +125,7 @@ fn shapes() -> Vec<(&'static str, Shape, Calls)> {
         with(&WRITE_SHAPES, WRITE),
         with(&CHECK_SHAPES, CHECK),
         with(&PLAIN_SHAPES, PLAIN),
+        with(&CONVERT_SHAPES, CONVERT),
         with(&UTF8_SHAPES, UTF8),
     ]
     .concat()
