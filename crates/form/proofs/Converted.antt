@@ -54,8 +54,9 @@ module _ (old new : Rules) (depth : old .limits .depth ≤ new .limits .depth) (
         same-nodes = x .same-nodes;
         again =
             λ lent m g.
-            subst (λ (p : List ℕ). Converts new (plainForm text v) lent level (answer 0 (length (plainForm text v)) (length p)) (p ++ drop (length p) lent)) (x .again)
-            (told (read (new .nodes) m) (written (subst (λ (p : List ℕ). length p ≤ length lent) (sym (x .again)) g)));
+            let y = again-by (old .limits) old (omega arith) l text v a in
+            subst (λ (p : List ℕ). Converts old (plainForm text v) lent level (answer 0 (length (plainForm text v)) (length p)) (p ++ drop (length p) lent)) (y .again)
+            (told (answered-by (old .limits) old (omega arith) l text v a level o m (old .nodes) k) (written (subst (λ (p : List ℕ). length p ≤ length lent) (sym (y .again)) g)));
       }
 
   pub converted-back : {lent left : List ℕ} {r : Answer} → Converts old text lent level r left → r .number ≡ 0 → r .count ≤ new .text →

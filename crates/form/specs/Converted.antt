@@ -25,6 +25,6 @@ pub record Converted (old new : Rules) (text : List ℕ) (level : ℕ) (out : Li
       (tableWords (table other) ++ drop (nodeWords * length (table tree)) lent)
   -- the same nodes but for what request 5 excepts
   pub same-nodes : map unspelled (table other) ≡ map unspelled (table (turn tree))
-  -- and is left as it is where it is converted again
-  pub again : (lent : List ℕ) → length (table tree) ≤ new .nodes → length out ≤ length lent →
-      Converts new out lent level (answer 0 (length out) (length out)) (out ++ drop (length out) lent)
+  -- and the same call gives it again, byte for byte, into whichever buffer it fits
+  pub again : (lent : List ℕ) → length out ≤ old .text → length out ≤ length lent →
+      Converts old out lent level (answer 0 (length out) (length out)) (out ++ drop (length out) lent)
