@@ -14,7 +14,7 @@ use Rattle.rules.specs.Plain.{between}
 use Rattle.rules.proofs.Plain.{plain, row-matches}
 use Rattle.rules.proofs.Matches.{row-end}
 use Rattle.rules.proofs.Bools.{clash}
-use Rattle.rules.proofs.Every.{every-append}
+use Rattle.rules.proofs.Every.{every-first, every-append}
 use Rattle.lexicon.specs.declared.Sign.the-variants as Sign
 use Rattle.lexicon.specs.declared.Kind.{Kind}
 use Rattle.lexicon.specs.declared.Kind.the-variants as Kind
@@ -38,17 +38,13 @@ use Rattle.reading.specs.Tests.{test, First}
 use Rattle.reading.specs.Faults.{NewerAt, Retired, TooDeep, tests, Fault, noToken, wrongEnd, atToken, Passed, begun, passed, FirstFault, AllPassed}
 use Rattle.reading.specs.Answers.{LevelOf, answer, Accepted, Reading, Answers, noLevel, tooLong, notUtf8, faulty, noRoom, accepted}
 use Rattle.reading.specs.Arrow.{IsArrow, NoArrows, FirstArrow, Retirement}
-use Rattle.reading.proofs.Tests.{None, no-test, all-fail, behind as others, no-number, Alike, first-alike, none-alike}
-use Rattle.reading.proofs.Rows.{Order, equal, less, more, order, one-row, row-beyond}
+use Rattle.reading.proofs.Tests.{None, no-test, all-fail, behind as others, no-number, Alike, alike-back, first-alike, none-alike}
+use Rattle.reading.proofs.Rows.{Order, equal, less, more, order, one-row, row-beyond, every-part}
 use Rattle.reading.proofs.First.{follows, start, went, fault-later}
 use Rattle.reading.proofs.Decide.{arrow-read, faultless}
 use Rattle.reading.proofs.Stands.{mayBegin, not-by-class}
 use Rattle.reading.proofs.At.{mayBeBad, class-kind, never-bad, openFrom-one}
 use Rattle.reading.proofs.Unique.{one-level, one-answer, one-reading}
-
-before-last : {P : Tok → Type 0} (xs : List Tok) (x : Tok) → Every P (xs ++ (x ∷ [])) → Every P xs × P x
-before-last [] x (also p e) = (none, p)
-before-last (y ∷ xs) x (also p e) = let z = before-last xs x e in (also p (z .0), z .1)
 
 module _ (limits : Limits) (l : Level) (bytes : List ℕ) where
   -- the same, but that the arrow may be read
@@ -78,24 +74,6 @@ module _ (limits : Limits) (l : Level) (bytes : List ℕ) where
         (λ r. absurd (n r)),
         (λ r. absurd (arrow-read t refl r)),
         (refl, (λ x. x), (λ x. x), (refl, deep-old t, deep-new t, tt)),
-      ),
-    ),
-  )
-
-  alike-back : (ts : List Tok) (t : Token.Token) → (Retired limits t → ⊥) → Alike (tests old l bytes ts t) (tests limits l bytes ts t)
-  alike-back ts t n = (
-    refl,
-    (λ x. x),
-    (λ x. x),
-    (
-      refl,
-      (λ x. x),
-      (λ x. x),
-      (
-        refl,
-        (λ r. absurd (arrow-read t refl r)),
-        (λ r. absurd (n r)),
-        (refl, (λ x. x), (λ x. x), (refl, deep-new t, deep-old t, tt)),
       ),
     ),
   )
@@ -142,11 +120,12 @@ module _ (limits : Limits) (l : Level) (bytes : List ℕ) where
   passed-new : {p : ℕ} {ts : List Tok} → Passed old l bytes ts p → Every (λ t. IsArrow t → ⊥) ts → Passed limits l bytes ts p
   passed-new (begun f) a = begun f
   passed-new (passed {ts = ts} {t = t} g c k) a =
-      let b = before-last ts (seen t) a in
+      let b = every-part ts (seen t ∷ []) a in
       let before = tests old l bytes ts t in
+      let now = tests limits l bytes ts t in
       let clean : None before = all-fail before (λ m y. k m (t .first) (atToken c y)) in
       passed (passed-new g (b .0)) c
-      (λ n q f. faultless bytes limits l c (none-alike before (tests limits l bytes ts t) (alike-back ts t (λ r. b .1 (r .arrow))) clean) n q f)
+      (λ n q f. faultless bytes limits l c (none-alike before now (alike-back now before (alike ts t (λ r. every-first (b .1) (r .arrow)))) clean) n q f)
 
   -- ---- the first fault
 

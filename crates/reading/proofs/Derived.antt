@@ -6,7 +6,7 @@ use Prim.Native.Nat.{ℕ, _≤_}
 use native.Mathlib.Omega.{arith}
 use lib.ListN.{length, length-append}
 use Rattle.rules.specs.Every.{Every, none, also}
-use Rattle.rules.proofs.Bools.{clash}
+use Rattle.rules.proofs.Every.{every-first}
 use Rattle.lexicon.specs.declared.Token as Token
 use Rattle.lexicon.specs.declared.Next.the-variants as Next
 use Rattle.lexicon.specs.Front.{Front}
@@ -26,7 +26,7 @@ use Rattle.reading.specs.Derived.{readable, allowed, Derived}
 use Rattle.reading.specs.Answers.{Accepted}
 use Rattle.reading.specs.Arrow.{IsArrow, NoArrows}
 use Rattle.reading.proofs.Tests.{None, all-fail}
-use Rattle.reading.proofs.Rows.{Order, equal, less, more, order, pick, no-end, append, one-row}
+use Rattle.reading.proofs.Rows.{Order, equal, less, more, order, pick, no-end, append, one-row, every-part}
 use Rattle.reading.proofs.First.{follows, start, went}
 use Rattle.reading.proofs.Decide.{faultless}
 use Rattle.reading.proofs.Unique.{one-tree}
@@ -56,11 +56,6 @@ level-keeps limits l v k = by (limits .arrow) k
 -- where the arrow is retired, it is not among them
 no-arrows : (limits : Limits) (l : Level) (v : Value) → limits .arrow ≡ false → keeps (allowed limits l) v ≡ true → Every NoArrow (yieldValue v [])
 no-arrows limits l v e k = yieldsNoArrow l v (subst (λ (b : Bool). keeps (readable b l) v ≡ true) e k)
-
--- the one in the middle
-amid : {P : Tok → Type 0} (xs : List Tok) (x : Tok) (ys : List Tok) → Every P (xs ++ (x ∷ ys)) → P x
-amid [] x ys (also p q) = p
-amid (y ∷ xs) x ys (also p q) = amid xs x ys q
 
 module _ (limits : Limits) (l : Level) (bytes : List ℕ) (v : Value) where
   -- ---- a derived text is accepted
@@ -96,7 +91,8 @@ module _ (limits : Limits) (l : Level) (bytes : List ℕ) (v : Value) where
         not-wrong w = w .none (begins [] ts refl)
 
         not-retired : Retired limits t → ⊥
-        not-retired r = amid {P = NoArrow} xs (seen t) ts (subst (Every NoArrow) (sym e) (no-arrows limits l v (r .retired) (d .of-level))) (r .arrow)
+        not-retired r =
+            every-first (every-part xs (seen t ∷ ts) (subst (Every NoArrow) (sym e) (no-arrows limits l v (r .retired) (d .of-level))) .1) (r .arrow)
 
         not-deep : TooDeep limits xs t → ⊥
         not-deep h = omega (arith, h .beyond, d .shallow (xs ++ (seen t ∷ [])) ts (append-assoc xs (seen t ∷ []) ts ∙ e))
@@ -220,5 +216,5 @@ derived-arrowless limits bytes {l} {v} e d = record { none = λ {start} {p} {bef
     by start p before t f g c =
         let from = subst (λ (x : ℕ). Follow bytes x before p) (one-front bytes f (d .front)) g in
         let o = within bytes (append bytes from (next c nothing)) (d .row) (d .at-end) in
-        amid {P = NoArrow} before (seen t) (o .0)
-        (subst (Every NoArrow) (sym (o .1) ∙ append-assoc before (seen t ∷ []) (o .0)) (no-arrows limits l v e (d .of-level)))
+        every-first (every-part before (seen t ∷ o .0)
+        (subst (Every NoArrow) (sym (o .1) ∙ append-assoc before (seen t ∷ []) (o .0)) (no-arrows limits l v e (d .of-level))) .1)

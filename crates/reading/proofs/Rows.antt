@@ -4,6 +4,7 @@ use mathlib.Core.List.{List, [], _∷_, _++_}
 use Prim.Native.Nat.{ℕ, zero, suc, _≤_, _<_}
 use native.Mathlib.Omega.{arith}
 use lib.ListN.{length}
+use Rattle.rules.specs.Every.{Every, none, also}
 use Rattle.rules.proofs.Matches.{forward}
 use Rattle.lexicon.specs.declared.Token as Token
 use Rattle.lexicon.specs.declared.Next.{Next}
@@ -13,6 +14,11 @@ use Rattle.lexicon.proofs.Unique.{token-forward}
 use Rattle.lexicon.proofs.Determined.{one-answer}
 use Rattle.grammar.specs.Tokens.{Tok}
 use Rattle.reading.specs.Tokens.{seen, Follow, nothing, next}
+
+-- what every token of a row has, every one of each part has
+pub every-part : {P : Tok → Type 0} (xs ys : List Tok) → Every P (xs ++ ys) → Every P xs × Every P ys
+every-part [] ys e = (none, e)
+every-part (x ∷ xs) ys (also p e) = let z = every-part xs ys e in (also p (z .0), z .1)
 
 -- ---- numbers in their order
 

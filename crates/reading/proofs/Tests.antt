@@ -57,6 +57,12 @@ pub same : (ts : List Test) → Alike ts ts
 same [] = tt
 same (t ∷ ts) = (refl, (λ x. x), (λ x. x), same ts)
 
+pub alike-back : (ss ts : List Test) → Alike ss ts → Alike ts ss
+alike-back [] [] a = tt
+alike-back [] (t ∷ ts) a = absurd a
+alike-back (s ∷ ss) [] a = absurd a
+alike-back (s ∷ ss) (t ∷ ts) a = (sym (a .0), a .2, a .1, alike-back ss ts (a .3))
+
 pub first-alike : (ss ts : List Test) (n : ℕ) → Alike ss ts → First ss n → First ts n
 first-alike [] [] n a f = f
 first-alike [] (t ∷ ts) n a f = absurd a
