@@ -310,7 +310,7 @@ uint32_t muon_file_write(const uint8_t *text, size_t text_len, uint8_t *buffer, 
 
    So the text is read by the rules of before, and a file that was stored of a text with an arrow is accepted as ever: with the file 46 4E
    54 00 01 00 03 00 06 00 09 00 00 00 06 00 00 00 00 00 00 00 07 00 01 00 02 00 00 00 03 00 02 00 07 00 04 00 05 00 00 00 01 00 02,
-   `(b<-a)` is accepted. Of a text without an arrow it takes exactly what muon_file_write gives.
+   `(b<-a)` is accepted. Of a text without an arrow it takes exactly what muon_file_write gives (proved, too: `stored-alike`).
 
    The file tells what was read, and not the text's bytes. A text with other bytes, but of the same length and with the same nodes, has the
    same file: `x` has the file 46 4E 54 00 01 00 01 00 01 00 07 00 00 00 01 00 00 00 00 00 02, and so `y` has the file 46 4E 54 00 01 00 01

@@ -23,12 +23,14 @@ use Rattle.reading.specs.Arrow.{NoArrows}
 use Rattle.reading.proofs.Numbers.{refused-number, fault-number}
 use Rattle.reading.proofs.Derived.{accepted-derived, derived-arrowless}
 use Rattle.reading.specs.Buffer as Buffer
-use Rattle.reading.proofs.Arrow.{reading-old, old-fifteen}
+use Rattle.reading.proofs.Unique.{one-reading}
+use Rattle.reading.proofs.Arrow.{reading-old, old-fifteen, never-fifteen}
 use Rattle.files.specs.Writes as Writes
 use Rattle.files.specs.Writes.{Writes}
 use Rattle.form.specs.Turn.{turn}
 use Rattle.form.specs.Writes.{Converts, refused, told}
 use Rattle.form.proofs.Turned.{turned}
+use Rattle.demands.proofs.Exists.{some-reading}
 
 -- ---- roles
 
@@ -86,6 +88,13 @@ module _ (rules : Rules) (text : List ℕ) where
 
   pub read-old : {room number : ℕ} {r : Answer} {v : Value} → Reading rules text room number r (some v) → Reading (withArrow rules) text room number r (some v)
   read-old (accepted l h w a m) = reading-old rules text (accepted l h w a m) (λ e. omega (arith, e))
+
+  -- of a text without an arrow the old reading is today's
+  pub read-new : NoArrows text → {room number : ℕ} {r : Answer} {t : Option Value} → Reading (withArrow rules) text room number r t → Reading rules text room number r t
+  read-new n {room} {number} {r} {t} x =
+      let y = some-reading rules text room number in
+      let o = one-reading (withArrow rules) text (reading-old rules text (y .2) (never-fifteen rules text n (y .2))) x in
+      subst (λ (s : Answer). Reading rules text room number s t) (o .0) (subst (λ (u : Option Value). Reading rules text room number (y .0) u) (o .1) (y .2))
 
   -- a reading is never 14
   pub never-14 : {room number : ℕ} {r : Answer} {t : Option Value} → Reading rules text room number r t → r .number ≡ 14 → ⊥

@@ -43,7 +43,7 @@ use Rattle.form.proofs.Rereads.{reread-at}
 use Rattle.form.proofs.Spellable as Spellable
 use Rattle.demands.specs.Requests.{OneTest, PlainSteps, SameRefusal, SameRefusals, Padding, OneFive, FiveInside, OneWrite, OneCheck, TextUnseen, AcceptsExactly, WrittenAccepted, RoomEnough, OneFile, SixteenBits, SameNumbers, AsRead}
 use Rattle.demands.specs.Requests.{OneJudgement, ChangedTable, OnePlain, NothingWritten, PlainRoom, WrittenReadsBack, AlsoWithoutArrow, EndsAlike, EveryRowSpelled}
-use Rattle.demands.specs.Requests.{ArrowRetired, NothingChanged, NoSuchBytes, OldOrder, NoneAccepted, NoRole3, InOrder, NothingNew, OneConversion, NeitherNumber, NothingConverted, ConvertedRoom, ConvertedReadsBack, ConvertedAlike, ConvertedAsWritten}
+use Rattle.demands.specs.Requests.{ArrowRetired, NothingChanged, NoSuchBytes, OldOrder, NoneAccepted, NoRole3, InOrder, NothingNew, StoredAlike, OneConversion, NeitherNumber, NothingConverted, ConvertedRoom, ConvertedReadsBack, ConvertedAlike, ConvertedAsWritten}
 use Rattle.demands.proofs.Exists.{some-reading}
 use Rattle.demands.proofs.Higher.{at-level-2}
 use Rattle.demands.proofs.Blobs.{from-reader, from-call, inside}
@@ -51,7 +51,7 @@ use Rattle.demands.proofs.Plain.{by-reading, reader-own, written-back}
 use Rattle.demands.proofs.Alike as Alike
 use Rattle.demands.proofs.Alike.{written-alike}
 use Rattle.demands.proofs.Arrow as Retired
-use Rattle.demands.proofs.Arrow.{no-arrows, unturned, answers-old, writes-old, stored-arrowless, converted-14, converted-15}
+use Rattle.demands.proofs.Arrow.{no-arrows, unturned, answers-old, read-new, writes-old, stored-arrowless, converted-14, converted-15}
 
 -- ---- 2. The steps of the UTF-8 test
 
@@ -246,6 +246,14 @@ in-order rules text words level out a x = x .same-nodes ∙ ap (λ (v : Value). 
 
 pub nothing-new : NothingNew
 nothing-new rules text lent left r a w e = stored-arrowless rules text a w e
+
+pub stored-alike : StoredAlike
+stored-alike rules text bytes r n c = (
+  λ e.
+      let s = Exactly.accepted-stored (withArrow rules) text c e in
+      Exactly.stored-produced rules text (record { read-as = s .read-as; tree = s .tree; read = read-new rules text n (s .read); bytes-are = s .bytes-are }),
+  λ p. Exactly.produced-accepted (withArrow rules) text (writes-old rules text (p bytes (omega arith)) (λ i. omega (arith, i))) c,
+)
 
 pub one-conversion : OneConversion
 one-conversion rules text lent level =

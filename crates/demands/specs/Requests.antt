@@ -354,6 +354,12 @@ NothingNew =
     (rules : Rules) (text lent left : List ℕ) (r : Answer) → rules .limits .arrow ≡ false →
     Writes rules text lent r left → r .number ≡ 0 → NoArrows text
 
+-- and for a text without an arrow the checker accepts exactly what the writer gives today: `stored-alike`
+abbrev pub StoredAlike : Type 0
+StoredAlike =
+    (rules : Rules) (text bytes : List ℕ) (r : Answer) → NoArrows text → Checks (withArrow rules) text bytes r →
+    (r .number ≡ 0 → Produces rules text bytes) × (Produces rules text bytes → r .number ≡ 0)
+
 -- the converter has an answer for every level number, text and buffer, and no other: `one-conversion`
 abbrev pub OneConversion : Type 0
 OneConversion =
