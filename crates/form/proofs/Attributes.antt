@@ -14,7 +14,7 @@ use Rattle.grammar.specs.Nodes
 use Rattle.grammar.specs.Nodes.{Role, roleNumber, aloneRole, joinerLeft, joinerRight}
 use Rattle.form.specs.Spell
 use Rattle.form.specs.Spell.{Spelt, spellRow, afterOne}
-use Rattle.form.proofs.Branches.{Branch, Branches, none, more, grow, growPlainName, growName, growCount, growItem, growRow}
+use Rattle.grammar.proofs.Branches.{Branch, Branches, none, more, grow, growPlainName, growName, growCount, growItem, growRow}
 use Rattle.form.proofs.Walk.{roleOf, oneAttribute}
 use Rattle.form.proofs.Puts.{puts-one, puts-both, puts-as}
 use Rattle.form.proofs.Roles.{value-role, plain-name-role, name-role}

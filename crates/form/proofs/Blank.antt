@@ -7,8 +7,8 @@ use Rattle.grammar.specs.Tree.{Measure, Count, PlainName, textName, nestingName
 use Rattle.grammar.specs.Nodes
 use Rattle.grammar.specs.Nodes.{Node, Role, table}
 use Rattle.form.specs.Turn.{nowhere, otherDetail, unspelled, turn}
-use Rattle.form.proofs.Branches.{Branch, Branches, branch, none, flat, grow, growPlain, growName, growPlainName, growCount, growItem, growRow, growListing, growAttributes}
-use Rattle.form.proofs.Flat.{table-flat}
+use Rattle.grammar.proofs.Branches.{Branch, Branches, branch, none, flat, grow, growPlain, growName, growPlainName, growCount, growItem, growRow, growListing, growAttributes}
+use Rattle.grammar.proofs.Flat.{table-flat}
 use Rattle.form.proofs.Reshape.{blank, blankPlain, blankItem, blankRow, blankListing, blankAttributes, blankName, blankPlainName, blankCount}
 use Rattle.form.proofs.Normal.{norm}
 use Rattle.form.proofs.Grown.{bleach, bleaches, both}

@@ -13,7 +13,7 @@ use Rattle.grammar.specs.Yield.{collectionHead}
 use Rattle.grammar.specs.Nodes
 use Rattle.grammar.specs.Nodes.{NodeKind, Role, kindNumber, joinerLeft, joinerRight, collectionKind}
 use Rattle.form.specs.Spell.{Spelt, put, sign, joiner}
-use Rattle.form.proofs.Branches.{Branch, branch, Branches, none, more}
+use Rattle.grammar.proofs.Branches.{Branch, branch, Branches, none, more}
 use Rattle.form.proofs.Walk.{opening, closing, tail, Listed, noMore, bracket}
 use Rattle.form.proofs.Puts.{Puts, puts-none, puts-one, puts-both, puts-as}
 use Rattle.form.proofs.Ends.{Said}

@@ -9,8 +9,8 @@ use Rattle.grammar.specs.Tree.{rightward, leftward, Style, Value, Plain, Item, 
 use Rattle.grammar.specs.Nodes
 use Rattle.grammar.specs.Nodes.{Role, table}
 use Rattle.form.specs.Turn.{unspelled, turn, turnPlain, turnItem, turnRow, turnListing, turnAttributes, turnBounds}
-use Rattle.form.proofs.Branches.{Branch, Branches, branch, none, more, flat, flats, grow, growPlain, growItem, growRow, growListing, growAttributes, growBounds}
-use Rattle.form.proofs.Flat.{table-flat}
+use Rattle.grammar.proofs.Branches.{Branch, Branches, branch, none, more, flat, flats, grow, growPlain, growItem, growRow, growListing, growAttributes, growBounds}
+use Rattle.grammar.proofs.Flat.{table-flat}
 use Rattle.form.proofs.Tables.{long}
 
 abbrev mutual

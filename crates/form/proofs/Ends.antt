@@ -26,7 +26,7 @@ use Rattle.reading.proofs.At.{kindOf, class-kind}
 use Rattle.reading.proofs.Rows.{comes-forward}
 use Rattle.form.specs.Bare.{bare}
 use Rattle.form.specs.Spell.{Spelt, put, part, spellWording, spellNames}
-use Rattle.form.proofs.Branches.{Branch, end}
+use Rattle.grammar.proofs.Branches.{Branch, end}
 use Rattle.form.proofs.Walk
 use Rattle.form.proofs.Walk.{Spelled, asQuoted, asWord, asHead, asCode, NameToken, Named, ended, further, colons, Leaf, Walked, leaf}
 use Rattle.form.proofs.Puts.{Puts, puts-none, puts-one, puts-both}

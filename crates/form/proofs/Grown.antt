@@ -6,7 +6,7 @@ use Rattle.grammar.specs.Tree.{PlainName, textName, nestingName, Name, plainNam
 use Rattle.grammar.specs.Nodes
 use Rattle.grammar.specs.Nodes.{Role}
 use Rattle.form.specs.Turn.{nowhere, otherDetail, turn, turnPlain, turnItem, turnRow, turnListing, turnAttributes, turnBounds}
-use Rattle.form.proofs.Branches.{Branch, Branches, branch, none, more, grow, growPlain, growName, growPlainName, growItem, growRow, growListing, growAttributes}
+use Rattle.grammar.proofs.Branches.{Branch, Branches, branch, none, more, grow, growPlain, growName, growPlainName, growItem, growRow, growListing, growAttributes}
 use Rattle.form.proofs.Normal.{normPlainName, normName, opened, closed, closedTuple, norm, normPlain, normItem, normRow, normListing, normAttributes, normBounds}
 
 abbrev mutual

@@ -13,7 +13,7 @@ use Rattle.grammar.specs.Yield.{betweenMark, sideBound}
 use Rattle.grammar.specs.Nodes
 use Rattle.grammar.specs.Nodes.{roleNumber, betweenDetail, boundsDetail}
 use Rattle.form.specs.Spell.{Spelt, markBytes, sign}
-use Rattle.form.proofs.Branches.{Branch, Branches, none, more}
+use Rattle.grammar.proofs.Branches.{Branch, Branches, none, more}
 use Rattle.form.proofs.Walk.{signBytes, tail, noMore}
 use Rattle.form.proofs.Puts.{puts-none, puts-one, puts-both, puts-as}
 use Rattle.form.proofs.Members.{Child, child-as}

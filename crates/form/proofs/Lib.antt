@@ -26,8 +26,6 @@ pub mod Alone
 pub mod Reshape
 pub mod Normal
 pub mod Classes
-pub mod Branches
-pub mod Flat
 pub mod Grown
 pub mod Tables
 pub mod Blank

@@ -15,7 +15,7 @@ use Rattle.grammar.specs.Nodes
 use Rattle.grammar.specs.Nodes.{Role, roleNumber, aloneRole, joinerLeft, joinerRight}
 use Rattle.form.specs.Spell
 use Rattle.form.specs.Spell.{Spelt, sign, joiner}
-use Rattle.form.proofs.Branches.{Branch, Branches, none, more}
+use Rattle.grammar.proofs.Branches.{Branch, Branches, none, more}
 use Rattle.form.proofs.Walk.{roleOf, Listed, noMore, comma, lead, child, turned}
 use Rattle.form.proofs.Puts.{Puts, puts-none, puts-one, puts-both}
 use Rattle.form.proofs.Ends.{Said}

@@ -4,7 +4,7 @@ use Rattle.grammar.specs.Tree
 use Rattle.grammar.specs.Tree.{PlainName, textName, nestingName, Name, plainName, bareName, Measure, Count, Value, Plain}
 use Rattle.grammar.specs.Nodes
 use Rattle.grammar.specs.Nodes.{Role}
-use Rattle.form.proofs.Branches.{grow, growPlain, growPlainName, growName, growCount}
+use Rattle.grammar.proofs.Branches.{grow, growPlain, growPlainName, growName, growCount}
 use Rattle.form.proofs.Walk.{roleOf}
 
 mutual

@@ -8,8 +8,8 @@ use Rattle.grammar.specs.Tree.{Value}
 use Rattle.grammar.specs.Nodes
 use Rattle.grammar.specs.Nodes.{Node, NodeKind, Role, nodes}
 use Rattle.form.specs.Turn.{otherDetail, unspelled, turn}
-use Rattle.form.proofs.Branches.{Branch, Branches, branch, none, more, flat, flats, grow}
-use Rattle.form.proofs.Flat.{flat-value}
+use Rattle.grammar.proofs.Branches.{Branch, Branches, branch, none, more, flat, flats, grow}
+use Rattle.grammar.proofs.Flat.{flat-value}
 use Rattle.form.proofs.Normal.{norm}
 use Rattle.form.proofs.Grown.{bleach, bleaches, value-grown}
 
@@ -36,7 +36,9 @@ long a b e = sym (length-map a unspelled) ∙ ap length e ∙ length-map b unspe
 
 mutual
   pub flat-same : (b : Branch) (p n : ℕ) → map unspelled (flat b p n) ≡ map unspelled (flat (bleach b) p n)
-  flat-same (branch k s r d bs) p n = cc (sym (twice k d), flats-same bs n (n + 1))
+  flat-same (branch k s r d bs) p n =
+      let e = flats-same bs n (n + 1) in
+      cc (sym (twice k d), long (flats bs n (n + 1)) (flats (bleaches bs) n (n + 1)) e, e)
 
   flats-same : (bs : Branches) (p n : ℕ) → map unspelled (flats bs p n) ≡ map unspelled (flats (bleaches bs) p n)
   flats-same none p n = refl

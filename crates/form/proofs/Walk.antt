@@ -19,7 +19,7 @@ use Rattle.grammar.specs.Nodes
 use Rattle.grammar.specs.Nodes.{NodeKind, Role, kindNumber, roleNumber}
 use Rattle.form.specs.Bare.{bare}
 use Rattle.form.specs.Spell.{quotedBytes, part}
-use Rattle.form.proofs.Branches.{Branch, branch, Branches, none, more}
+use Rattle.grammar.proofs.Branches.{Branch, branch, Branches, none, more}
 
 -- ---- brackets
 

@@ -21,7 +21,7 @@ use Rattle.reading.specs.Answers.{Accepted}
 use Rattle.reading.proofs.Derived.{accepted-derived}
 use Rattle.form.specs.Bare.{bare}
 use Rattle.form.specs.Spell.{Spelt, put, part, spell, spellPlain, spellPlainName, spellName, spellNames, spellCount, spellWording, spellItem, spellRow, spellListing, spellAttributes, spellBounds, plainForm}
-use Rattle.form.proofs.Branches.{Branch, none, end, grow, growPlain, growPlainName, growName, growCount, growItem, growRow, growListing, growAttributes, growBounds}
+use Rattle.grammar.proofs.Branches.{Branch, none, end, grow, growPlain, growPlainName, growName, growCount, growItem, growRow, growListing, growAttributes, growBounds}
 use Rattle.form.proofs.Walk.{Walked, noMore}
 use Rattle.form.proofs.Puts.{puts-none, puts-one}
 use Rattle.form.proofs.Ends.{Said, first-token, literal-said, wordingDetail, text-said, nesting-said}

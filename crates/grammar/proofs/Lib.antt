@@ -15,7 +15,11 @@ pub mod SameSteps
 pub mod Levels
 pub mod FirstNewer
 pub mod Compared
+pub mod Branches
+pub mod Flat
 pub mod NodeLaws
+pub mod Stretches
+pub mod Forest
 pub mod Nodes
 pub mod Retired
 pub mod Bounds

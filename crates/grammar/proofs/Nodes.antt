@@ -131,8 +131,8 @@ module _ (P : Tok → Type 0) where
         }) none
 
     -- a Nesting, or what stands in brackets, before its children
-    from-to : {k : NodeKind} {a b : Class} {s t : Span} {p d : ℕ} {r : Role} → isLiteral k ≡ false → P (tok a s) → P (tok b t) → p < size → Told r → d ≤ 11 →
-        Made size (record { kind = k; at = over s t; parent = p; role = r; detail = d })
+    from-to : {k : NodeKind} {a b : Class} {s t : Span} {p d m : ℕ} {r : Role} → isLiteral k ≡ false → P (tok a s) → P (tok b t) → p < size → Told r → d ≤ 11 →
+        Made size (record { kind = k; at = over s t; parent = p; role = r; detail = d; stretch = m })
     from-to {s = s} {t} f x y h o e =
         record {
           opening = tok _ s;

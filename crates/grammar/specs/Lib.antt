@@ -5,4 +5,5 @@ pub mod Yield
 pub mod Level
 pub mod Place
 pub mod Nodes
+pub mod Stretches
 pub mod Leaves

@@ -1,8 +1,9 @@
--- The nodes of a derivation: 01, 'The node table'. Parent first, children in source order. Assumes nothing.
+-- The nodes of a derivation: 01, 'The node table', with the seventh word of 02's request 7. Parent first, children in
+-- source order. Assumes nothing.
 use mathlib.Core.Bool.{Bool, true, false}
 use mathlib.Core.List.{List, [], _∷_, _++_}
-use Prim.Native.Nat.{ℕ, _+_}
-use lib.ListN.{length}
+use Prim.Native.Nat.{ℕ, _+_, _*_}
+use lib.ListN.{length, getD}
 use Rattle.grammar.specs.Tokens
 use Rattle.grammar.specs.Tokens.{Span, Atom, Spelling, quoted, word, codePoint}
 use Rattle.grammar.specs.Tree
@@ -24,6 +25,8 @@ pub record Node : Type 0 where
   pub parent : ℕ
   pub role : Role
   pub detail : ℕ
+  -- how many nodes it is with all its descendants, which stand right behind it
+  pub stretch : ℕ
 
 -- the numbers of the paper
 abbrev pub kindNumber : NodeKind → ℕ
@@ -55,17 +58,38 @@ roleNumber low = 7
 roleNumber high = 8
 roleNumber single = 9
 
--- kind, first byte, byte after the last, parent's index, role, detail
-abbrev pub words : Node → List ℕ
-words n = kindNumber (n .kind) ∷ n .at .first ∷ n .at .end ∷ n .parent ∷ roleNumber (n .role) ∷ n .detail ∷ []
+-- of the node at index i: kind, first byte, byte after the last, parent's index, role, detail, and 'the index just past
+-- its last descendant, or past itself if it has none'
+abbrev pub words : ℕ → Node → List ℕ
+words i n =
+    kindNumber (n .kind) ∷ n .at .first ∷ n .at .end ∷ n .parent ∷ roleNumber (n .role) ∷ n .detail ∷ (i + n .stretch)
+    ∷ []
 
 -- how many words a node has
 abbrev pub nodeWords : ℕ
-nodeWords = 6
+nodeWords = 7
+
+-- which of them, counted from 0, tells its parent's index, its role, and the index just past its last descendant
+abbrev pub parentWord : ℕ
+parentWord = 3
+
+abbrev pub roleWord : ℕ
+roleWord = 4
+
+abbrev pub skipWord : ℕ
+skipWord = 6
+
+-- word k of the node at index i of a table
+abbrev pub wordAt : List ℕ → ℕ → ℕ → ℕ
+wordAt t i k = getD t (i * nodeWords + k) 0
+
+-- of nodes one behind the other, the first of them at index i
+abbrev pub wordsFrom : ℕ → List Node → List ℕ
+wordsFrom i [] = []
+wordsFrom i (n ∷ ns) = words i n ++ wordsFrom (i + 1) ns
 
 abbrev pub tableWords : List Node → List ℕ
-tableWords [] = []
-tableWords (n ∷ ns) = words n ++ tableWords ns
+tableWords ns = wordsFrom 0 ns
 
 -- ---- what a literal's node tells
 
@@ -137,10 +161,10 @@ namesSpan (moreNames n s w t) = over (namesStart n) t
 
 -- a node without children, and one with
 abbrev pub leaf : NodeKind → Span → ℕ → Role → ℕ → List Node
-leaf k s p r d = record { kind = k; at = s; parent = p; role = r; detail = d } ∷ []
+leaf k s p r d = record { kind = k; at = s; parent = p; role = r; detail = d; stretch = 1 } ∷ []
 
 abbrev pub branch : NodeKind → Span → ℕ → Role → ℕ → List Node → List Node
-branch k s p r d ns = record { kind = k; at = s; parent = p; role = r; detail = d } ∷ ns
+branch k s p r d ns = record { kind = k; at = s; parent = p; role = r; detail = d; stretch = 1 + length ns } ∷ ns
 
 -- one group of nodes and the next, each given the index at which it begins
 abbrev pub both : (ℕ → List Node) → (ℕ → List Node) → ℕ → List Node

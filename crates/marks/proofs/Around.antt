@@ -9,7 +9,7 @@ use Rattle.rules.specs.Class.{codes}
 use Rattle.rules.proofs.Choices.{chosen, passed-by}
 use Rattle.grammar.specs.Nodes
 use Rattle.grammar.specs.Nodes.{NodeKind, Role, kindNumber, roleNumber}
-use Rattle.form.proofs.Branches.{Branch, Branches, none, more}
+use Rattle.grammar.proofs.Branches.{Branch, Branches, none, more}
 use Rattle.form.proofs.Walk.{opening, closing, lead, tail, roleOf, oneAttribute}
 use Rattle.marks.specs.declared.Attributes.{Attributes}
 use Rattle.marks.specs.declared.Attributes.the-variants as Attributes

@@ -16,7 +16,7 @@ use Rattle.grammar.specs.Nodes.{NodeKind, Node, nodes, nodesListing, kindNumber
 use Rattle.grammar.proofs.Frames as Frames
 use Rattle.grammar.proofs.Frames.{Config, want, have, wantClose, Stack, Closing}
 use Rattle.grammar.proofs.Machine.{step}
-use Rattle.grammar.proofs.NodeLaws.{some-node-plain}
+use Rattle.grammar.proofs.NodeLaws.{some-node}
 use Rattle.moves.specs.declared.Role.{Role}
 use Rattle.moves.specs.declared.Role.the-variants as Role
 use Rattle.moves.specs.declared.Shape.the-variants as Shape
@@ -52,7 +52,7 @@ pub paired-held : {l : Level} {c : Config} {t : Tok} → Paired l c t → held c
 paired-held p = ap held (p .config-is)
 
 pub paired-named : {l : Level} {c : Config} {t : Tok} → Paired l c t → (i : ℕ) → 1 ≤ length (before c i)
-paired-named p i = subst (λ (x : Config). 1 ≤ length (before x i)) (sym (p .config-is)) (some-node-plain (p .name) i Nodes.this (i + 1))
+paired-named p i = subst (λ (x : Config). 1 ≤ length (before x i)) (sym (p .config-is)) (some-node (Tree.plain (p .name)) i Nodes.this (i + 1))
 
 -- where a value was just read any role may be told
 pub anyRole : (r : Role) → true ≡ false → r ≡ Role.Root

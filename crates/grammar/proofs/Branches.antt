@@ -19,7 +19,7 @@ mutual
 abbrev mutual
   -- the nodes of a branch under the parent p, the first at index n
   pub flat : Branch → ℕ → ℕ → List Node
-  flat (branch k s r d bs) p n = record { kind = k; at = s; parent = p; role = r; detail = d } ∷ flats bs n (n + 1)
+  flat (branch k s r d bs) p n = Nodes.branch k s p r d (flats bs n (n + 1))
 
   pub flats : Branches → ℕ → ℕ → List Node
   flats none p n = []

@@ -4,12 +4,12 @@ use mathlib.Core.List.{List, [], _∷_, _++_, append-assoc, append-nil}
 use Prim.Native.Nat.{ℕ, _+_}
 use native.Mathlib.Nat.{add-assoc, add-zero}
 use lib.ListN.{length, length-append}
 use Rattle.grammar.specs.Tree
 use Rattle.grammar.specs.Tree.{PlainName, Name, Measure, Count, Style, Value, Plain, Item, Row, Listing, Attributes, Bounds, textName, nestingName, plainName, bareName}
 use Rattle.grammar.specs.Nodes
 use Rattle.grammar.specs.Nodes.{Node, NodeKind, Role, both, nodes, nodesPlain, nodesItem, nodesRow, nodesListing, nodesAttributes, nodesBounds, nodesPlainName, nodesName, nodesCount, table}
 use Rattle.grammar.specs.Tokens.{Span}
-use Rattle.form.proofs.Branches.{Branch, branch, Branches, none, more, flat, flats, grow, growPlain, growItem, growRow, growListing, growAttributes, growBounds, growPlainName, growName, growCount}
+use Rattle.grammar.proofs.Branches.{Branch, branch, Branches, none, more, flat, flats, grow, growPlain, growItem, growRow, growListing, growAttributes, growBounds, growPlainName, growName, growCount}
 
 -- nodes in front of further ones
 abbrev Front : (ℕ → List Node) → Branches → Branches → ℕ → Type 0
@@ -34,12 +34,9 @@ one-each : (f g : ℕ → List Node) (a b : Branch) (bs : Branches) (p : ℕ) �
 one-each f g a b bs p x y = two f g (more a (more b bs)) (more b bs) bs p (one f a (more b bs) p x) (one g b bs p y)
 
 -- a node and what stands under it
-abbrev tip : NodeKind → Span → Role → ℕ → ℕ → Node
-tip k s r d p = record { kind = k; at = s; parent = p; role = r; detail = d }
-
 under : (k : NodeKind) (s : Span) (r : Role) (d p n : ℕ) (bs : Branches) (f : ℕ → List Node) → Front f bs none n →
-    flat (branch k s r d bs) p n ≡ tip k s r d p ∷ f (n + 1)
-under k s r d p n bs f h = ap (λ (l : List Node). tip k s r d p ∷ l) (h (n + 1) ∙ append-nil (f (n + 1)))
+    flat (branch k s r d bs) p n ≡ Nodes.branch k s p r d (f (n + 1))
+under k s r d p n bs f h = ap (Nodes.branch k s p r d) (h (n + 1) ∙ append-nil (f (n + 1)))
 
 -- ---- names and counts
 
