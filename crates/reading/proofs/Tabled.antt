@@ -2,13 +2,16 @@
 use mathlib.Core.Path.{_≡_, refl, sym, ap, subst, _∙_}
 use mathlib.Core.List.{List, _++_}
 use mathlib.Core.Option.{Option, none, some, Option·none-ne-some, Option·some-injective}
-use Prim.Native.Nat.{ℕ, _*_}
+use Prim.Native.Nat.{ℕ, _*_, _<_}
 use native.Mathlib.Omega.{arith}
-use lib.ListN.{length, take, drop, take-append-drop}
+use lib.ListN.{length, getD, take, drop, take-append-drop}
 use lib.Seq.{take-at}
 use Rattle.grammar.specs.Tree.{Value}
-use Rattle.grammar.specs.Nodes.{table, tableWords, nodeWords}
-use Rattle.grammar.proofs.NodeLaws.{tableWords-length}
+use Rattle.grammar.specs.Nodes as Nodes
+use Rattle.grammar.specs.Nodes.{table, tableWords, nodeWords, wordAt}
+use Rattle.grammar.specs.Stretches.{Stretches}
+use Rattle.grammar.proofs.NodeLaws.{tableWords-length, nodeAt, table-word}
+use Rattle.grammar.proofs.Forest.{table-stretches}
 use Rattle.reading.specs.declared.Answer.{Answer}
 use Rattle.reading.specs.declared.Rules.{Rules}
 use Rattle.reading.specs.Tabled.{Holds, Judged, Tabled, refused, otherTable, shown}
@@ -41,3 +44,13 @@ module _ (words : List ℕ) (v : Value) where
   unchanged-holds e =
       let n : length (tableWords (table v)) ≡ nodeWords * length (table v) = omega (arith, tableWords-length (table v)) in
       ap (take (nodeWords * length (table v))) (sym e) ∙ take-at (tableWords (table v)) (drop (nodeWords * length (table v)) words) (nodeWords * length (table v)) n
+
+  module _ (h : Holds words v) where
+    -- word k of the node at index i
+    pub held-word : (i k : ℕ) → i < length (table v) → k < nodeWords → wordAt words i k ≡ getD (Nodes.words i (nodeAt (table v) i)) k 0
+    held-word i k l g =
+        ap (λ (t : List ℕ). wordAt t i k) (sym (holds-unchanged h)) ∙ table-word (table v) (drop (nodeWords * length (table v)) words) i k l g
+
+    pub held-stretches : Stretches words (length (table v))
+    held-stretches =
+        subst (λ (t : List ℕ). Stretches t (length (table v))) (holds-unchanged h) (table-stretches v (drop (nodeWords * length (table v)) words))

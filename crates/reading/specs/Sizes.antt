@@ -27,7 +27,7 @@ withArrow r = record {
 abbrev pub oldRules : Rules
 oldRules = withArrow base
 
--- 01: 'Room in the table: the smaller of 1,024 and the number of words divided by 6, rounded down'
+-- 01, 'Room in the table'; 02, request 7: 'the smaller of 1,024 and words divided by 7, rounded down'
 abbrev pub room : Rules → ℕ → ℕ
 room r n = min (r .nodes) (n / nodeWords)
 
