@@ -3,29 +3,30 @@ use mathlib.Core.Path.{_≡_, refl, sym, ap, ap₂, _∙_}
 use mathlib.Core.List.{List, [], _∷_, _++_}
 use Prim.Native.Nat.{ℕ, zero, suc, _+_, _-_, _*_, _≤_, _<_}
 use native.Mathlib.Omega.{arith}
-use lib.ListN.{length, getD}
+use lib.ListN.{length}
 use Rattle.rules.specs.Over.{over}
 use Rattle.rules.proofs.Over.{over-length, over-nothing, over-append, over-swap, over-before}
-use Rattle.grammar.specs.Nodes.{nodeWords}
-use Rattle.table.specs.Over.{parentWord, roleWord, capped, wordOf, under, lifted, raised, Raised}
+use Rattle.grammar.specs.Nodes.{nodeWords, parentWord, roleWord, skipWord, wordAt}
+use Rattle.table.specs.Over.{capped, under, lifted, raised, Raised}
 
 -- the stores of a copy
-pub copied : {t' : List ℕ} (t : List ℕ) (i p : ℕ) →
-    t' ≡ over t (i * nodeWords + 6) (getD t (i * nodeWords) 0 ∷ wordOf t i 1 ∷ wordOf t i 2 ∷ p ∷ wordOf t i roleWord ∷ wordOf t i 5 ∷ []) →
+pub copied : {t' : List ℕ} (t : List ℕ) (i p q : ℕ) → q ≡ capped (wordAt t i skipWord + 1) →
+    t' ≡ over t (i * nodeWords + nodeWords) (wordAt t i 0 ∷ wordAt t i 1 ∷ wordAt t i 2 ∷ p ∷ wordAt t i roleWord ∷ wordAt t i 5 ∷ q ∷ []) →
     t' ≡ over t ((i + 1) * nodeWords) (under t i p)
-copied t i p e =
+copied t i p q g e =
     e
-    ∙ ap₂ (λ (k a : ℕ). over t k (getD t a 0 ∷ wordOf t i 1 ∷ wordOf t i 2 ∷ p ∷ wordOf t i roleWord ∷ wordOf t i 5 ∷ [])) (omega arith) (omega arith)
+    ∙ ap₂ (λ (k x : ℕ). over t k (wordAt t i 0 ∷ wordAt t i 1 ∷ wordAt t i 2 ∷ p ∷ wordAt t i roleWord ∷ wordAt t i 5 ∷ x ∷ [])) (omega arith) g
 
 -- before what was written a node is as it was
-same-word : {t' : List ℕ} (t : List ℕ) (j m : ℕ) (ws : List ℕ) → m < nodeWords → t' ≡ over t ((j + 2) * nodeWords) ws → wordOf t' j m ≡ wordOf t j m
+same-word : {t' : List ℕ} (t : List ℕ) (j m : ℕ) (ws : List ℕ) → m < nodeWords → t' ≡ over t ((j + 2) * nodeWords) ws → wordAt t' j m ≡ wordAt t j m
 same-word t j m ws h e =
-    ap (λ (x : List ℕ). wordOf x j m) e ∙ over-before t ((j + 2) * nodeWords) (j * nodeWords + m) ws (omega arith)
+    ap (λ (x : List ℕ). wordAt x j m) e ∙ over-before t ((j + 2) * nodeWords) (j * nodeWords + m) ws (omega arith)
 
 under-same : {t' : List ℕ} (t : List ℕ) (j p q : ℕ) (ws : List ℕ) → t' ≡ over t ((j + 2) * nodeWords) ws → p ≡ q → under t' j p ≡ under t j q
 under-same {t'} t j p q ws e g =
-    let word : (m : ℕ) → m < nodeWords → wordOf t' j m ≡ wordOf t j m = λ m h. same-word t j m ws h e in
-    λ x. word 0 (omega arith) x ∷ word 1 (omega arith) x ∷ word 2 (omega arith) x ∷ g x ∷ word roleWord (omega arith) x ∷ word 5 (omega arith) x ∷ []
+    let word : (m : ℕ) → m < nodeWords → wordAt t' j m ≡ wordAt t j m = λ m h. same-word t j m ws h e in
+    λ x. word 0 (omega arith) x ∷ word 1 (omega arith) x ∷ word 2 (omega arith) x ∷ g x ∷ word roleWord (omega arith) x ∷ word 5 (omega arith) x
+    ∷ capped (word skipWord (omega arith) x + 1) ∷ []
 
 -- a copy of the node before those that were moved
 before-moved : {t' t'' : List ℕ} (t : List ℕ) (j p q : ℕ) (ws : List ℕ) →
@@ -64,11 +65,11 @@ module _ (t : List ℕ) (i n : ℕ) where
 
   -- one more
   pub moved-more : {t' t'' : List ℕ} (m p : ℕ) → Moved t t' i n m → 0 < m →
-      p ≡ capped (wordOf t' (i + m) parentWord + 1) → t'' ≡ over t' ((i + m + 1) * nodeWords) (under t' (i + m) p) → Moved t t'' i n (m - 1)
+      p ≡ capped (wordAt t' (i + m) parentWord + 1) → t'' ≡ over t' ((i + m + 1) * nodeWords) (under t' (i + m) p) → Moved t t'' i n (m - 1)
   moved-more {t'} {t''} m p d h e s =
       let j = i + m in
       let ws = lifted t (j + 1) (n - 1 - m) in
-      let q : p ≡ capped (wordOf t j parentWord + 1) = e ∙ ap (λ (x : ℕ). capped (x + 1)) (same-word t j parentWord ws (omega arith) (d .is)) in
+      let q : p ≡ capped (wordAt t j parentWord + 1) = e ∙ ap (λ (x : ℕ). capped (x + 1)) (same-word t j parentWord ws (omega arith) (d .is)) in
       let a : j ≡ i + (m - 1) + 1 = omega arith in
       let b : j + 1 ≡ i + (m - 1) + 2 = omega arith in
       let c : suc (n - 1 - m) ≡ n - 1 - (m - 1) = omega (arith, d .fewer) in

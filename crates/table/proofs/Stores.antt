@@ -1,30 +1,32 @@
 -- What the code's stores write. Assumes nothing.
-use mathlib.Core.Path.{_≡_, refl, sym, ap, _∙_}
+use mathlib.Core.Path.{_≡_, refl, sym, ap, ap₂, _∙_}
 use mathlib.Core.List.{List, [], _∷_}
 use Prim.Native.Nat.{ℕ, _+_, _*_, _/_, _≤_, _<_}
 use native.Mathlib.Omega.{arith}
 use lib.ListN.{length, set}
 use Rattle.rules.specs.Over.{over}
 use Rattle.rules.proofs.Over.{over-first, over-one}
-use Rattle.grammar.specs.Nodes.{roleNumber, nodeWords}
+use Rattle.grammar.specs.Nodes.{roleNumber, nodeWords, parentWord, roleWord, skipWord}
 use Rattle.moves.specs.declared.Role.{Role}
 use Rattle.moves.specs.declared.Role.the-variants as Role
 use Rattle.moves.specs.Means.{roleOf}
 use Rattle.table.specs.declared.Entry.{Entry}
-use Rattle.table.specs.Over.{roleWord, entryWords, Stored, Assigned}
+use Rattle.table.specs.Over.{entryWords, Stored, Assigned}
 
--- six words, the last first
-abbrev stores : List ℕ → (k a b c d e f : ℕ) → List ℕ
-stores t k a b c d e f = set (set (set (set (set (set t (k + 5) f) (k + roleWord) e) (k + 3) d) (k + 2) c) (k + 1) b) k a
+-- a node's words, the last first
+abbrev stores : List ℕ → (k a b c d e f g : ℕ) → List ℕ
+stores t k a b c d e f g =
+    set (set (set (set (set (set (set t (k + skipWord) g) (k + 5) f) (k + roleWord) e) (k + parentWord) d) (k + 2) c) (k + 1) b) (k + 0) a
 
-pub six : (t : List ℕ) (k a b c d e f : ℕ) → over t k (a ∷ b ∷ c ∷ d ∷ e ∷ f ∷ []) ≡ stores t k a b c d e f
-six t k a b c d e f =
+pub seven : (t : List ℕ) (k a b c d e f g : ℕ) → over t k (a ∷ b ∷ c ∷ d ∷ e ∷ f ∷ g ∷ []) ≡ stores t k a b c d e f g
+seven t k a b c d e f g =
     over-first t k (k + 1) a _ refl
-    ∙ ap (λ (l : List ℕ). set l k a) (over-first t (k + 1) (k + 2) b _ (omega arith)
+    ∙ ap₂ (λ (j : ℕ) (l : List ℕ). set l j a) (omega arith) (over-first t (k + 1) (k + 2) b _ (omega arith)
     ∙ ap (λ (l : List ℕ). set l (k + 1) b) (over-first t (k + 2) (k + 3) c _ (omega arith)
     ∙ ap (λ (l : List ℕ). set l (k + 2) c) (over-first t (k + 3) (k + 4) d _ (omega arith)
     ∙ ap (λ (l : List ℕ). set l (k + 3) d) (over-first t (k + 4) (k + 5) e _ (omega arith)
-    ∙ ap (λ (l : List ℕ). set l (k + 4) e) (over-one t (k + 5) f)))))
+    ∙ ap (λ (l : List ℕ). set l (k + 4) e) (over-first t (k + 5) (k + 6) f _ (omega arith)
+    ∙ ap (λ (l : List ℕ). set l (k + 5) f) (over-one t (k + 6) g))))))
 
 module _ (t : List ℕ) (i : ℕ) where
   -- no node at index i
@@ -32,10 +34,10 @@ module _ (t : List ℕ) (i : ℕ) where
   not-stored ws g = record { fits = λ h. absurd (omega arith); else = λ h. refl }
 
   pub stored : {t' : List ℕ} (n : Entry) (r : ℕ) → i < length t / nodeWords → r ≡ roleNumber (roleOf (n .role)) →
-      t' ≡ over t (i * nodeWords) (n .kind ∷ n .first ∷ n .end ∷ n .parent ∷ r ∷ n .detail ∷ []) → Stored t t' i (entryWords n)
+      t' ≡ over t (i * nodeWords) (n .kind ∷ n .first ∷ n .end ∷ n .parent ∷ r ∷ n .detail ∷ n .skip ∷ []) → Stored t t' i (entryWords n)
   stored n r g e s =
       record {
-        fits = λ h. s ∙ ap (λ (x : ℕ). over t (i * nodeWords) (n .kind ∷ n .first ∷ n .end ∷ n .parent ∷ x ∷ n .detail ∷ [])) e;
+        fits = λ h. s ∙ ap (λ (x : ℕ). over t (i * nodeWords) (n .kind ∷ n .first ∷ n .end ∷ n .parent ∷ x ∷ n .detail ∷ n .skip ∷ [])) e;
         else = λ h. absurd (omega arith);
       }
 

@@ -7,21 +7,21 @@ use native.Mathlib.Omega.{arith}
 use lib.ListN.{length, set, drop, length-append}
 use Rattle.rules.specs.Over.{over}
 use Rattle.rules.proofs.Over.{over-nothing, over-append, over-swap, over-set, over-start}
-use Rattle.grammar.specs.Nodes.{Node, words, nodeWords, tableWords, roleNumber}
-use Rattle.grammar.proofs.NodeLaws.{tableWords-length, tableWords-append}
+use Rattle.grammar.specs.Nodes.{Node, words, nodeWords, roleWord, wordsFrom, tableWords, roleNumber}
+use Rattle.grammar.proofs.NodeLaws.{words-length, tableWords-length, words-append}
 use Rattle.moves.specs.declared.Role.{Role}
 use Rattle.moves.specs.declared.Role.the-variants as Role
 use Rattle.moves.specs.Means.{roleOf, roled}
 use Rattle.table.specs.declared.Entry.{Entry}
-use Rattle.table.specs.Over.{roleWord, entryWords, Tells, Stored, Put, Assigned, Written}
+use Rattle.table.specs.Over.{entryWords, Tells, Stored, Put, Assigned, Written}
 use Rattle.table.proofs.Words.{roled-length, roled-words}
 use Rattle.table.proofs.Stores.{root-number, number-root}
 
 -- the words that the code has are the node's
-pub told-words : {e : Entry} {n : Node} → Tells e n → words n ≡ entryWords e
-told-words d = λ j. d .kind j ∷ d .first j ∷ d .end j ∷ d .parent j ∷ roleNumber (d .role j) ∷ d .detail j ∷ []
+pub told-words : {i : ℕ} {e : Entry} {n : Node} → Tells e i n → words i n ≡ entryWords e
+told-words d = λ j. d .kind j ∷ d .first j ∷ d .end j ∷ d .parent j ∷ roleNumber (d .role j) ∷ d .detail j ∷ d .skip j ∷ []
 
-pub told-put : {t t' : List ℕ} {i : ℕ} {e : Entry} {n : Node} → Tells e n → Stored t t' i (entryWords e) → Put t t' i n
+pub told-put : {t t' : List ℕ} {i : ℕ} {e : Entry} {n : Node} → Tells e i n → Stored t t' i (entryWords e) → Put t t' i n
 told-put {t} {t'} {i} d s = subst (λ (ws : List ℕ). Stored t t' i ws) (sym (told-words d)) s
 
 pub written-nothing : {t : List ℕ} {i : ℕ} → Written t t i []
@@ -37,9 +37,9 @@ written-more {t} {t'} {t''} {i} {ns} {ms} w l v =
       words-are = λ h.
           let s : length (ns ++ ms) ≡ length ns + length ms = length-append ns ms in
           v .words-are (omega arith)
-          ∙ ap (λ (x : List ℕ). over x j (tableWords ms)) (w .words-are (omega arith))
-          ∙ sym (over-append t k j (tableWords ns) (tableWords ms) (omega (arith, tableWords-length ns)))
-          ∙ ap (λ (ws : List ℕ). over t k ws) (sym (tableWords-append ns ms));
+          ∙ ap (λ (x : List ℕ). over x j (wordsFrom (i + length ns) ms)) (w .words-are (omega arith))
+          ∙ sym (over-append t k j (wordsFrom i ns) (wordsFrom (i + length ns) ms) (omega (arith, words-length i ns)))
+          ∙ ap (λ (ws : List ℕ). over t k ws) (sym (words-append i ns ms));
     }
 
 pub written-node : {t t' : List ℕ} {i : ℕ} (n : Node) → Put t t' i n → Written t t' i (n ∷ [])
@@ -52,9 +52,9 @@ written-front {t} {t'} {t''} {i} {ns} n w l p =
     record {
       words-are = λ h.
           p .fits (omega arith)
-          ∙ ap (λ (x : List ℕ). over x (i * nodeWords) (words n)) (w .words-are (omega arith))
-          ∙ over-swap t (i * nodeWords) ((i + 1) * nodeWords) (words n) (tableWords ns) (omega arith)
-          ∙ sym (over-append t (i * nodeWords) ((i + 1) * nodeWords) (words n) (tableWords ns) (omega arith));
+          ∙ ap (λ (x : List ℕ). over x (i * nodeWords) (words i n)) (w .words-are (omega arith))
+          ∙ over-swap t (i * nodeWords) ((i + 1) * nodeWords) (words i n) (wordsFrom (i + 1) ns) (omega arith)
+          ∙ sym (over-append t (i * nodeWords) ((i + 1) * nodeWords) (words i n) (wordsFrom (i + 1) ns) (omega arith));
     }
 
 zero? : (n : ℕ) → (n ≡ 0) ⊎ (n ≡ 0 → ⊥)
@@ -86,8 +86,8 @@ written-role {t} {t'} {t''} {i} {r} ns ms w l a same some = ⊎-elim (λ e. kept
               let s : length (ns ++ ms) ≡ length ns + length ms = length-append ns ms in
               a .fits other (omega arith)
               ∙ ap (λ (x : List ℕ). set x j v) (w .words-are (omega arith))
-              ∙ over-set t k j m v (tableWords (ns ++ ms)) (omega arith) (omega (arith, tableWords-length (ns ++ ms)))
-              ∙ ap (λ (ws : List ℕ). over t k ws) (roled-words (roleOf r) ns ms m n refl);
+              ∙ over-set t k j m v (wordsFrom i (ns ++ ms)) (omega arith) (omega (arith, words-length i (ns ++ ms)))
+              ∙ ap (λ (ws : List ℕ). over t k ws) (roled-words i (roleOf r) ns ms m n refl);
         }
 
 -- the same of the first node, when nodes ms stand behind

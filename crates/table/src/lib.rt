@@ -1,5 +1,12 @@
 // Nodes in the lent table of words, one behind the other.
+use grammar::DETAIL;
+use grammar::END;
+use grammar::FIRST;
+use grammar::KIND;
 use grammar::NODE_WORDS;
+use grammar::PARENT;
+use grammar::ROLE;
+use grammar::SKIP;
 use moves::Role;
 use reading::Rules;
 ghost use mathlib.Core.Path.{_≡_};
@@ -12,15 +19,10 @@ ghost use Rattle.reading.specs.Sizes.{room as roomOf};
 ghost use Rattle.moves.specs.Means.{roleOf};
 ghost use Rattle.table.specs.Over.{under, capped as cappedOf, entryWords, Stored, Assigned, Raised};
 
-// Which of a node's words tell its parent's index and its role.
-const PARENT: usize = 3;
-
-const ROLE: usize = 4;
-
 // The largest word.
 const LARGEST: usize = 0xFFFF_FFFF;
 
-// A node: its kind's number, first byte, byte after the last, parent's index, role, detail.
+// A node: its kind's number, first byte, byte after the last, parent's index, role, detail, index just past its last descendant.
 pub struct Entry {
     pub kind: u32,
     pub first: u32,
@@ -28,6 +30,7 @@ pub struct Entry {
     pub parent: u32,
     pub role: Role,
     pub detail: u32,
+    pub skip: u32,
 }
 
 fn role_number(role: Role) -> u32
@@ -58,7 +61,7 @@ pub fn room(rules: Rules, table: &[u32]) -> usize
     rules.nodes
 }
 
-// Writes the six words of a node from a word on. The caller saw that they fit.
+// Writes the words of a node from a word on. The caller saw that they fit.
 fn store(
     table: &mut [u32],
     at: usize,
@@ -68,17 +71,19 @@ fn store(
     parent: u32,
     role: u32,
     detail: u32,
+    skip: u32,
 )
     requires { ⌜ at + nodeWords ≤ length (now table) ⌝ }
-    ensures { λ _. ⌜ now (table .exit) ≡ over (now (table .entry)) at (kind ∷ first ∷ end ∷ parent ∷ role ∷ detail ∷ []) ⌝ }
+    ensures { λ _. ⌜ now (table .exit) ≡ over (now (table .entry)) at (kind ∷ first ∷ end ∷ parent ∷ role ∷ detail ∷ skip ∷ []) ⌝ }
 {
     // the last word first: so the stores are the definition's own
-    table[at + 5] = detail;
+    table[at + SKIP] = skip;
+    table[at + DETAIL] = detail;
     table[at + ROLE] = role;
     table[at + PARENT] = parent;
-    table[at + 2] = end;
-    table[at + 1] = first;
-    table[at] = kind;
+    table[at + END] = end;
+    table[at + FIRST] = first;
+    table[at + KIND] = kind;
 }
 
 // Writes the node at the index, if it fits.
@@ -99,6 +104,7 @@ pub fn put(table: &mut [u32], index: usize, node: Entry)
         node.parent,
         number,
         node.detail,
+        node.skip,
     );
 }
 
@@ -135,17 +141,19 @@ fn next(word: u32) -> u32
     capped(word as usize + 1)
 }
 
-// Copies the node at the index to the next one, under another parent. The caller saw that both are inside the table.
+// Copies the node at the index to the next one, under another parent: its descendants, too, are then one further. The caller saw that
+// both are inside the table.
 fn lift(table: &mut [u32], index: usize, parent: u32)
     requires { ⌜ (index + 2) * nodeWords ≤ length (now table) ⌝ }
     ensures { λ _. ⌜ now (table .exit) ≡ over (now (table .entry)) ((index + 1) * nodeWords) (under (now (table .entry)) index parent) ⌝ }
 {
     let at = index * NODE_WORDS;
-    let kind = table[at];
-    let first = table[at + 1];
-    let end = table[at + 2];
+    let kind = table[at + KIND];
+    let first = table[at + FIRST];
+    let end = table[at + END];
     let role = table[at + ROLE];
-    let detail = table[at + 5];
+    let detail = table[at + DETAIL];
+    let skip = next(table[at + SKIP]);
     store(
         table,
         at + NODE_WORDS,
@@ -155,6 +163,7 @@ fn lift(table: &mut [u32], index: usize, parent: u32)
         parent,
         role,
         detail,
+        skip,
     );
 }
 

@@ -3,7 +3,7 @@ use mathlib.Core.Path.{_≡_, refl, sym, ap, subst, _∙_}
 use mathlib.Core.Bool.{true, false, false≢true}
 use mathlib.Core.List.{List}
 use mathlib.Core.Option.{none, some}
-use Prim.Native.Nat.{ℕ}
+use Prim.Native.Nat.{ℕ, _+_}
 use native.Mathlib.Omega.{arith}
 use lib.ListN.{length}
 use Rattle.lexicon.specs.declared.Head.{Head}
@@ -140,7 +140,7 @@ module _ (t : Token.Token) (lent left : List ℕ) (index parent : ℕ) where
 
   -- the node of a token that is a value by itself
   abbrev pub alone : Telling → Entry
-  alone r = record { kind = r .kind; first = t .first; end = t .end; parent = parent; role = Role.Root; detail = r .detail }
+  alone r = record { kind = r .kind; first = t .first; end = t .end; parent = parent; role = Role.Root; detail = r .detail; skip = index + 1 }
 
   pub literal-read : (r : Telling) → t .bad ≡ false → LeafTold (t .kind) r → Stored lent left index (entryWords (alone r)) →
       Literal t lent left index parent (Read.Value (t .end) 1 (r .shape))
@@ -149,7 +149,7 @@ module _ (t : Token.Token) (lent left : List ℕ) (index parent : ℕ) where
         sized = (refl, refl);
         outcome = λ text limits forms K d at a h.
             let v = literal-value (levelOf forms) (t .kind) (spanOf t) K (classKind (t .kind)) refl h in
-            let node : Nodes.Node = record { kind = v .kind; at = spanOf t; parent = parent; role = Nodes.root; detail = leafDetail (t .kind) } in
+            let node : Nodes.Node = record { kind = v .kind; at = spanOf t; parent = parent; role = Nodes.root; detail = leafDetail (t .kind); stretch = 1 } in
             record {
               tree = v .tree;
               depth = d;
@@ -169,6 +169,7 @@ module _ (t : Token.Token) (lent left : List ℕ) (index parent : ℕ) where
                     parent = refl;
                     role = refl;
                     detail = sym (says .detail-is);
+                    skip = refl;
                   }) stored));
             };
       }

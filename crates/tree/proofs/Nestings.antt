@@ -3,7 +3,7 @@ use mathlib.Core.Path.{_≡_, refl, sym, ap, subst, _∙_}
 use mathlib.Core.Logic.{⊎-elim}
 use mathlib.Core.List.{List}
 use mathlib.Core.Option.{Option, none, some}
-use Prim.Native.Nat.{ℕ, _≤_, _<_}
+use Prim.Native.Nat.{ℕ, _+_, _≤_, _<_}
 use native.Mathlib.Omega.{arith}
 use lib.ListN.{length}
 use Rattle.lexicon.specs.declared.Form.{Form}
@@ -154,7 +154,7 @@ module _ (text : List ℕ) where
     module _ (lent left : List ℕ) (index parent : ℕ) where
       -- the node of the names up to a place
       abbrev pub named : ℕ → Entry
-      named end = record { kind = 8; first = t .first; end = end; parent = parent; role = Role.Root; detail = 0 }
+      named end = record { kind = 8; first = t .first; end = end; parent = parent; role = Role.Root; detail = 0; skip = index + 1 }
 
       pub nesting-read : {from : List ℕ} {at end : ℕ} → t .first < t .end → Behind at → NameHere text at end → NotNext text Kind.TwoColons end →
           from ≡ lent → Stored from left index (entryWords (named end)) → Nesting text t lent left index parent (Read.Value end 1 Shape.Name)
@@ -164,7 +164,7 @@ module _ (text : List ℕ) where
             sized = (omega (arith, h, b .low, y .0), omega (arith, b .low, y .0), y .1);
             outcome = λ limits forms K d at a e.
                 let w = has b n limits forms K d at a e in
-                let node : Nodes.Node = record { kind = Nodes.aNesting; at = namesSpan (w .names); parent = parent; role = Nodes.root; detail = 0 } in
+                let node : Nodes.Node = record { kind = Nodes.aNesting; at = namesSpan (w .names); parent = parent; role = Nodes.root; detail = 0; stretch = 1 } in
                 record {
                   tree = Tree.plain (Tree.nesting (w .names));
                   depth = d;
@@ -183,6 +183,7 @@ module _ (text : List ℕ) where
                         parent = refl;
                         role = refl;
                         detail = refl;
+                        skip = refl;
                       }) (subst (λ (x : List ℕ). Stored x left index (entryWords (named end))) same stored));
                 };
           }

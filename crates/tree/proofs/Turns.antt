@@ -283,9 +283,10 @@ module _ (text : List ℕ) (limits : Limits) (forms : Forms) where
     count-on {left} {style} r parent n e d =
         let g = n .leads in
         let tells = atom-tells (t .kind) (n .class-is) in
-        let node : Node = record { kind = Nodes.atomKind (n .atom); at = spanOf t; parent = index; role = Nodes.count; detail = Nodes.atomDetail (n .atom) } in
+        let node : Node = record { kind = Nodes.atomKind (n .atom); at = spanOf t; parent = index; role = Nodes.count; detail = Nodes.atomDetail (n .atom); stretch = 1 } in
         let put : Put from left (index + 1 + s .nodes) node =
-        told-put {e = countEntry t index} {n = node} (record { kind = sym (tells .kind-is); first = refl; end = refl; parent = refl; role = refl; detail = sym (tells .detail-is) }) (d .stored) in
+        told-put {e = countEntry t (index + 1 + s .nodes) index} {n = node}
+        (record { kind = sym (tells .kind-is); first = refl; end = refl; parent = refl; role = refl; detail = sym (tells .detail-is); skip = refl }) (d .stored) in
         subst (Turns text limits forms opener lent left index parent K) (sym (d .turn-is)) (
           g .to,
           leads-holds t h g
@@ -301,9 +302,17 @@ module _ (text : List ℕ) (limits : Limits) (forms : Forms) where
     close-on {left} {kind} {detail} {role} r parent (m, u, g) d =
         let v = g .value in
         let members = before c index ++ roled (roleOf role) (last c index) in
-        let node : Node = record { kind = g .which; at = over (openOf c) (spanOf t); parent = parent; role = Nodes.root; detail = detail } in
+        let node : Node = record { kind = g .which; at = over (openOf c) (spanOf t); parent = parent; role = Nodes.root; detail = detail; stretch = 1 + length members } in
         let put : Put (d .told) left index node =
-        told-put {e = closeEntry t (opener .first) kind detail parent} {n = node} (record { kind = g .kind-is; first = ap (λ (x : Span). x .first) (h .open-is); end = refl; parent = refl; role = refl; detail = refl }) (d .stored) in
+        told-put {e = closeEntry t (opener .first) kind detail parent (index + (s .nodes + 1))} {n = node} (record {
+          kind = g .kind-is;
+          first = ap (λ (x : Span). x .first) (h .open-is);
+          end = refl;
+          parent = refl;
+          role = refl;
+          detail = refl;
+          skip = omega (arith, h .count-is, told-length c (roleOf role) index);
+        }) (d .stored) in
         subst (Turns text limits forms opener lent left index parent K) (sym (d .turn-is))
         (record {
           tree = v;
@@ -326,11 +335,11 @@ module _ (text : List ℕ) (limits : Limits) (forms : Forms) where
 -- ---- what the code computes
 
 pub count-stored : {from left : List ℕ} {i index : ℕ} (t : Token.Token) (tells : Telling.Telling) → LeafTold (t .kind) tells →
-    Stored from left i (entryWords (record { kind = tells .kind; first = t .first; end = t .end; parent = index; role = Role.Count; detail = tells .detail })) →
-    Stored from left i (entryWords (countEntry t index))
+    Stored from left i (entryWords (record { kind = tells .kind; first = t .first; end = t .end; parent = index; role = Role.Count; detail = tells .detail; skip = i + 1 })) →
+    Stored from left i (entryWords (countEntry t i index))
 count-stored {from} {left} {i} {index} t tells says d =
-    subst (λ (x : ℕ). Stored from left i (entryWords (record { kind = x; first = t .first; end = t .end; parent = index; role = Role.Count; detail = leafDetail (t .kind) }))) (says .kind-is)
-    (subst (λ (x : ℕ). Stored from left i (entryWords (record { kind = tells .kind; first = t .first; end = t .end; parent = index; role = Role.Count; detail = x }))) (says .detail-is) d)
+    subst (λ (x : ℕ). Stored from left i (entryWords (record { kind = x; first = t .first; end = t .end; parent = index; role = Role.Count; detail = leafDetail (t .kind); skip = i + 1 }))) (says .kind-is)
+    (subst (λ (x : ℕ). Stored from left i (entryWords (record { kind = tells .kind; first = t .first; end = t .end; parent = index; role = Role.Count; detail = x; skip = i + 1 }))) (says .detail-is) d)
 
 -- ---- a turn, by its move
 

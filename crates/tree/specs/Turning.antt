@@ -49,25 +49,27 @@ pub record Outer (opener : Token.Token) (s : State.State) (index parent : ℕ) :
 abbrev pub behind : State.State → Mode → Token.Token → ℕ → ℕ → State.State
 behind s m t d n = record { mode = m; at = t .end; deep = d; nodes = n; last = s .last }
 
--- the node of a count, and of the bracket
-abbrev pub countEntry : Token.Token → ℕ → Entry.Entry
-countEntry t index = record {
+-- the node of a count at its place, and of the bracket
+abbrev pub countEntry : Token.Token → ℕ → ℕ → Entry.Entry
+countEntry t place index = record {
   kind = leafKind (t .kind);
   first = t .first;
   end = t .end;
   parent = index;
   role = Role.Count;
   detail = leafDetail (t .kind);
+  skip = place + 1;
 }
 
-abbrev pub closeEntry : Token.Token → ℕ → ℕ → ℕ → ℕ → Entry.Entry
-closeEntry t first kind detail parent = record {
+abbrev pub closeEntry : Token.Token → ℕ → ℕ → ℕ → ℕ → ℕ → Entry.Entry
+closeEntry t first kind detail parent skip = record {
   kind = kind;
   first = first;
   end = t .end;
   parent = parent;
   role = Role.Root;
   detail = detail;
+  skip = skip;
 }
 
 module _ (s : State.State) (t : Token.Token) where
@@ -89,7 +91,7 @@ module _ (s : State.State) (t : Token.Token) where
 
   pub record Counted (style : Style) (from left : List ℕ) (index : ℕ) (r : Turn) : Type 0 where
     pub turn-is : r ≡ Turn.On (behind s (Mode.Counted style) t (s .deep) (s .nodes + 1))
-    pub stored : Stored from left (index + 1 + s .nodes) (entryWords (countEntry t index))
+    pub stored : Stored from left (index + 1 + s .nodes) (entryWords (countEntry t (index + 1 + s .nodes) index))
 
   abbrev pub Deepened : Limits → Style → Turn → Type 0
   Deepened limits style r =
@@ -108,4 +110,4 @@ module _ (s : State.State) (t : Token.Token) where
     pub told : List ℕ
     pub length-is : length told ≡ length from
     pub role-is : Assigned from told (s .last) role
-    pub stored : Stored told left index (entryWords (closeEntry t first kind detail parent))
+    pub stored : Stored told left index (entryWords (closeEntry t first kind detail parent (index + (s .nodes + 1))))

@@ -102,9 +102,10 @@ fn count(s: State, style: Style, t: Token, table: &mut [u32], index: usize) -> T
 {
     let literal = t.kind;
     let tells = told(literal);
+    let place = index + 1 + s.nodes;
     put(
         table,
-        index + 1 + s.nodes,
+        place,
         Entry {
             kind: tells.kind,
             first: t.first as u32,
@@ -112,6 +113,7 @@ fn count(s: State, style: Style, t: Token, table: &mut [u32], index: usize) -> T
             parent: index as u32,
             role: Role::Count,
             detail: tells.detail,
+            skip: (place + 1) as u32,
         },
     );
     Turn::On(State {
@@ -183,6 +185,7 @@ fn close(
     requires { ⌜ Narrow s t index × (first ≤ t .first) × (parent ≤ index) ⌝ }
     ensures { λ r. ⌜ Closed s t first kind detail role (now (table .entry)) (now (table .exit)) index parent r ⌝ }
 {
+    let nodes = s.nodes + 1;
     assign(table, s.last, role);
     put(
         table,
@@ -194,9 +197,9 @@ fn close(
             parent: parent as u32,
             role: Role::Root,
             detail,
+            skip: (index + nodes) as u32,
         },
     );
-    let nodes = s.nodes + 1;
     Turn::Ended(Read::Value {
         end: t.end,
         nodes,

@@ -111,6 +111,7 @@ pub(crate) fn leaf(t: Token, table: &mut [u32], index: usize, parent: usize) -> 
             parent: parent as u32,
             role: Role::Root,
             detail: tells.detail,
+            skip: (index + 1) as u32,
         },
     );
     let shape = tells.shape;
@@ -144,6 +145,7 @@ pub(crate) fn names(text: &[u8], t: Token, table: &mut [u32], index: usize, pare
                     parent: parent as u32,
                     role: Role::Root,
                     detail: 0,
+                    skip: (index + 1) as u32,
                 },
             );
             return Read::Value {

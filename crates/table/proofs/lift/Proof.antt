@@ -1,4 +1,4 @@
--- The copy is the node, with the other parent. Assumes nothing.
+-- The copy is the node, with the other parent, and one more past its descendants. Assumes nothing.
 use Rattle.table.proofs.Lifts.{copied}
 use borrow.Author.Needs.{needs}
 use Rattle.table.proofs.lift.Statement.{statement}
@@ -6,6 +6,9 @@ use Rattle.table.proofs.lift.Tie as tie
 
 mul-at : tie.Need-mul-at
 mul-at c = search needs
+
+add-kind : tie.Need-add-kind
+add-kind c = search needs
 
 mul-kind : tie.Need-mul-kind
 mul-kind c = search needs
@@ -49,6 +52,18 @@ mul-detail c = search needs
 slice-read-detail : tie.Need-slice-read-detail
 slice-read-detail c = search needs
 
+add-next : tie.Need-add-next
+add-next c = search needs
+
+mul-next : tie.Need-mul-next
+mul-next c = search needs
+
+slice-read-next : tie.Need-slice-read-next
+slice-read-next c = search needs
+
+next-requires : tie.Need-next-requires
+next-requires c κs = search needs
+
 add-store : tie.Need-add-store
 add-store c = search needs
 
@@ -61,14 +76,16 @@ same-length c = search needs
 returns : tie.Need-returns
 returns c =
     let s = c .before .before in
-    let a = s .before .before .before .before .before .before .before .before .args in
-    copied (a .table .now) (a .index) (a .parent) (s .store .ensures)
+    let n = s .before .before in
+    let a = n .before .before .before .before .before .before .before .before .args in
+    copied (a .table .now) (a .index) (a .parent) _ (n .next .ensures) (s .store .ensures)
 
 pub lift-spec : {M : Type 1} → statement M
 lift-spec =
     tie.close
     (tie.spec
     mul-at
+    add-kind
     mul-kind
     slice-read-kind
     add-first
@@ -83,6 +100,10 @@ lift-spec =
     add-detail
     mul-detail
     slice-read-detail
+    add-next
+    mul-next
+    slice-read-next
+    next-requires
     add-store
     store-requires
     same-length

@@ -1,8 +1,8 @@
--- The six words are stored from the last to the first. Assumes nothing.
+-- The words are stored from the last to the first. Assumes nothing.
 use mathlib.Core.Path.{sym}
 use native.Mathlib.Omega.{arith}
 use lib.ListN.{length-set}
-use Rattle.table.proofs.Stores.{six}
+use Rattle.table.proofs.Stores.{seven}
 use borrow.Author.Needs.{needs}
 use Rattle.table.proofs.store.Statement.{statement}
 use Rattle.table.proofs.store.Tie as tie
@@ -52,11 +52,23 @@ mul-table-5 c = search needs
 slice-write-table-5 : tie.Need-slice-write-table-5
 slice-write-table-5 c = simp length-set (omega arith)
 
+add-table-6 : tie.Need-add-table-6
+add-table-6 c = search needs
+
 mul-table-6 : tie.Need-mul-table-6
 mul-table-6 c = search needs
 
 slice-write-table-6 : tie.Need-slice-write-table-6
 slice-write-table-6 c = simp length-set (omega arith)
+
+add-table-7 : tie.Need-add-table-7
+add-table-7 c = search needs
+
+mul-table-7 : tie.Need-mul-table-7
+mul-table-7 c = search needs
+
+slice-write-table-7 : tie.Need-slice-write-table-7
+slice-write-table-7 c = simp length-set (omega arith)
 
 same-length : tie.Need-same-length
 same-length c = search needs
@@ -64,7 +76,7 @@ same-length c = search needs
 returns : tie.Need-returns
 returns c =
     let a = c .args in
-    sym (six (a .table .now) (a .at) (a .kind) (a .first) (a .end) (a .parent) (a .role) (a .detail))
+    sym (seven (a .table .now) (a .at) (a .kind) (a .first) (a .end) (a .parent) (a .role) (a .detail) (a .skip))
 
 pub store-spec : {M : Type 1} → statement M
 store-spec =
@@ -85,7 +97,11 @@ store-spec =
     add-table-5
     mul-table-5
     slice-write-table-5
+    add-table-6
     mul-table-6
     slice-write-table-6
+    add-table-7
+    mul-table-7
+    slice-write-table-7
     same-length
     returns)

@@ -19,6 +19,12 @@ cast-t13 c = search needs
 cast-t14 : tie.Need-cast-t14
 cast-t14 c = search needs
 
+add-t16 : tie.Need-add-t16
+add-t16 c = search needs
+
+cast-t17 : tie.Need-cast-t17
+cast-t17 c = search needs
+
 put-requires : tie.Need-put-requires
 put-requires c κs = search needs
 
@@ -33,4 +39,4 @@ returns-2 c =
 pub leaf-spec : {M : Type 1} → statement M
 leaf-spec =
     tie.close
-    (tie.spec returns told-requires cast-t12 cast-t13 cast-t14 put-requires same-length returns-2)
+    (tie.spec returns told-requires cast-t12 cast-t13 cast-t14 add-t16 cast-t17 put-requires same-length returns-2)

@@ -59,6 +59,12 @@ cast-t15 c =
 cast-t16 : tie.Need-cast-t16 Inv-loop μ-loop
 cast-t16 c = search needs
 
+add-t18 : tie.Need-add-t18 Inv-loop μ-loop
+add-t18 c = search needs
+
+cast-t19 : tie.Need-cast-t19 Inv-loop μ-loop
+cast-t19 c = search needs
+
 put-requires : tie.Need-put-requires Inv-loop μ-loop
 put-requires c κs = search needs
 
@@ -109,6 +115,8 @@ names-spec =
     cast-t14
     cast-t15
     cast-t16
+    add-t18
+    cast-t19
     put-requires
     same-length-2
     returns-2
