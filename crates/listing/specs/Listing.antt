@@ -3,9 +3,8 @@ use mathlib.Core.Bool.{cond}
 use mathlib.Core.List.{List, [], _∷_, _++_}
 use Prim.Native.Nat.{ℕ, zero, suc, _+_, _*_, _/_, _%_}
 use lib.Dec.{ltb}
-use lib.ListN.{getD}
 use Rattle.rules.specs.Class.{byteOf}
-use Rattle.grammar.specs.Nodes.{nodeWords}
+use Rattle.grammar.specs.Nodes.{nodeWords, wordAt}
 use Rattle.reading.specs.declared.Answer.{Answer}
 
 -- the byte of a digit, 0 to 9
@@ -36,14 +35,18 @@ fields (n ∷ ns) = (space ∷ decimal n) ++ fields ns
 abbrev pub headLine : ℕ → ℕ → ℕ → ℕ → List ℕ
 headLine a b m n = a ∷ b ∷ fields (m ∷ n ∷ [])
 
--- a node's six words, `word k` being the one at k
+-- a node's words, `word k` being the one at k
 abbrev pub nodeLine : (ℕ → ℕ) → List ℕ
-nodeLine word = decimal (word 0) ++ fields (word 1 ∷ word 2 ∷ word 3 ∷ word 4 ∷ word 5 ∷ [])
+nodeLine word = decimal (word 0) ++ fields (word 1 ∷ word 2 ∷ word 3 ∷ word 4 ∷ word 5 ∷ word 6 ∷ [])
+
+-- how long such a line is at most: each word has ten digits, and a space or the line's end behind it
+abbrev pub longestLine : ℕ
+longestLine = nodeWords * 11
 
 -- a line for each of the table's first n nodes
 unfoldable pub nodeLines : List ℕ → ℕ → List ℕ
 nodeLines t zero = []
-nodeLines t (suc n) = nodeLines t n ++ nodeLine (λ k. getD t (n * nodeWords + k) 0)
+nodeLines t (suc n) = nodeLines t n ++ nodeLine (λ k. wordAt t n k)
 
 -- by the answer's number: `ok` with level and count, and the nodes; or `no` with number and place
 abbrev pub listed : ℕ → ℕ → Answer → List ℕ → List ℕ

@@ -3,16 +3,20 @@
 // words that it reads are those of an accepted reading, so they are inside the table. `list`, the one public function, has none.
 use grammar::NODE_WORDS;
 use reading::Answer;
+use reading::NODES;
 ghost use mathlib.Core.Path.{_≡_};
 ghost use mathlib.Core.List.{[], _∷_, _++_};
 ghost use Prim.Native.Nat.{_+_, _*_, _^_, _≤_, _<_};
 ghost use lib.ListN.{length, getD};
-ghost use Rattle.grammar.specs.Nodes.{nodeWords};
-ghost use Rattle.listing.specs.Listing.{space, decimal, headLine, nodeLine, nodeLines, listing};
+ghost use Rattle.grammar.specs.Nodes.{nodeWords, wordAt};
+ghost use Rattle.listing.specs.Listing.{space, decimal, headLine, nodeLine, longestLine, nodeLines, listing};
 ghost use Rattle.listing.specs.Written.{Wrote, Listed};
 
-// The longest listing: a first line of 45 bytes at most, and 1,024 lines of six numbers below 2^32.
-pub const LONGEST: usize = 67629;
+// A node's line: each of its words has ten digits at most, and a space or the line's end behind it.
+const LINE: usize = NODE_WORDS * 11;
+
+// The longest listing: a first line of 45 bytes at most, and the lines of all nodes that a reading may have.
+pub const LONGEST: usize = 45 + NODES * LINE;
 
 // Writes a byte, if it fits, and returns the place after it.
 fn put(out: &mut [u8], at: usize, byte: u8) -> usize
@@ -80,18 +84,18 @@ fn cell(out: &mut [u8], at: usize, table: &[u32], index: usize) -> usize
 fn node(out: &mut [u8], at: usize, table: &[u32], index: usize) -> usize
     requires { ⌜ at ≤ length (now out) ⌝ }
     requires { ⌜ index * nodeWords + nodeWords ≤ length (now table) ⌝ }
-    ensures { λ r. ⌜ Wrote (now (out .entry)) at (nodeLine (λ k. getD (now (table .entry)) (index * nodeWords + k) 0)) (now (out .exit)) r ⌝ }
-    ensures { λ r. ⌜ length (nodeLine (λ k. getD (now (table .entry)) (index * nodeWords + k) 0)) ≤ 66 ⌝ }
+    ensures { λ r. ⌜ Wrote (now (out .entry)) at (nodeLine (λ k. wordAt (now (table .entry)) index k)) (now (out .exit)) r ⌝ }
+    ensures { λ r. ⌜ length (nodeLine (λ k. wordAt (now (table .entry)) index k)) ≤ longestLine ⌝ }
 {
     let first = index * NODE_WORDS;
     let kind = wide(table[first]);
-    let a = number(out, at, kind);
-    let b = cell(out, a, table, first + 1);
-    let c = cell(out, b, table, first + 2);
-    let d = cell(out, c, table, first + 3);
-    let e = cell(out, d, table, first + 4);
-    let end = cell(out, e, table, first + 5);
-    put(out, end, b'\n')
+    let mut then = number(out, at, kind);
+    let mut word = 1;
+    while word < NODE_WORDS {
+        then = cell(out, then, table, first + word);
+        word += 1;
+    }
+    put(out, then, b'\n')
 }
 
 // The lines of the table's first nodes.
@@ -99,7 +103,7 @@ fn nodes(out: &mut [u8], at: usize, table: &[u32], count: usize) -> usize
     requires { ⌜ at ≤ length (now out) ⌝ }
     requires { ⌜ count * nodeWords ≤ length (now table) ⌝ }
     ensures { λ r. ⌜ Wrote (now (out .entry)) at (nodeLines (now (table .entry)) count) (now (out .exit)) r ⌝ }
-    ensures { λ r. ⌜ length (nodeLines (now (table .entry)) count) ≤ 66 * count ⌝ }
+    ensures { λ r. ⌜ length (nodeLines (now (table .entry)) count) ≤ longestLine * count ⌝ }
 {
     let mut then = at;
     let mut index = 0;

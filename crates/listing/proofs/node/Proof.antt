@@ -1,100 +1,99 @@
--- `listing::node` meets its contract. Assumes nothing.
-use Rattle.listing.proofs.Pieces.{wrote-then}
-use Rattle.listing.proofs.Lines.{kind-of, node-short}
+-- `listing::node` meets its contract. Each turn writes one word more. Assumes nothing.
+use mathlib.Core.Path.{_≡_}
+use Prim.Native.Nat.{_-_, _*_, _≤_}
+use native.Mathlib.Omega.{arith}
+use lib.ListN.{length}
+use Rattle.grammar.specs.Nodes.{nodeWords, wordAt}
+use Rattle.listing.specs.Written.{Wrote}
+use Rattle.listing.proofs.Lines.{kind-of, cells, cells-none, cells-no-length, cells-more, cells-longer, line-whole}
 use borrow.Author.Needs.{needs}
 use Rattle.listing.proofs.node.Statement.{statement}
 use Rattle.listing.proofs.node.Tie as tie
 
-mul-first : tie.Need-mul-first
+-- what was written since the first word
+abbrev Inv-loop : tie.InvT-loop
+Inv-loop out₀ at table index first kind then₀ word₀ out then word =
+    Wrote out₀ then₀ (cells (λ k. wordAt table index k) (word - 1)) out then × (length (cells (λ k. wordAt table index k) (word - 1)) ≤ 11 * (word - 1)) ×
+    (1 ≤ word) × (word ≤ nodeWords) × (length out ≡ length out₀)
+
+abbrev μ-loop : tie.MeasureT-loop
+μ-loop out₀ at table index first kind then₀ word₀ out then word = nodeWords - word
+
+mul-first : tie.Need-mul-first Inv-loop μ-loop
 mul-first c = search needs
 
-mul-wide : tie.Need-mul-wide
+mul-wide : tie.Need-mul-wide Inv-loop μ-loop
 mul-wide c = search needs
 
-shared-slice-read-wide : tie.Need-shared-slice-read-wide
+shared-slice-read-wide : tie.Need-shared-slice-read-wide Inv-loop μ-loop
 shared-slice-read-wide c = search needs
 
-wide-requires : tie.Need-wide-requires
+wide-requires : tie.Need-wide-requires Inv-loop μ-loop
 wide-requires c κs = search needs
 
-number-requires : tie.Need-number-requires
+number-requires : tie.Need-number-requires Inv-loop μ-loop
 number-requires c κs = search needs
 
-add-cell : tie.Need-add-cell
+loop-holds : tie.Need-loop-holds Inv-loop μ-loop
+loop-holds c = (cells-none _ (c .before .before .number .ensures .within), cells-no-length _, search needs, search needs, search needs)
+
+add-cell : tie.Need-add-cell Inv-loop μ-loop
 add-cell c = search needs
 
-cell-requires : tie.Need-cell-requires
+cell-requires : tie.Need-cell-requires Inv-loop μ-loop
 cell-requires c κs = search needs
 
-add-cell-2 : tie.Need-add-cell-2
-add-cell-2 c = search needs
+add-word : tie.Need-add-word Inv-loop μ-loop
+add-word c = search needs
 
-cell-requires-2 : tie.Need-cell-requires-2
-cell-requires-2 c κs = search needs
+loop-less : tie.Need-loop-less Inv-loop μ-loop
+loop-less c = search needs
 
-add-cell-3 : tie.Need-add-cell-3
-add-cell-3 c = search needs
+loop-again : tie.Need-loop-again Inv-loop μ-loop
+loop-again c =
+    let call = c .before .before in
+    let l = call .before .before .before .loop in
+    let inv = l .inv in (
+      cells-more _ (l .word) (inv .2) (inv .0) (call .cell .ensures .0),
+      cells-longer _ (l .word) (inv .2) (inv .1) (call .cell .ensures .1),
+      search needs,
+      search needs,
+      search needs,
+    )
 
-cell-requires-3 : tie.Need-cell-requires-3
-cell-requires-3 c κs = search needs
-
-add-cell-4 : tie.Need-add-cell-4
-add-cell-4 c = search needs
-
-cell-requires-4 : tie.Need-cell-requires-4
-cell-requires-4 c κs = search needs
-
-add-cell-5 : tie.Need-add-cell-5
-add-cell-5 c = search needs
-
-cell-requires-5 : tie.Need-cell-requires-5
-cell-requires-5 c κs = search needs
-
-put-requires : tie.Need-put-requires
+put-requires : tie.Need-put-requires Inv-loop μ-loop
 put-requires c κs = search needs
 
-same-length : tie.Need-same-length
+same-length : tie.Need-same-length Inv-loop μ-loop
 same-length c = search needs
 
-returns : tie.Need-returns
+returns : tie.Need-returns Inv-loop μ-loop
 returns c =
-    let g = c .before .before in
-    let e5 = g .before .before .before .before in
-    let e4 = e5 .before .before .before .before in
-    let e3 = e4 .before .before .before .before in
-    let e2 = e3 .before .before .before .before in
-    let e1 = e2 .before .before .before .before in
-    let e0 = e1 .before .before .before .before in
-    let got = e0 .before .before in
+    let p = c .before .before in
+    let l = p .before .before .before in
+    let n = l .before .before .before in
+    let got = n .before .before in
     let start = got .before .before .before .before in
-    let kind = kind-of (start .args .table .now) (start .args .index) _ (got .wide .ensures .0) (got .wide .ensures .1) (e0 .number .ensures) in (
-      wrote-then _ _ (kind .0)
-          (wrote-then _ _ (e1 .cell .ensures .0)
-          (wrote-then _ _ (e2 .cell2 .ensures .0)
-          (wrote-then _ _ (e3 .cell3 .ensures .0) (wrote-then _ _ (e4 .cell4 .ensures .0) (wrote-then _ _ (e5 .cell5 .ensures .0) (g .put .ensures)))))),
-      node-short (start .args .table .now) (start .args .index)
-          (kind .1) (e1 .cell .ensures .1) (e2 .cell2 .ensures .1) (e3 .cell3 .ensures .1) (e4 .cell4 .ensures .1) (e5 .cell5 .ensures .1),
-    )
+    let kind = kind-of (start .args .table .now) (start .args .index) _ (got .wide .ensures .0) (got .wide .ensures .1) (n .number .ensures) in
+    line-whole _ (l .loop .word) (omega arith) kind (l .loop .inv .0) (l .loop .inv .1) (p .put .ensures)
 
 pub node-spec : {M : Type 1} → statement M
 node-spec =
     tie.close
     (tie.spec
+    Inv-loop
+    μ-loop
     mul-first
     mul-wide
     shared-slice-read-wide
     wide-requires
     number-requires
+    loop-holds
     add-cell
     cell-requires
-    add-cell-2
-    cell-requires-2
-    add-cell-3
-    cell-requires-3
-    add-cell-4
-    cell-requires-4
-    add-cell-5
-    cell-requires-5
+    add-word
+    loop-less
+    loop-again
     put-requires
     same-length
     returns)

@@ -6,7 +6,7 @@ use Prim.Native.Nat.{_*_, _-_, _≤_}
 use native.Mathlib.Omega.{arith}
 use lib.ListN.{length}
 use borrow.Author.Needs.{needs}
-use Rattle.listing.specs.Listing.{nodeLines}
+use Rattle.listing.specs.Listing.{longestLine, nodeLines}
 use Rattle.listing.specs.Written.{Wrote}
 use Rattle.listing.proofs.Lines.{nodes-none, nodes-no-length, nodes-more, nodes-longer}
 use Rattle.listing.proofs.nodes.Statement.{statement}
@@ -14,7 +14,7 @@ use Rattle.listing.proofs.nodes.Tie as tie
 
 abbrev Inv-loop : tie.InvT-loop
 Inv-loop out₀ at table count then₀ index₀ out then index =
-    Wrote out₀ at (nodeLines table index) out then × (length (nodeLines table index) ≤ 66 * index) × (index ≤ count) × (length out ≡ length out₀)
+    Wrote out₀ at (nodeLines table index) out then × (length (nodeLines table index) ≤ longestLine * index) × (index ≤ count) × (length out ≡ length out₀)
 
 abbrev μ-loop : tie.MeasureT-loop
 μ-loop out₀ at table count then₀ index₀ out then index = count - index
@@ -45,7 +45,7 @@ returns c =
     let l = c .before .loop in
     let t = c .before .before .before .before .args .table .now in
     subst (λ (n : ℕ). Wrote (c .before .before .before .before .args .out .now) (c .before .before .before .before .args .at) (nodeLines t n) (l .out) (l .then) ×
-    (length (nodeLines t n) ≤ 66 * n)) (omega arith) (l .inv .0, l .inv .1)
+    (length (nodeLines t n) ≤ longestLine * n)) (omega arith) (l .inv .0, l .inv .1)
 
 pub nodes-spec : {M : Type 1} → statement M
 nodes-spec =
