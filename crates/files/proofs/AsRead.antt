@@ -6,7 +6,7 @@ use Prim.Native.Nat.{ℕ, suc, _+_, _*_, _/_, _%_, _<_}
 use native.Mathlib.Omega.{arith}
 use lib.ListN.{length, getD, take, drop, List·getD-append}
 use Rattle.grammar.specs.Tree.{Value}
-use Rattle.grammar.specs.Nodes.{Node, table, tableWords, nodeWords}
+use Rattle.grammar.specs.Nodes.{Node, table, nodeWords, wordAt, tableWords}
 use Rattle.grammar.proofs.NodeLaws.{tableWords-length}
 use Rattle.reading.specs.declared.Answer.{Answer}
 use Rattle.reading.specs.declared.Rules.{Rules}
@@ -19,15 +19,15 @@ use Rattle.files.specs.Checks.{Stored}
 use Rattle.files.proofs.Bytes.{six-length, file-length, pair-at, six-at}
 
 -- word k of node i, in the nodes' words and whatever stands behind them
-word-at : (ns : List Node) (rest : List ℕ) (i k : ℕ) → i < length ns → k < 6 → getD (sixWords ns) (6 * i + k) 0 ≡ getD (tableWords ns ++ rest) (nodeWords * i + k) 0
+word-at : (ns : List Node) (rest : List ℕ) (i k : ℕ) → i < length ns → k < 6 → getD (sixWords ns) (6 * i + k) 0 ≡ wordAt (tableWords ns ++ rest) i k
 word-at ns rest i k h g =
-    let e : (6 * i + k) / 6 * nodeWords + (6 * i + k) % 6 ≡ nodeWords * i + k = omega (arith, g) in
+    let e : (6 * i + k) / 6 * nodeWords + (6 * i + k) % 6 ≡ i * nodeWords + k = omega (arith, g) in
     six-at ns (6 * i + k) (omega (arith, h, g))
     ∙ ap (λ (j : ℕ). getD (tableWords ns) j 0) e
-    ∙ sym (List·getD-append (tableWords ns) rest 0 (nodeWords * i + k) (omega (arith, tableWords-length ns, h, g)))
+    ∙ sym (List·getD-append (tableWords ns) rest 0 (i * nodeWords + k) (omega (arith, tableWords-length ns, h, g)))
 
 file-at : (text : List ℕ) (v : Value) (rest : List ℕ) (i k : ℕ) → i < length (table v) → k < 6 →
-    take 2 (drop (9 + 12 * i + 2 * k) (file text v)) ≡ number 2 (getD (tableWords (table v) ++ rest) (nodeWords * i + k) 0)
+    take 2 (drop (9 + 12 * i + 2 * k) (file text v)) ≡ number 2 (wordAt (tableWords (table v) ++ rest) i k)
 file-at text v rest i k h g =
     let e : 9 + 12 * i + 2 * k ≡ suc (suc (suc (suc (suc (suc (suc (suc (suc (2 * (6 * i + k)))))))))) = omega arith in
     ap (λ (m : ℕ). take 2 (drop m (file text v))) e
@@ -43,7 +43,7 @@ module _ (rules : Rules) (text : List ℕ) where
   abbrev Kept : (left : List ℕ) (nodes : ℕ) (bytes : List ℕ) → Type 0
   Kept left nodes bytes =
       (length bytes ≡ 9 + 12 * nodes) × (take 2 (drop 5 bytes) ≡ number 2 nodes) × (take 2 (drop 7 bytes) ≡ number 2 (length text)) ×
-      ((i k : ℕ) → i < nodes → k < 6 → take 2 (drop (9 + 12 * i + 2 * k) bytes) ≡ number 2 (getD left (nodeWords * i + k) 0))
+      ((i k : ℕ) → i < nodes → k < 6 → take 2 (drop (9 + 12 * i + 2 * k) bytes) ≡ number 2 (wordAt left i k))
 
   pub stored-as-read : {bytes lent left : List ℕ} {s : Answer} → Stored rules text bytes → Answers rules text lent 2 s left → s .number ≡ 0 → Kept left (s .count) bytes
   stored-as-read {bytes} {lent} x a z = go (a .tree) (a .reading) (a .left-is) z

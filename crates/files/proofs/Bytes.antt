@@ -6,7 +6,7 @@ use native.Mathlib.Omega.{arith}
 use lib.ListN.{length, getD, take, drop}
 use lib.Seq.{getD-take, getD-drop}
 use Rattle.grammar.specs.Tree.{Value}
-use Rattle.grammar.specs.Nodes.{Node, table, tableWords, nodeWords}
+use Rattle.grammar.specs.Nodes.{Node, table, nodeWords, wordAt, wordsFrom, tableWords}
 use Rattle.files.specs.File.{number, numbers, sixWords, file}
 
 numbers-length : (ns : List ℕ) → length (numbers 2 ns) ≡ 2 * length ns
@@ -38,15 +38,18 @@ byte-at ns k h =
     ∙ sym (getD-take 2 (drop j (numbers 2 ns)) (k % 2) 0 (omega arith))
     ∙ ap (λ (l : List ℕ). getD l (k % 2) 0) (pair-at ns (k / 2) (omega (arith, h)))
 
--- the six words of a node are the first of its words in the table
-pub six-at : (ns : List Node) (j : ℕ) → j < 6 * length ns → getD (sixWords ns) j 0 ≡ getD (tableWords ns) (j / 6 * nodeWords + j % 6) 0
-six-at [] j h = absurd (omega arith)
-six-at (n ∷ ns) zero h = refl
-six-at (n ∷ ns) (suc zero) h = refl
-six-at (n ∷ ns) (suc (suc zero)) h = refl
-six-at (n ∷ ns) (suc (suc (suc zero))) h = refl
-six-at (n ∷ ns) (suc (suc (suc (suc zero)))) h = refl
-six-at (n ∷ ns) (suc (suc (suc (suc (suc zero))))) h = refl
-six-at (n ∷ ns) (suc (suc (suc (suc (suc (suc j)))))) h =
-    let e : suc (suc (suc (suc (suc (suc j))))) / 6 * nodeWords + suc (suc (suc (suc (suc (suc j))))) % 6 ≡ suc (suc (suc (suc (suc (suc (j / 6 * nodeWords + j % 6)))))) = omega arith in
-    six-at ns j (omega arith) ∙ ap (λ (k : ℕ). getD (tableWords (n ∷ ns)) k 0) (sym e)
+-- the six words of a node are the first of its words in the table, which begins at any index
+six-from : (ns : List Node) (m j : ℕ) → j < 6 * length ns → getD (sixWords ns) j 0 ≡ wordAt (wordsFrom m ns) (j / 6) (j % 6)
+six-from [] m j h = absurd (omega arith)
+six-from (n ∷ ns) m zero h = refl
+six-from (n ∷ ns) m (suc zero) h = refl
+six-from (n ∷ ns) m (suc (suc zero)) h = refl
+six-from (n ∷ ns) m (suc (suc (suc zero))) h = refl
+six-from (n ∷ ns) m (suc (suc (suc (suc zero)))) h = refl
+six-from (n ∷ ns) m (suc (suc (suc (suc (suc zero))))) h = refl
+six-from (n ∷ ns) m (suc (suc (suc (suc (suc (suc j)))))) h =
+    let e : suc (suc (suc (suc (suc (suc j))))) / 6 * nodeWords + suc (suc (suc (suc (suc (suc j))))) % 6 ≡ suc (suc (suc (suc (suc (suc (suc (j / 6 * nodeWords + j % 6))))))) = omega arith in
+    six-from ns (m + 1) j (omega arith) ∙ ap (λ (k : ℕ). getD (wordsFrom m (n ∷ ns)) k 0) (sym e)
+
+pub six-at : (ns : List Node) (j : ℕ) → j < 6 * length ns → getD (sixWords ns) j 0 ≡ wordAt (tableWords ns) (j / 6) (j % 6)
+six-at ns j h = six-from ns 0 j h

@@ -3,10 +3,10 @@ use mathlib.Core.Path.{_≡_, refl, sym, ap, _∙_}
 use mathlib.Core.List.{List, [], _∷_}
 use Prim.Native.Nat.{ℕ, zero, suc, _+_, _-_, _*_, _/_, _%_, _≤_, _<_}
 use native.Mathlib.Omega.{arith}
-use lib.ListN.{length, getD, take}
+use lib.ListN.{getD}
 use lib.Seq.{getD-take}
 use Rattle.grammar.specs.Tree.{Value}
-use Rattle.grammar.specs.Nodes.{table, nodeWords}
+use Rattle.grammar.specs.Nodes.{table, nodeWords, wordAt}
 use Rattle.files.specs.File.{number, mark, version, row, file}
 use Rattle.files.proofs.Bytes.{six-length, byte-at, six-at}
 use Rattle.stored.specs.Holds.{Holds}
@@ -31,7 +31,7 @@ module _ {t : List ℕ} {nodes size : ℕ} {text : List ℕ} {v : Value} (held :
   front-at (suc (suc zero)) h = held .size-is
   front-at (suc (suc (suc k))) h = absurd (omega arith)
 
-  pub word-at : (k : ℕ) → 3 ≤ k → k < 3 + 6 * nodes → getD t ((k - 3) / 6 * nodeWords + (k - 3) % 6) 0 ≡ getD (row text v) k 0
+  pub word-at : (k : ℕ) → 3 ≤ k → k < 3 + 6 * nodes → wordAt t ((k - 3) / 6) ((k - 3) % 6) ≡ getD (row text v) k 0
   word-at k l h =
       let j = (k - 3) / 6 * nodeWords + (k - 3) % 6 in
       let e : suc (suc (suc (k - 3))) ≡ k = omega arith in

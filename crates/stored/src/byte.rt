@@ -11,7 +11,7 @@ pub(crate) const MARK: [u8; 3] = [b'F', b'N', b'T'];
 
 pub(crate) const VERSION: usize = 1;
 
-// Words of a node that are stored.
+// Words of a node that are stored: the first of them.
 const STORED: usize = 6;
 
 // A byte of a 16-bit number, the high one first.
