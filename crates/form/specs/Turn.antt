@@ -1,6 +1,6 @@
 -- What the reading of a plain form keeps of the nodes: 02, request 5, 'the same nodes in all but first and last bytes,
 -- the order of this and that (with the node and parent indices that follow from it), roles 2 and 3 taken as one, and a
--- Text's detail'. Assumes nothing.
+-- Text's detail'; request 7, of the seventh word: 'there it follows the indices'. Assumes nothing.
 use Prim.Native.Nat.{ℕ}
 use Rattle.grammar.specs.Tokens.{Span}
 use Rattle.grammar.specs.Tree
@@ -30,7 +30,7 @@ otherDetail Nodes.aSet d = d
 otherDetail Nodes.aBag d = d
 otherDetail Nodes.anInterval d = d
 
--- a node without both
+-- a node without both; its stretch stays, so that the seventh word follows the index
 abbrev pub unspelled : Node → Node
 unspelled n =
     record {
@@ -39,6 +39,7 @@ unspelled n =
       parent = n .parent;
       role = n .role;
       detail = otherDetail (n .kind) (n .detail);
+      stretch = n .stretch;
     }
 
 -- 'the order of this and that … roles 2 and 3 taken as one': the derivation in which each `b<-a` is turned to `a->b`.
