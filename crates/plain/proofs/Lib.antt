@@ -1,6 +1,6 @@
 -- Laws behind writer and converter.
 pub mod Tables
-pub mod Searches
+pub mod Past
 pub mod Steps
 pub mod Written
 pub mod Fits

@@ -5,17 +5,17 @@ use Prim.Native.Nat.{ℕ, _+_, _≤_, _<_}
 use native.Mathlib.Omega.{arith}
 use lib.ListN.{length, length-append}
 use Rattle.grammar.specs.Nodes
-use Rattle.grammar.specs.Nodes.{Role, roleNumber}
+use Rattle.grammar.specs.Nodes.{Role, roleNumber, roleWord, wordAt}
 use Rattle.buffer.specs.Puts.{largest, Puts}
 use Rattle.buffer.specs.Wrote.{Wrote}
 use Rattle.buffer.proofs.Puts.{puts-none, puts-then, puts-same, puts-length}
-use Rattle.form.proofs.Branches.{Branches, none, more, flat, flats}
+use Rattle.grammar.proofs.Branches.{Branches, none, more, flat, flats}
 use Rattle.form.proofs.Walk.{Listed, noMore, child, turned, lead, roleOf, oneAttribute}
 use Rattle.marks.specs.declared.Attributes.{Attributes}
 use Rattle.marks.specs.declared.Attributes.the-variants as Attributes
 use Rattle.marks.specs.ByNumber.{leadBy, countedBy}
 use Rattle.marks.proofs.Around.{leads, oneBehind, counts, counts-two}
-use Rattle.plain.specs.Nodes.{From, Children, wordAt, Past, Behind, ChildBytes}
+use Rattle.plain.specs.Nodes.{From, Children, Past, Behind, ChildBytes}
 use Rattle.plain.specs.Nodes as Spec
 use Rattle.plain.proofs.Tables.{some-node, role-word, from-first, from-rest}
 
@@ -41,7 +41,6 @@ behind-this that p =
       alone = λ other. absurd (other that);
       turned = λ e. p;
       not-before = p .not-before;
-      within = p .within;
     }
 
 pub behind-alone : {words : List ℕ} {role then : ℕ} → (role ≡ roleNumber Nodes.thatBefore → ⊥) → Behind words role then then
@@ -50,7 +49,6 @@ behind-alone other =
       alone = λ e. refl;
       turned = λ that. absurd (other that);
       not-before = omega arith;
-      within = λ h. h;
     }
 
 -- ---- one child more
@@ -70,15 +68,15 @@ module _ (text words : List ℕ) (detail stop : ℕ) where
     puts : Puts t k done u n
     one-is : oneAttribute all ≡ oneBehind count children
 
-  module _ (before : ℕ) (count : Attributes) {all : Branches} {bs t u v w : List ℕ} {k n m o i then j held : ℕ} {counted : Attributes} (here : i < stop) (role-is : held ≡ wordAt words i 4)
-      (led : Puts u n (leadBy detail before held) v m) (written : Wrote (ChildBytes text words held i then j) v m w o)
+  module _ (before : ℕ) (count : Attributes) {all : Branches} {bs t u v w : List ℕ} {k n m o i then j held : ℕ} {counted : Attributes} (here : i < stop) (role-is : held ≡ wordAt words i roleWord)
+      (led : Puts u n (leadBy detail before held) v m) (written : Wrote (ChildBytes text words held i) v m w o)
       (past : Past words i then) (behind : Behind words held then j) (counted-is : counted ≡ countedBy count held) where
     -- the child's bytes, and the children behind it
-    on : (r : Role) {taken done ms : List ℕ} {cs : Branches} {p place : ℕ} → held ≡ roleNumber r → ChildBytes text words held i then j taken →
+    on : (r : Role) (p : ℕ) {taken done ms : List ℕ} {cs : Branches} {place : ℕ} → held ≡ roleNumber r → ChildBytes text words held i taken →
         j ≡ place → From words cs p place → stop ≡ place + length (flats cs p place) → Listed text detail (roleNumber r) cs ms →
         bs ≡ done ++ (lead detail before r ++ taken ++ ms) → Puts t k done u n →
         oneAttribute all ≡ oneBehind (countedBy count (roleNumber r)) cs → Rest all bs t k w o held counted j
-    on r {taken} {done} {ms} {cs} {p} h c is f s l e q y =
+    on r p {taken} {done} {ms} {cs} h c is f s l e q y =
         let ld = lead detail before r in
         record {
           done = done ++ (ld ++ taken);
@@ -101,33 +99,28 @@ module _ (text words : List ℕ) (detail stop : ℕ) where
             stop ≡ i + length (flats cs p i) → Puts t k done u n → oneAttribute all ≡ oneBehind count cs → Rest all bs t k w o held counted j
         go none done left p f noMore e s q c = absurd (omega (arith, here, s))
         go (more a cs) done left p f (child other walked l) e s q c =
-            let y = from-first f in
-            let h = role-is ∙ role-word y in
+            let y = from-first a cs p f in
+            let h = role-is ∙ role-word a p y in
             let alone : held ≡ roleNumber Nodes.thatBefore → ⊥ = λ z. other (that-before (roleOf a) (sym h ∙ z)) in
             let after = i + length (flat a p i) in
             let ends = past .is a p y in
-            on (roleOf a) h (Spec.alone alone (record { b = a; parent = p; stands = y; stop-is = ends; walked = walked })) (behind .alone alone ∙ ends)
-            (from-rest f) (omega (arith, s, length-append (flat a p i) (flats cs p after))) l e q
+            on (roleOf a) p h (Spec.alone alone (record { b = a; parent = p; stands = y; walked = walked })) (behind .alone alone ∙ ends)
+            (from-rest a cs p f) (omega (arith, s, length-append (flat a p i) (flats cs p after))) l e q
             (c ∙ counts count a cs (λ z. other (that-before (roleOf a) z)))
         go (more a (more b cs)) done left p f (turned that wa wb l) e s q c =
-            let y = from-first f in
-            let g = from-rest f in
-            let h = role-is ∙ role-word y in
+            let y = from-first a (more b cs) p f in
+            let g = from-rest a (more b cs) p f in
+            let h = role-is ∙ role-word a p y in
             let turned : held ≡ roleNumber Nodes.thatBefore = h ∙ ap roleNumber that in
             let this = i + length (flat a p i) in
             let after = this + length (flat b p this) in
             let ends : then ≡ this = past .is a p y in
             let at-then = subst (λ (z : ℕ). From words (more b cs) p z) (sym ends) g in
-            let ends-too = behind .turned turned .is b p (from-first at-then) in
-            on (roleOf a) h
-            (Spec.turned turned (record { b = a; parent = p; stands = y; stop-is = ends; walked = wa }) (record {
-              b = b;
-              parent = p;
-              stands = from-first at-then;
-              stop-is = ends-too;
-              walked = wb;
-            }))
-            (ends-too ∙ ap (λ (z : ℕ). z + length (flat b p z)) ends) (from-rest g)
+            let ends-too = behind .turned turned .is b p (from-first b cs p at-then) in
+            on (roleOf a) p h
+            (Spec.turned turned (record { b = a; parent = p; stands = y; walked = wa })
+            (record { b = b; parent = p; stands = from-first b cs p g; walked = wb }))
+            (ends-too ∙ ap (λ (z : ℕ). z + length (flat b p z)) ends) (from-rest b cs p g)
             (omega (arith, s, length-append (flat a p i) (flats (more b cs) p this), length-append (flat b p this) (flats cs p after))) l e q
             (c ∙ counts-two count a b cs (ap roleNumber that))
 
@@ -159,8 +152,8 @@ module _ (text words : List ℕ) (detail stop : ℕ) where
         onward = omega arith;
       }
 
-  pub going-on : {first : ℕ} {t u v w : List ℕ} {k n m o before i then j held : ℕ} {count counted : Attributes} → i < stop → held ≡ wordAt words i 4 →
-      Puts u n (leadBy detail before held) v m → Wrote (ChildBytes text words held i then j) v m w o → Past words i then →
+  pub going-on : {first : ℕ} {t u v w : List ℕ} {k n m o before i then j held : ℕ} {count counted : Attributes} → i < stop → held ≡ wordAt words i roleWord →
+      Puts u n (leadBy detail before held) v m → Wrote (ChildBytes text words held i) v m w o → Past words i then →
       Behind words held then j → counted ≡ countedBy count held → Going first t k u n before count i → Going first t k w o held counted j
   going-on here role-is led written past behind counted-is x =
       record {

@@ -4,7 +4,6 @@
 mod node;
 mod value;
 
-use crate::node::count;
 use crate::value::write_node;
 use grammar::NODE_WORDS;
 use reading::Answer;
@@ -22,7 +21,7 @@ fn fill(text: &[u8], nodes: &[u32], buffer: &mut [u8]) -> Answer
     Answer {
         number: 0,
         place: text.len(),
-        count: write_node(text, nodes, 0, count(nodes), buffer, 0),
+        count: write_node(text, nodes, 0, buffer, 0),
     }
 }
 
@@ -34,7 +33,7 @@ fn fit(text: &[u8], nodes: &[u32], buffer: &mut [u8]) -> Answer
     if buffer.len() / 2 >= text.len() {
         return fill(text, nodes, buffer);
     }
-    let needed = write_node(text, nodes, 0, count(nodes), &mut buffer[..0], 0);
+    let needed = write_node(text, nodes, 0, &mut buffer[..0], 0);
     if buffer.len() < needed {
         return Answer {
             number: 8,

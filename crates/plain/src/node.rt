@@ -1,24 +1,17 @@
 // Nodes of a table, by index.
+use grammar::DETAIL;
+use grammar::END;
+use grammar::FIRST;
+use grammar::KIND;
 use grammar::NODE_WORDS;
+use grammar::ROLE;
+use grammar::SKIP;
 use leaf::Node;
 ghost use mathlib.Core.Path.{_≡_};
 ghost use Prim.Native.Nat.{_/_, _<_};
 ghost use lib.ListN.{length};
-ghost use Rattle.grammar.specs.Nodes.{nodeWords};
-ghost use Rattle.plain.specs.Nodes.{Inside, Tells, wordAt, Past};
-
-// Which of a node's words tell what.
-const KIND: usize = 0;
-
-const FIRST: usize = 1;
-
-const END: usize = 2;
-
-const PARENT: usize = 3;
-
-const ROLE: usize = 4;
-
-const DETAIL: usize = 5;
+ghost use Rattle.grammar.specs.Nodes.{nodeWords, roleWord, wordAt};
+ghost use Rattle.plain.specs.Nodes.{Inside, Tells, Past};
 
 pub(crate) fn count(nodes: &[u32]) -> usize
     ensures { λ r. ⌜ r ≡ length (now (nodes .entry)) / nodeWords ⌝ }
@@ -47,13 +40,13 @@ pub(crate) fn node_at(nodes: &[u32], index: usize) -> Node
 
 pub(crate) fn role(nodes: &[u32], index: usize) -> u32
     requires { ⌜ Inside (now nodes) index ⌝ }
-    ensures { λ r. ⌜ r ≡ wordAt (now (nodes .entry)) index 4 ⌝ }
+    ensures { λ r. ⌜ r ≡ wordAt (now (nodes .entry)) index roleWord ⌝ }
 {
     word(nodes, index, ROLE)
 }
 
-// The index just past the node's last descendant. Nodes stand parent first, so a later node descends from this one as long as its parent
-// is not an earlier one. Where no node is at the index, it is the index itself.
+// The index just past the node's last descendant, as its word tells: in any table it is behind the node, and at most the count of nodes.
+// Where no node is at the index, it is the index itself.
 pub(crate) fn past(nodes: &[u32], index: usize) -> usize
     ensures { λ r. ⌜ Past (now (nodes .entry)) index r ⌝ }
 {
@@ -61,12 +54,12 @@ pub(crate) fn past(nodes: &[u32], index: usize) -> usize
     if index >= all {
         return index;
     }
-    let mut i = index + 1;
-    while i < all {
-        if (word(nodes, i, PARENT) as usize) < index {
-            return i;
-        }
-        i += 1;
+    let told = word(nodes, index, SKIP) as usize;
+    if told <= index {
+        return index + 1;
     }
-    i
+    if told > all {
+        return all;
+    }
+    told
 }

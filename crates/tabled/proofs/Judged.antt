@@ -14,7 +14,7 @@ use Rattle.reading.specs.Tabled.{Holds, Judged, Judges, refused, otherTable, sh
 use Rattle.reading.proofs.Found as Found
 use Rattle.reading.proofs.Found.{Found, found}
 
-module _ (text words lent left : List ℕ) (number : ℕ) (as-long : length lent ≡ min 6144 (length words)) {a : Answer} (x : Answers base text lent number a left) where
+module _ (text words lent left : List ℕ) (number : ℕ) (as-long : length lent ≡ min (base .nodes * nodeWords) (length words)) {a : Answer} (x : Answers base text lent number a left) where
   same-room : room base (length lent) ≡ room base (length words)
   same-room = omega (arith, as-long)
 

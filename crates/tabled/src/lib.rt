@@ -5,15 +5,16 @@ use reading::Answer;
 use reading::TABLE;
 use tree::read::read;
 ghost use mathlib.Core.Path.{_≡_};
-ghost use Prim.Native.Nat.{_≤_, min};
+ghost use Prim.Native.Nat.{_*_, _≤_, min};
 ghost use lib.ListN.{length, take};
 ghost use Rattle.rules.specs.Test.{Says};
+ghost use Rattle.grammar.specs.Nodes.{nodeWords};
 ghost use Rattle.reading.specs.Sizes.{base};
 ghost use Rattle.reading.specs.Tabled.{Judges};
 
 // As many words of a table as a reading makes use of.
 fn usable(words: usize) -> usize
-    ensures { λ r. ⌜ r ≡ min 6144 words ⌝ }
+    ensures { λ r. ⌜ r ≡ min (base .nodes * nodeWords) words ⌝ }
 {
     if words < TABLE {
         return words;
@@ -38,7 +39,7 @@ fn same(own: &[u32], table: &[u32], words: usize) -> bool
 
 // Reads into a table of its own, with as much room, and compares.
 fn compared(level: u32, text: &[u8], table: &[u32], own: &mut [u32]) -> Answer
-    requires { ⌜ length (now own) ≡ min 6144 (length (now table)) ⌝ }
+    requires { ⌜ length (now own) ≡ min (base .nodes * nodeWords) (length (now table)) ⌝ }
     ensures { λ r. ⌜ Judges base (now (text .entry)) (now (table .entry)) level r ⌝ }
 {
     let answer = read(level, text, own);

@@ -5,9 +5,6 @@ use Rattle.plain.proofs.Fits.{fills}
 use Rattle.plain.proofs.fill.Statement.{statement}
 use Rattle.plain.proofs.fill.Tie as tie
 
-count-requires : tie.Need-count-requires
-count-requires c κs = search needs
-
 write-node-requires : tie.Need-write-node-requires
 write-node-requires c κs = search needs
 
@@ -15,7 +12,7 @@ same-length : tie.Need-same-length
 same-length c = search needs
 
 returns : tie.Need-returns
-returns c = fills (omega arith) (c .before .before .before .before .count .ensures) (c .before .before .write-node .ensures)
+returns c = fills (omega arith) (c .before .before .write-node .ensures)
 
 pub fill-spec : {M : Type 1} → statement M
-fill-spec = tie.close (tie.spec count-requires write-node-requires same-length returns)
+fill-spec = tie.close (tie.spec write-node-requires same-length returns)

@@ -15,9 +15,6 @@ same-length c = search needs
 returns : tie.Need-returns
 returns c = long-enough (omega (arith, c .before .before .before .before .if1 .taken)) (c .before .before .fill .ensures)
 
-count-requires : tie.Need-count-requires
-count-requires c κs = search needs
-
 slice-relend-prefix-write-node : tie.Need-slice-relend-prefix-write-node
 slice-relend-prefix-write-node c = search needs
 
@@ -31,7 +28,7 @@ same-length-2 : tie.Need-same-length-2
 same-length-2 c = search needs
 
 returns-2 : tie.Need-returns-2
-returns-2 c = too-small (omega arith) (c .before .before .before .before .before .count .ensures) (c .before .before .before .write-node .ensures) refl (omega (arith, c .if2 .taken))
+returns-2 c = too-small (omega arith) (c .before .before .before .write-node .ensures) refl (omega (arith, c .if2 .taken))
 
 fill-requires-2 : tie.Need-fill-requires-2
 fill-requires-2 c κs = search needs
@@ -41,7 +38,7 @@ same-length-3 c = search needs
 
 returns-3 : tie.Need-returns-3
 returns-3 c =
-    fits (omega arith) (c .before .before .before .before .before .before .before .before .before .count .ensures) (c .before .before .before .before .before .before .before .write-node .ensures) refl (omega (arith, c .before .before .before .before .if2 .left)) (c .before .before .fill2 .ensures)
+    fits (omega arith) (c .before .before .before .before .before .before .before .write-node .ensures) refl (omega (arith, c .before .before .before .before .if2 .left)) (c .before .before .fill2 .ensures)
 
 pub fit-spec : {M : Type 1} → statement M
 fit-spec =
@@ -50,7 +47,6 @@ fit-spec =
     fill-requires
     same-length
     returns
-    count-requires
     slice-relend-prefix-write-node
     slice-aggregate-write-node
     write-node-requires
