@@ -1,22 +1,23 @@
 -- The backward arrow: where it is retired no accepted text has it, no node has role 3, and nothing is stored with it; what was written is still
 -- accepted by the old rules. Assumes nothing.
-use mathlib.Core.Path.{_≡_, refl, sym, ap, subst, _∙_}
+use mathlib.Core.Path.{_≡_, refl, sym, subst, _∙_}
 use mathlib.Core.Bool.{Bool, true, false}
-use mathlib.Core.List.{List, [], _∷_, _++_}
+use mathlib.Core.List.{List, [], _∷_}
 use mathlib.Core.Option.{Option, none, some}
-use Prim.Native.Nat.{ℕ, zero, suc, _+_, _*_, _<_}
+use Prim.Native.Nat.{ℕ, zero, suc, _<_}
 use native.Mathlib.Nat.{not-suc-le-zero}
 use native.Mathlib.Omega.{arith}
-use lib.ListN.{length, getD, drop}
+use lib.ListN.{length}
 use Rattle.rules.specs.Every.{Every, none, also}
 use Rattle.grammar.specs.Tree.{Value}
 use Rattle.grammar.specs.Level.{Level, arrowless, keeps}
-use Rattle.grammar.specs.Nodes.{Role, root, this, thatAfter, thatBefore, name, value, count, low, high, single, roleNumber, Node, table, tableWords, nodeWords}
+use Rattle.grammar.specs.Nodes.{Role, root, this, thatAfter, thatBefore, name, value, count, low, high, single, roleNumber, roleWord, Node, table, wordAt}
+use Rattle.grammar.proofs.NodeLaws.{nodeAt}
 use Rattle.grammar.proofs.Retired.{noThatBefore}
 use Rattle.reading.specs.declared.Answer.{Answer}
 use Rattle.reading.specs.declared.Rules.{Rules}
 use Rattle.reading.specs.Sizes.{withArrow}
-use Rattle.reading.specs.Answers.{Reading, Answers, nodesOf, noLevel, tooLong, notUtf8, faulty, noRoom, accepted}
+use Rattle.reading.specs.Answers.{Reading, Answers, noLevel, tooLong, notUtf8, faulty, noRoom, accepted}
 use Rattle.reading.specs.Derived.{readable}
 use Rattle.reading.specs.Tabled.{Tabled, shown}
 use Rattle.reading.specs.Arrow.{NoArrows}
@@ -24,6 +25,8 @@ use Rattle.reading.proofs.Numbers.{refused-number, fault-number}
 use Rattle.reading.proofs.Derived.{accepted-derived, derived-arrowless}
 use Rattle.reading.specs.Buffer as Buffer
 use Rattle.reading.proofs.Unique.{one-reading}
+use Rattle.reading.proofs.Found.{found}
+use Rattle.reading.proofs.Tabled.{held-word}
 use Rattle.reading.proofs.Arrow.{reading-old, old-fifteen, never-fifteen}
 use Rattle.files.specs.Writes as Writes
 use Rattle.files.specs.Writes.{Writes}
@@ -46,13 +49,10 @@ role-3 low e = absurd (omega (arith, e))
 role-3 high e = absurd (omega (arith, e))
 role-3 single e = absurd (omega (arith, e))
 
--- the word of node i that tells its role
-role-word : (ns : List Node) (rest : List ℕ) (i : ℕ) → i < length ns → Every (λ n. n .role ≡ thatBefore → ⊥) ns → getD (tableWords ns ++ rest) (nodeWords * i + 4) 0 ≡ 3 → ⊥
-role-word [] rest i h a e = not-suc-le-zero h
-role-word (n ∷ ns) rest zero h (also p a) e = p (role-3 (n .role) e)
-role-word (n ∷ ns) rest (suc i) h (also p a) e =
-    let next : nodeWords * suc i + 4 ≡ suc (suc (suc (suc (suc (suc (nodeWords * i + 4)))))) = omega arith in
-    role-word ns rest i (omega (arith, h)) a (ap (λ (k : ℕ). getD (tableWords (n ∷ ns) ++ rest) k 0) (sym next) ∙ e)
+node-role : (ns : List Node) (i : ℕ) → i < length ns → Every (λ n. n .role ≡ thatBefore → ⊥) ns → roleNumber (nodeAt ns i .role) ≡ 3 → ⊥
+node-role [] i h a e = not-suc-le-zero h
+node-role (n ∷ ns) zero h (also p a) e = p (role-3 (n .role) e)
+node-role (n ∷ ns) (suc i) h (also p a) e = node-role ns i (omega (arith, h)) a e
 
 -- ---- readings
 
@@ -73,14 +73,11 @@ module _ (rules : Rules) (text : List ℕ) where
     unturned {v = v} (shown x h) = let w = without x in turned (w .0) v (w .1)
 
     pub no-role-3 : (lent : List ℕ) {left : List ℕ} {number : ℕ} {r : Answer} (i : ℕ) → Answers rules text lent number r left → r .number ≡ 0 → i < r .count →
-        getD left (nodeWords * i + 4) 0 ≡ 3 → ⊥
-    no-role-3 lent {left} i a e h is = go (a .tree) (a .reading) (a .left-is) e h
-      where
-        go : {room number : ℕ} {r : Answer} (t : Option Value) → Reading rules text room number r t → left ≡ tableWords (nodesOf t) ++ drop (nodeWords * length (nodesOf t)) lent →
-            r .number ≡ 0 → i < r .count → ⊥
-        go none x l e h = refused-number rules text x e
-        go (some v) (accepted o s w a m) l e h =
-            role-word (table v) (drop (nodeWords * length (table v)) lent) i h (no-that-before (accepted o s w a m)) (ap (λ (u : List ℕ). getD u (nodeWords * i + 4) 0) (sym l) ∙ is)
+        wordAt left i roleWord ≡ 3 → ⊥
+    no-role-3 lent {left} {number} i a e h is =
+        let f = found rules text lent left number a e in
+        let l : i < length (table (f .tree)) = omega (arith, h, f .count-is) in
+        node-role (table (f .tree)) i l (no-that-before (f .read)) (sym (held-word left (f .tree) (f .holds) i roleWord l (omega arith)) ∙ is)
 
   -- what today's rules accept, the old ones do
   pub answers-old : {lent left : List ℕ} {number : ℕ} {r : Answer} → Answers rules text lent number r left → (r .number ≡ 15 → ⊥) → Answers (withArrow rules) text lent number r left

@@ -8,4 +8,5 @@ pub mod Higher
 pub mod Plain
 pub mod Alike
 pub mod Arrow
+pub mod Skips
 pub mod Requests

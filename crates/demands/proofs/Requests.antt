@@ -1,9 +1,9 @@
 -- What the customer's requests promise, proved in their order. Assumes nothing.
-use mathlib.Core.Path.{_≡_, refl, ap, _∙_}
+use mathlib.Core.Path.{_≡_, refl, ap, subst, _∙_}
 use mathlib.Core.Logic.{_⊎_, inl, inr}
 use mathlib.Core.List.{List, map}
 use mathlib.Core.Option.{Option}
-use Prim.Native.Nat.{ℕ}
+use Prim.Native.Nat.{ℕ, _*_, _<_}
 use native.Mathlib.Omega.{arith}
 use lib.ListN.{length, drop}
 use Rattle.lexicon.specs.Utf8.{BadAt}
@@ -11,7 +11,7 @@ use Rattle.lexicon.proofs.Determined.{formed-or-bad, one-bad}
 use Rattle.lexicon.proofs.Steps as Steps
 use Rattle.lexicon.proofs.Unfit.{bad-no-bytes, no-bytes-only}
 use Rattle.grammar.specs.Tree.{Value}
-use Rattle.grammar.specs.Nodes.{table}
+use Rattle.grammar.specs.Nodes.{nodeWords, skipWord, wordAt, table}
 use Rattle.reading.specs.declared.Answer.{Answer}
 use Rattle.reading.specs.declared.Rules.{Rules}
 use Rattle.reading.specs.Sizes.{room, withArrow}
@@ -34,6 +34,7 @@ use Rattle.files.proofs.SixteenBits.{row-fits}
 use Rattle.files.proofs.ReadBack.{one-row}
 use Rattle.files.proofs.AsRead.{stored-as-read}
 use Rattle.reading.proofs.Tabled.{one-tabled}
+use Rattle.reading.proofs.Unique.{one-answer}
 use Rattle.reading.proofs.Arrow as Arrow
 use Rattle.reading.proofs.Arrow.{retirement, never-fifteen}
 use Rattle.form.specs.Turn.{unspelled}
@@ -44,12 +45,15 @@ use Rattle.form.proofs.Spellable as Spellable
 use Rattle.demands.specs.Requests.{OneTest, PlainSteps, SameRefusal, SameRefusals, Padding, OneFive, FiveInside, OneWrite, OneCheck, TextUnseen, AcceptsExactly, WrittenAccepted, RoomEnough, OneFile, SixteenBits, SameNumbers, AsRead}
 use Rattle.demands.specs.Requests.{OneJudgement, ChangedTable, OnePlain, NothingWritten, PlainRoom, WrittenReadsBack, AlsoWithoutArrow, EndsAlike, EveryRowSpelled}
 use Rattle.demands.specs.Requests.{ArrowRetired, NothingChanged, NoSuchBytes, OldOrder, NoneAccepted, NoRole3, InOrder, NothingNew, StoredAlike, OneConversion, NeitherNumber, NothingConverted, ConvertedRoom, ConvertedReadsBack, ConvertedAlike, ConvertedAsWritten}
+use Rattle.demands.specs.Requests.{RoomBySeven, SevenEach, OwnWords, LentWords, SameSkips}
 use Rattle.demands.proofs.Exists.{some-reading}
 use Rattle.demands.proofs.Higher.{at-level-2}
 use Rattle.demands.proofs.Blobs.{from-reader, from-call, inside}
 use Rattle.demands.proofs.Plain.{by-reading, reader-own, written-back}
 use Rattle.demands.proofs.Alike as Alike
 use Rattle.demands.proofs.Alike.{written-alike}
+use Rattle.demands.proofs.Skips as Skips
+use Rattle.demands.proofs.Skips.{shown-table}
 use Rattle.demands.proofs.Arrow as Retired
 use Rattle.demands.proofs.Arrow.{no-arrows, unturned, answers-old, read-new, writes-old, stored-arrowless, converted-14, converted-15}
 
@@ -278,3 +282,25 @@ converted-alike rules text lent left level other space r a b t u w e h x y = Ali
 
 pub converted-as-written : ConvertedAsWritten
 converted-as-written rules text words lent left level r w e = Converted.as-written rules text words lent w e
+
+-- ---- 7. The seventh word
+
+pub room-by-seven : RoomBySeven
+room-by-seven words = refl
+
+pub seven-each : SevenEach
+seven-each rules bytes lent left number r a e = Skips.seven-each rules bytes lent left a e
+
+pub own-words : OwnWords
+own-words rules bytes lent left number r a e = Skips.own-words rules bytes lent left a e
+
+pub lent-words : LentWords
+lent-words rules text words level r j e = Skips.lent-words rules text words (j .tabled) e
+
+pub same-skips : SameSkips
+same-skips rules text words out lent left level r a x h y i l =
+    let one = one-answer rules out lent y (x .accepted lent h) in
+    let shown = shown-table rules text words (x .shown) in
+    ap (λ (t : List ℕ). wordAt t i skipWord) (one .1)
+    ∙ Skips.same-skips (x .other) (x .tree) (drop (nodeWords * length (table (x .tree))) lent) words i (in-order rules text words level out a x) shown
+    (subst (λ (s : Answer). i < s .count) (one .0) l)

@@ -5,8 +5,8 @@ use mathlib.Core.Logic.{_⊎_, _↔_}
 use mathlib.Core.Bool.{true, false}
 use mathlib.Core.List.{List, [], _∷_, _++_, map}
 use mathlib.Core.Option.{Option, none, some}
-use Prim.Native.Nat.{ℕ, _+_, _*_, _/_, _%_, _^_, _≤_, _<_}
-use lib.ListN.{length, getD, take, drop}
+use Prim.Native.Nat.{ℕ, _+_, _*_, _/_, _%_, _^_, _≤_, _<_, min}
+use lib.ListN.{length, take, drop}
 use Rattle.rules.specs.Class.{codes}
 use Rattle.rules.specs.Every.{Every}
 use Rattle.rules.specs.Plain.{between}
@@ -21,11 +21,12 @@ use Rattle.grammar.specs.Tokens.{Tok}
 use Rattle.grammar.specs.Tree.{Value}
 use Rattle.grammar.specs.Level.{Level, _Within_, arrowless, keeps}
 use Rattle.grammar.specs.Place.{Wrong}
-use Rattle.grammar.specs.Nodes.{nodeWords, table, tableWords}
+use Rattle.grammar.specs.Nodes.{nodeWords, roleWord, skipWord, wordAt, table, tableWords}
+use Rattle.grammar.specs.Stretches.{Stretches}
 use Rattle.reading.specs.declared.Answer.{Answer}
 use Rattle.reading.specs.declared.Limits.{Limits}
 use Rattle.reading.specs.declared.Rules.{Rules}
-use Rattle.reading.specs.Sizes.{room, withArrow}
+use Rattle.reading.specs.Sizes.{base, room, withArrow}
 use Rattle.reading.specs.Tokens.{seen}
 use Rattle.reading.specs.Tests.{test, First}
 use Rattle.reading.specs.Faults.{NewerAt, TooDeep, tests}
@@ -187,7 +188,7 @@ pub record Keeps (text t : List ℕ) (nodes : ℕ) (bytes : List ℕ) : Type 0 w
   pub length-at-7 : take 2 (drop 7 bytes) ≡ number 2 (length text)
   -- word k of node i
   pub words-from-9 : (i k : ℕ) → i < nodes → k < 6 →
-      take 2 (drop (9 + 12 * i + 2 * k) bytes) ≡ number 2 (getD t (nodeWords * i + k) 0)
+      take 2 (drop (9 + 12 * i + 2 * k) bytes) ≡ number 2 (wordAt t i k)
 
 -- an accepted file keeps what a reading of the text leaves in its table, at whichever level it is accepted, by the
 -- checker's rules or by today's: `as-read`
@@ -339,7 +340,7 @@ NoneAccepted =
 abbrev pub NoRole3 : Type 0
 NoRole3 =
     (rules : Rules) (bytes lent left : List ℕ) (number i : ℕ) (r : Answer) → rules .limits .arrow ≡ false →
-    Answers rules bytes lent number r left → r .number ≡ 0 → i < r .count → getD left (nodeWords * i + 4) 0 ≡ 3 → ⊥
+    Answers rules bytes lent number r left → r .number ≡ 0 → i < r .count → wordAt left i roleWord ≡ 3 → ⊥
 
 -- so of request 5's exceptions two are left, places and a Text's detail: no this changes its place with a that:
 -- `in-order`
@@ -408,3 +409,42 @@ ConvertedAsWritten =
     (rules : Rules) (text words lent left : List ℕ) (level : ℕ) (r : Answer) →
     Plain.Writes rules text words lent level r left → r .number ≡ 0 →
     Plain.Converts (withArrow rules) text lent level r left
+
+-- ---- 7. 'Each node gets a seventh word: the index just past its last descendant, or past itself if it has none. Room
+-- becomes the smaller of 1,024 and words divided by 7, rounded down, and an accepted reading writes 7 × count words. Of
+-- all nodes: children lie inside their parent's stretch, and siblings' stretches follow on without gaps. Stored version
+-- 1 files keep six words. … Request 5's tables have it too, and there it follows the indices.' That a stored file keeps
+-- six of the seven is in `Keeps`, which also says where each of them stands
+
+-- 'the smaller of 1,024 and words divided by 7, rounded down': `room-by-seven`
+abbrev pub RoomBySeven : Type 0
+RoomBySeven = (words : ℕ) → room base words ≡ min 1024 (words / 7)
+
+-- 'an accepted reading writes 7 × count words': the table has so many, and behind them is as it was: `seven-each`
+abbrev pub SevenEach : Type 0
+SevenEach =
+    (rules : Rules) (bytes lent left : List ℕ) (number : ℕ) (r : Answer) → Answers rules bytes lent number r left →
+    r .number ≡ 0 →
+    (length left ≡ length lent) × (7 * r .count ≤ length lent) × (drop (7 * r .count) left ≡ drop (7 * r .count) lent)
+
+-- 'Of all nodes': of every accepted reading, on the table's own words, that a node's descendants are the nodes between
+-- it and the index that its seventh word tells, that children lie inside, that siblings follow on, that a walk from one
+-- to the next meets the children and nothing else, and that the root's word is the count: `own-words`
+abbrev pub OwnWords : Type 0
+OwnWords =
+    (rules : Rules) (bytes lent left : List ℕ) (number : ℕ) (r : Answer) → Answers rules bytes lent number r left →
+    r .number ≡ 0 → Stretches left (r .count)
+
+-- 'Request 5's tables have it too': so it is with a table that is not refused there: `lent-words`
+abbrev pub LentWords : Type 0
+LentWords =
+    (rules : Rules) (text words : List ℕ) (level : ℕ) (r : Answer) → Judges rules text words level r → r .number ≡ 0 →
+    Stretches words (r .count)
+
+-- 'and there it follows the indices': `ReadsBack` compares the nodes with their stretches; where no this changes its
+-- place with a that, the word is the same in both tables, node for node: `same-skips`
+abbrev pub SameSkips : Type 0
+SameSkips =
+    (rules : Rules) (text words out lent left : List ℕ) (level : ℕ) (r : Answer) → rules .limits .arrow ≡ false →
+    (x : ReadsBack rules text words level out) → length (table (x .tree)) ≤ room rules (length lent) →
+    Answers rules out lent level r left → (i : ℕ) → i < r .count → wordAt left i skipWord ≡ wordAt words i skipWord
