@@ -10,3 +10,4 @@ pub mod Steps
 pub mod Files
 pub mod Plain
 pub mod Arrow
+pub mod Skips

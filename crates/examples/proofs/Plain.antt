@@ -83,24 +83,24 @@ reads : (table : List ℕ) → 3 ≤ room base (length table) → Judged base te
 unfolding has
 reads table h = Answers.accepted second (is-short text refl) (is-formed text refl) is-accepted h
 
-too-many : (table : List ℕ) → length table < 18 → Judged base text table 2 (answer 8 6 3) none
+too-many : (table : List ℕ) → length table < 21 → Judged base text table 2 (answer 8 6 3) none
 unfolding has
 too-many table h = Answers.noRoom second (is-short text refl) (is-formed text refl) is-accepted (omega (arith, h))
 
-long : (d : ℕ) (rest : List ℕ) → 3 ≤ room base (length (words d ++ rest))
-long d rest = omega (arith, length-append (words d) rest)
+long : (w : ℕ) (rest : List ℕ) → 3 ≤ room base (length (words w ++ rest))
+long w rest = omega (arith, length-append (words w) rest)
 
-not-shown : (d : ℕ) (rest lent : List ℕ) → (d ≡ 2 → ⊥) → Writes base text (words d ++ rest) lent 2 (answer 14 0 0) lent
-not-shown d rest lent n = refused (otherTable (reads (words d ++ rest) (long d rest)) (λ h. n (ap (λ (l : List ℕ). getD l 17 0) h)))
+not-shown : (w : ℕ) (rest lent : List ℕ) → (w ≡ 3 → ⊥) → Writes base text (words w ++ rest) lent 2 (answer 14 0 0) lent
+not-shown w rest lent n = refused (otherTable (reads (words w ++ rest) (long w rest)) (λ h. n (ap (λ (l : List ℕ). getD l 20 0) h)))
 
 pub plain : Plain
 unfolding between
 plain =
     record {
       forms = all-rewritten base rewritings tested;
-      written = λ rest lent h. told (shown (reads (words 2 ++ rest) (long 2 rest)) refl) (Buffer.written h);
-      no-room = λ rest lent h. told (shown (reads (words 2 ++ rest) (long 2 rest)) refl) (Buffer.noRoom h);
-      other-table = λ d rest lent n. not-shown d rest lent n;
-      table-first = λ d rest n. not-shown d rest [] n;
+      written = λ rest lent h. told (shown (reads (words 3 ++ rest) (long 3 rest)) refl) (Buffer.written h);
+      no-room = λ rest lent h. told (shown (reads (words 3 ++ rest) (long 3 rest)) refl) (Buffer.noRoom h);
+      other-table = λ w rest lent n. not-shown w rest lent n;
+      table-first = λ w rest n. not-shown w rest [] n;
       short-table = λ table lent h. refused (Tabled.refused (too-many table h));
     }

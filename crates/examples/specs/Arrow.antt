@@ -37,9 +37,10 @@ retired =
 -- by the old rules
 abbrev pub before : List Example
 before =
-    atBoth "{a,b<-c}" (accepted 8 (node 11 0 8 0 0 0 ∷ node 7 1 2 0 1 2 ∷ node 7 3 4 0 3 2 ∷ node 7 6 7 0 1 2 ∷ []))
-    ++ atBoth "(a<-b)" (accepted 6 (node 9 0 6 0 0 0 ∷ node 7 1 2 0 3 2 ∷ node 7 4 5 0 1 2 ∷ []))
-    ++ atBoth "(Mix<-5)" (accepted 8 (node 9 0 8 0 0 0 ∷ node 7 1 4 0 3 2 ∷ node 3 6 7 0 1 0 ∷ []))
+    atBoth "{a,b<-c}"
+    (accepted 8 (node 11 0 8 0 0 0 4 ∷ node 7 1 2 0 1 2 2 ∷ node 7 3 4 0 3 2 3 ∷ node 7 6 7 0 1 2 4 ∷ []))
+    ++ atBoth "(a<-b)" (accepted 6 (node 9 0 6 0 0 0 3 ∷ node 7 1 2 0 3 2 2 ∷ node 7 4 5 0 1 2 3 ∷ []))
+    ++ atBoth "(Mix<-5)" (accepted 8 (node 9 0 8 0 0 0 3 ∷ node 7 1 4 0 3 2 2 ∷ node 3 6 7 0 1 0 3 ∷ []))
     ++ atBoth "<-" (refused 6 0)
     ++ atBoth "(<-a)" (refused 6 1)
     ++ atBoth "(,a<-b)" (refused 6 3)

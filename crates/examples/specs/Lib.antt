@@ -1,5 +1,6 @@
 -- The texts that document 01 marks with a star, texts with bad values, base-64 Blobs, pieces of the Blob and Bits
--- calls, texts with the steps of the UTF-8 test, stored files, plain forms, and the backward arrow.
+-- calls, texts with the steps of the UTF-8 test, stored files, plain forms, the backward arrow, and the seventh
+-- word.
 pub mod Starred
 pub mod Values
 pub mod Padding
@@ -8,3 +9,4 @@ pub mod Steps
 pub mod Files
 pub mod Plain
 pub mod Arrow
+pub mod Skips

@@ -57,20 +57,20 @@ pub record Rewritten (rules : Rules) (r : Rewriting) : Type 0 where
 
 -- the words of the reading of `{a->b}`, with this for the last
 abbrev pub words : ℕ → List ℕ
-words d = 11 ∷ 0 ∷ 6 ∷ 0 ∷ 0 ∷ 0 ∷ 7 ∷ 1 ∷ 2 ∷ 0 ∷ 1 ∷ 2 ∷ 7 ∷ 4 ∷ 5 ∷ 0 ∷ 2 ∷ d ∷ []
+words w = 11 ∷ 0 ∷ 6 ∷ 0 ∷ 0 ∷ 0 ∷ 3 ∷ 7 ∷ 1 ∷ 2 ∷ 0 ∷ 1 ∷ 2 ∷ 2 ∷ 7 ∷ 4 ∷ 5 ∷ 0 ∷ 2 ∷ 2 ∷ w ∷ []
 
 pub record Plain : Type 0 where
   pub forms : Every (Rewritten base) rewritings
   -- words behind those of the nodes are free, and bytes behind the plain form stay
   pub written : (rest lent : List ℕ) → 5 ≤ length lent →
-      Writes base (codes "{a->b}") (words 2 ++ rest) lent 2 (answer 0 6 5) (codes "{a:b}" ++ drop 5 lent)
+      Writes base (codes "{a->b}") (words 3 ++ rest) lent 2 (answer 0 6 5) (codes "{a:b}" ++ drop 5 lent)
   pub no-room : (rest lent : List ℕ) → length lent < 5 →
-      Writes base (codes "{a->b}") (words 2 ++ rest) lent 2 (answer 8 6 5) lent
+      Writes base (codes "{a->b}") (words 3 ++ rest) lent 2 (answer 8 6 5) lent
   -- 14 comes behind the reader's 8
-  pub other-table : (d : ℕ) (rest lent : List ℕ) → (d ≡ 2 → ⊥) →
-      Writes base (codes "{a->b}") (words d ++ rest) lent 2 (answer 14 0 0) lent
-  pub short-table : (table lent : List ℕ) → length table < 18 →
+  pub other-table : (w : ℕ) (rest lent : List ℕ) → (w ≡ 3 → ⊥) →
+      Writes base (codes "{a->b}") (words w ++ rest) lent 2 (answer 14 0 0) lent
+  pub short-table : (table lent : List ℕ) → length table < 21 →
       Writes base (codes "{a->b}") table lent 2 (answer 8 6 3) lent
   -- and before the writer's own, where no byte fits
-  pub table-first : (d : ℕ) (rest : List ℕ) → (d ≡ 2 → ⊥) →
-      Writes base (codes "{a->b}") (words d ++ rest) [] 2 (answer 14 0 0) []
+  pub table-first : (w : ℕ) (rest : List ℕ) → (w ≡ 3 → ⊥) →
+      Writes base (codes "{a->b}") (words w ++ rest) [] 2 (answer 14 0 0) []

@@ -1,6 +1,6 @@
 -- The texts that document 01 marks with a star, as one table, and the one statement about it: each text's reading ends
 -- as its line says, by the definitions of the tokens, the trees and the answers; 02's request 6 has another line for
--- one of them. proofs/Starred.antt proves it. Assumes nothing.
+-- one of them, and request 7 a seventh word for each node. proofs/Starred.antt proves it. Assumes nothing.
 use mathlib.Core.List.{List, [], _∷_, _++_}
 use mathlib.Core.Option.{Option, none, some}
 use Prim.Native.Nat.{ℕ, _*_, _≤_}
@@ -16,7 +16,7 @@ use Rattle.reading.specs.Answers.{answer, Answers}
 
 -- ---- the lines of the table
 
--- a node's six words
+-- a node's seven words
 pub record Row : Type 0 where
   pub kind : ℕ
   pub first : ℕ
@@ -24,13 +24,14 @@ pub record Row : Type 0 where
   pub parent : ℕ
   pub role : ℕ
   pub detail : ℕ
+  pub skip : ℕ
 
-abbrev pub node : ℕ → ℕ → ℕ → ℕ → ℕ → ℕ → Row
-node k f e p r d = record { kind = k; first = f; end = e; parent = p; role = r; detail = d }
+abbrev pub node : ℕ → ℕ → ℕ → ℕ → ℕ → ℕ → ℕ → Row
+node k f e p r d s = record { kind = k; first = f; end = e; parent = p; role = r; detail = d; skip = s }
 
 abbrev pub wordsOf : List Row → List ℕ
 wordsOf [] = []
-wordsOf (n ∷ ns) = n .kind ∷ n .first ∷ n .end ∷ n .parent ∷ n .role ∷ n .detail ∷ wordsOf ns
+wordsOf (n ∷ ns) = n .kind ∷ n .first ∷ n .end ∷ n .parent ∷ n .role ∷ n .detail ∷ n .skip ∷ wordsOf ns
 
 -- how a reading ends: number, place, nodes, and the integer of the root where the paper gives one
 pub record Outcome : Type 0 where
@@ -92,19 +93,19 @@ abbrev pub starred : List Example
 starred =
     atBoth "" (refused 6 0)
     ++ atBoth "(,)" (refused 6 2)
-    ++ atBoth "{,,}" (accepted 4 (node 11 0 4 0 0 0 ∷ []))
-    ++ atBoth "29 56" (accepted-as (pos 2956) 5 (node 3 0 5 0 0 0 ∷ []))
+    ++ atBoth "{,,}" (accepted 4 (node 11 0 4 0 0 0 1 ∷ []))
+    ++ atBoth "29 56" (accepted-as (pos 2956) 5 (node 3 0 5 0 0 0 1 ∷ []))
     ++ atBoth "(5:y,)" (refused 6 4)
     -- 02, request 6: '01's `{a,b<-c}` becomes 15 at 4'
     ++ atBoth "{a,b<-c}" (refused 15 4)
-    ++ atBoth "(x:::y)" (accepted 7 (node 9 0 7 0 0 0 ∷ node 7 1 2 0 1 2 ∷ node 8 3 6 0 2 0 ∷ []))
+    ++ atBoth "(x:::y)" (accepted 7 (node 9 0 7 0 0 0 3 ∷ node 7 1 2 0 1 2 2 ∷ node 8 3 6 0 2 0 3 ∷ []))
     ++ atBoth "1/0" (refused 5 0)
     ++ atLevel 1 "[1..10]" (refused 7 0)
-    ++ atLevel 2 "[1..10]" (accepted 7 (node 15 0 7 0 0 11 ∷ node 3 1 2 0 7 0 ∷ node 3 4 6 0 8 0 ∷ []))
+    ++ atLevel 2 "[1..10]" (accepted 7 (node 15 0 7 0 0 11 3 ∷ node 3 1 2 0 7 0 2 ∷ node 3 4 6 0 8 0 3 ∷ []))
     ++ atLevel 1 "(Array:{a:20})" (refused 7 0)
-    ++ atLevel 2 "(Array:{a:20})" (accepted 14 (node 12 0 14 0 0 0 ∷ node 7 8 9 0 5 2 ∷ node 3 10 12 0 6 0 ∷ []))
+    ++ atLevel 2 "(Array:{a:20})" (accepted 14 (node 12 0 14 0 0 0 3 ∷ node 7 8 9 0 5 2 2 ∷ node 3 10 12 0 6 0 3 ∷ []))
     ++ atLevel 1 "(Array:5)" (refused 7 0)
     ++ atLevel 2 "(Array:5)" (refused 6 7)
     ++ atBoth "(\"Array\":{a})"
-    (accepted 13 (node 9 0 13 0 0 0 ∷ node 7 1 8 0 1 1 ∷ node 11 9 12 0 2 0 ∷ node 7 10 11 2 1 2 ∷ []))
+    (accepted 13 (node 9 0 13 0 0 0 4 ∷ node 7 1 8 0 1 1 2 ∷ node 11 9 12 0 2 0 4 ∷ node 7 10 11 2 1 2 4 ∷ []))
     ++ atBoth "{1 0Lct}" (refused 6 4)

@@ -9,4 +9,4 @@ values =
     ++ atBoth "0cx110000" (refused 5 0)
     ++ atBoth "\"\\\\<0cxD800>\"" (refused 5 0)
     ++ atBoth "\"a\" \"\\\\<0cxD800>\"" (refused 5 0)
-    ++ atBoth "\"\\\\<0cxD7FF>\"" (accepted 13 (node 7 0 13 0 0 1 ∷ []))
+    ++ atBoth "\"\\\\<0cxD7FF>\"" (accepted 13 (node 7 0 13 0 0 1 1 ∷ []))
