@@ -9,13 +9,15 @@ const MARK: &[u8] = b"FNT";
 const VERSION: u16 = 1;
 /// Bytes of a number.
 const NUMBER: usize = 2;
+/// Words of a node in a file of version 1: it has no seventh.
+pub const STORED_WORDS: usize = 6;
 /// Mark and version.
 const FRONT: usize = MARK.len() + NUMBER;
 
 /// The bytes of a file with so many nodes: mark, version, node count, text
 /// length, and six words a node.
 pub const fn length(nodes: usize) -> usize {
-    FRONT + 2 * NUMBER + nodes * NODE_WORDS * NUMBER
+    FRONT + 2 * NUMBER + nodes * STORED_WORDS * NUMBER
 }
 
 /// The longest file.
@@ -44,7 +46,8 @@ pub fn of(rules: Rules, text: &[u8]) -> Result<Vec<u8>, Answer> {
         return Err(answer);
     }
     let head = [u32::from(VERSION), answer.count as u32, text.len() as u32];
-    let words = &table[..answer.count * NODE_WORDS];
+    let nodes = table.chunks(NODE_WORDS).take(answer.count);
+    let words = nodes.flat_map(|node| &node[..STORED_WORDS]);
     let mut file = MARK.to_vec();
     for number in head.iter().chain(words) {
         let number = u16::try_from(*number).expect("an accepted text has no greater number");

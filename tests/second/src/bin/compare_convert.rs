@@ -334,7 +334,7 @@ fn run(counts: &mut Counts) -> Compared {
     for sample in samples::all() {
         counts.sample(&sample)?;
     }
-    for (text, _) in before::FILES {
+    for (text, _) in before::ARROWS {
         counts.text(text)?;
         counts.commented(text)?;
     }

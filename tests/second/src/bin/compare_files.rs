@@ -7,7 +7,7 @@
 //! The texts are every sample, broken off at every byte, generated and damaged
 //! ones, ones with arrows, random bytes, and long ones.  The files are those of
 //! these texts by the old rules, whole and changed, broken off and longer, under
-//! their own and under other texts, a few as they were written before, and bytes
+//! their own and under other texts, some as they were written before, and bytes
 //! that are no file.
 //!
 //! Exits with 1 at the first disagreement.
@@ -16,7 +16,7 @@ use second::answer::{Answer, NODES_MAX, RETIRED_ARROW, TEXT_MAX};
 use second::compare::{
     all_met, each_met, finish, lengths, listed, same, same_written, Compared, Difference, TURNS,
 };
-use second::file::{self, FILE_MAX};
+use second::file::{self, FILE_MAX, STORED_WORDS};
 use second::generate::{
     arrow_rows, arrow_texts, good_texts, long_texts, old_texts, random_bytes, sized_forms, texts,
     Random,
@@ -34,7 +34,7 @@ const RANDOM_BYTES: usize = 200_000;
 /// Mark, version, node count and text length.
 const HEAD: usize = 9;
 /// A node's bytes.
-const NODE: usize = 12;
+const NODE: usize = 2 * STORED_WORDS;
 /// The answers that the writer and the checker can give.
 const WRITTEN: [usize; 10] = [0, 2, 3, 4, 5, 6, 7, 8, 11, 15];
 const CHECKED: [usize; 4] = [0, 12, 13, 14];
@@ -333,8 +333,8 @@ impl Counts {
     }
 }
 
-/// That the archive's file has the words that its reader writes to a table of
-/// 1,024 nodes, or that both refuse the text alike.
+/// That the archive's file has the first six words of each node that its reader
+/// writes to a table of 1,024 nodes, or that both refuse the text alike.
 fn as_read(text: &[u8]) -> Compared {
     let mut table = [0; muon::TABLE_MAX];
     let read = archive::read(text, &mut table);
@@ -343,7 +343,8 @@ fn as_read(text: &[u8]) -> Compared {
     if read.number != 0 {
         return same("refusal of the archive's writer", text, read, answer);
     }
-    let words = &table[..read.count * muon::NODE_WORDS];
+    let nodes = table.chunks(muon::NODE_WORDS).take(read.count);
+    let words = nodes.flat_map(|node| &node[..STORED_WORDS]);
     let head = [1, read.count as u32, text.len() as u32];
     let numbers = head.iter().chain(words);
     let bytes = numbers.flat_map(|number| [(number >> 8) as u8, *number as u8]);
@@ -366,23 +367,35 @@ fn sized_texts() -> Vec<Vec<u8>> {
     all
 }
 
-/// What the writer gave before, byte for byte, is accepted, and refused with 15
-/// where it is to be written.
+/// What the writer gave before, byte for byte, is accepted.  With an arrow it is
+/// refused with 15 where it is to be written, and else written alike.
 fn files_of_before() -> Compared {
-    for &(text, stored) in samples::before::FILES {
+    for &(text, stored) in samples::before::ARROWS {
         let want = Answer::accepted(text.len(), stored.len());
         let answer = archive::check(text, stored);
         same("check of a file of before", text, want, answer)?;
         let number = archive::write(text, &mut [0; FILE_MAX]).number;
         same("writing of it", text, RETIRED_ARROW, number)?;
     }
+    for (text, stored) in samples::before::unchanged() {
+        let want = Answer::accepted(text.len(), stored.len());
+        let answer = archive::check(&text, stored);
+        same("check of a file of six words", &text, want, answer)?;
+        let mut written = vec![0; stored.len()];
+        let answer = archive::write(&text, &mut written);
+        same("writing of it", &text, want, answer)?;
+        same("its bytes", &text, stored, &written[..])?;
+    }
     Ok(())
 }
 
 fn run(counts: &mut Counts) -> Compared {
     files_of_before()?;
-    for (text, _) in samples::before::FILES {
+    for (text, _) in samples::before::ARROWS {
         counts.text(text, Care::Every)?;
+    }
+    for (text, _) in samples::before::unchanged() {
+        counts.text(&text, Care::Some(30))?;
     }
     for sample in samples::all() {
         counts.text(sample.text, Care::Every)?;

@@ -65,10 +65,11 @@ fn the_file_of_a_pair() {
     assert_eq!(check(b"(x:y)", &file(b"(x:y)")), Answer::accepted(5, 45));
 }
 
-/// What was stored with an arrow is still taken, and no more is stored.
+/// What was stored with an arrow is still taken, and no more is stored; what was
+/// stored when a node had six words is what is stored today.
 #[test]
 fn files_of_before() {
-    for &(text, file) in before::FILES {
+    for &(text, file) in before::ARROWS {
         assert_eq!(of(Rules::Old, text).as_deref(), Ok(file));
         assert_eq!(check(text, file), Answer::accepted(text.len(), file.len()));
         let (answer, written) = writes(text, FILE_MAX);
@@ -76,9 +77,14 @@ fn files_of_before() {
         assert_eq!(of(Rules::Today, text), Err(answer));
         assert!(text[answer.place..].starts_with(b"<-"));
     }
+    for (text, stored) in before::unchanged() {
+        assert_eq!(file(&text), stored, "{}", text.escape_ascii());
+        let accepted = Answer::accepted(text.len(), stored.len());
+        assert_eq!(check(&text, stored), accepted);
+    }
     // the same pair by today's rules has another file
     refused(b"(b<-a)", &file(b"(a->b)"), NOT_THE_FILE);
-    refused(b"(a->b)", before::FILES[0].1, NOT_THE_FILE);
+    refused(b"(a->b)", before::ARROWS[0].1, NOT_THE_FILE);
 }
 
 #[test]
