@@ -7,7 +7,9 @@ pub const DEPTH_MAX: usize = 32;
 /// The most nodes a table takes, however long it is.
 pub const NODES_MAX: usize = 1_024;
 /// Words of one node.
-pub const NODE_WORDS: usize = 6;
+pub const NODE_WORDS: usize = 7;
+/// The seventh among them: the index just past the node's last descendant.
+pub const SKIP: usize = 6;
 
 pub const LEVEL: u32 = 1;
 pub const TOO_LONG: u32 = 2;

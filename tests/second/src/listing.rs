@@ -40,7 +40,7 @@ mod tests {
     fn too_many_nodes() {
         assert_eq!(listing(&crate::samples::members(2050)), b"no 8 2050\n");
         let most = listing(&crate::samples::members(2048));
-        assert!(most.starts_with(b"ok 2 1024\n11 0 2048 0 0 0\n7 1 2 0 1 2\n"));
+        assert!(most.starts_with(b"ok 2 1024\n11 0 2048 0 0 0 1024\n7 1 2 0 1 2 2\n"));
         assert_eq!(most.iter().filter(|&&byte| byte == b'\n').count(), 1025);
     }
 

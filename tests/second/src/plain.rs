@@ -4,7 +4,7 @@
 //! It is written from this package's own tree of the text; the table is only
 //! compared with it.  The converter takes no table, and reads by the old rules.
 
-use crate::answer::{Answer, NODES_MAX, NODE_WORDS, NOT_THE_FILE};
+use crate::answer::{Answer, NODES_MAX, NODE_WORDS, NOT_THE_FILE, SKIP};
 use crate::space;
 use crate::token::{self, Form, Kind, Lexed};
 use crate::tree::{self, kind, role, Rules, Value};
@@ -191,6 +191,8 @@ pub struct Turned {
     pub role: u32,
     /// 0 of a Text.
     pub detail: u32,
+    /// As far behind the node's index as it was in the table.
+    pub skip: u32,
 }
 
 /// The nodes of a table, each this before its that, with the indices that
@@ -234,6 +236,7 @@ fn turn(
             kind::TEXT => 0,
             _ => node[5],
         },
+        skip: here + node[SKIP] - index as u32,
     });
     found.1.push(index);
     for child in &children[index] {

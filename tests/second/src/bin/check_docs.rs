@@ -23,8 +23,8 @@ const NO_TOKEN: u64 = 10;
 struct Proved;
 
 impl Library for Proved {
-    fn read(&self, level: u32, text: &[u8]) -> (u32, usize, Vec<u32>) {
-        let mut table = vec![0; muon::TABLE_MAX];
+    fn read_into(&self, level: u32, text: &[u8], words: usize) -> (u32, usize, Vec<u32>) {
+        let mut table = vec![0; words];
         let answer = muon::read(level, text, &mut table);
         table.truncate(answer.count * muon::NODE_WORDS);
         (answer.number, answer.place, table)
@@ -234,6 +234,8 @@ fn self_test(repository: &Repository, root: &Path) -> Result<(), String> {
         "`{a,b<-c}` is 15@3",
         "By the old rules `(b<-a)` has the node `9 0 6 0 0 0`",
         "With the table of `(x,y)`, `(x:y)` is 8@5",
+        "With a table of 7 words, `x` is 8@1",
+        "`(x:y)` has the nodes `9 0 5 0 0 0 3`, `7 1 2 0 1 2 3`, `7 3 4 0 2 2 3`",
         "`1..10` has the tokens `1.`, `.10`",
         "    $ printf '5' | target/bin/muon\n    ok 2 2\n",
     ];
@@ -249,7 +251,8 @@ fn self_test(repository: &Repository, root: &Path) -> Result<(), String> {
         "`{b<-a}` converts to `{a:b}`, `(x)` converts to `x`; to be converted, `(b<-` is 6@4",
         "`{a,b<-c}` is 15@4; by the old rules `(b<-a)` has the nodes `9 0 6 0 0 0`, `7 1 2 0 3 2`, `7 4 5 0 1 2`",
         "With the table of `(x,y)`, `(x:y)` is 14@0",
-        "    $ printf '5' | target/bin/muon\n    ok 2 1\n    3 0 1 0 0 0\n",
+        "With a table of 6 words, `x` is 8@1; with a table of 7 words, `x` has the node `7 0 1 0 0 2 1`",
+        "    $ printf '5' | target/bin/muon\n    ok 2 1\n    3 0 1 0 0 0 1\n",
     ];
     if let Some(text) = wrong.iter().find(|text| findings(text) == 0) {
         return Err(text.to_string());

@@ -3,7 +3,8 @@
 //! In prose, with a text in code quotes; 6@4 is refusal 6 at place 4:
 //!
 //! * "TEXT is 6@4", "TEXT has the nodes NODE, NODE", "TEXT has 3 nodes": read
-//!   at both levels, or at the one that the sentence names before;
+//!   at both levels, or at the one that the sentence names before; both so in a
+//!   table of 6 words where it says "with a table of 6 words" before;
 //! * "TEXT has the tokens PIECE, PIECE", at its end perhaps "and then 4@3";
 //! * "TEXT has the value 29", by the Integer call; "TEXT has the characters
 //!   OTHER" or "TEXT has no characters", by the Text call; "TEXT has the bytes
@@ -25,8 +26,8 @@
 //!   converted" before;
 //! * where the sentence says "by the old rules" before: "TEXT is 4@4", by the
 //!   converter at both levels, since the old reading is seen there; and "TEXT
-//!   has the nodes NODE, NODE", by the checker of stored files, which takes the
-//!   file with these nodes.
+//!   has the nodes NODE, NODE", each of six words, by the checker of stored
+//!   files, which takes the file with these nodes.
 //!
 //! In a table with the columns "text", "old reader" and "new reader" or "both
 //! readers": an answer, nodes, a number of nodes, or "the same" as before.
@@ -35,13 +36,15 @@
 use super::markup::{one_spaced, Block, Part, Passage};
 use super::{Document, Finding};
 use crate::answer::{Answer, NODES_MAX, NODE_WORDS, NO_TOKEN};
-use crate::file::FILE_MAX;
+use crate::file::{FILE_MAX, STORED_WORDS};
 use crate::token::Lexed;
 use crate::{file, front, plain, token, tree, utf8, value};
 
 #[derive(Clone, Debug, PartialEq, Eq)]
 pub enum Call {
     Read(u32),
+    /// At a level, in a table of so many words.
+    ReadInto(u32, usize),
     Tokens,
     Integer,
     Text,
@@ -97,6 +100,8 @@ pub struct Example {
 
 /// The level of a plain form, if the sentence names none.
 const PLAIN_LEVEL: u32 = 2;
+/// The word of a node that has its detail.
+const DETAIL: usize = 5;
 /// Between a text and its plain form.
 const IS_WRITTEN: &str = " is written ";
 /// Between a text and what the converter writes.
@@ -109,6 +114,8 @@ const TABLE_OF: &str = "ith the table of ";
 enum Asked {
     BothLevels,
     Level(u32),
+    /// Both levels, in a table of so many words.
+    Words(usize),
     Integer,
     Text,
     Blob,
@@ -127,6 +134,7 @@ impl Asked {
         match self {
             Asked::BothLevels => vec![Call::Read(1), Call::Read(2)],
             Asked::Level(level) => vec![Call::Read(*level)],
+            Asked::Words(words) => [1, 2].map(|level| Call::ReadInto(level, *words)).to_vec(),
             Asked::Integer => vec![Call::Integer],
             Asked::Text => vec![Call::Text],
             Asked::Blob => vec![Call::Blob],
@@ -145,6 +153,14 @@ impl Asked {
         match self {
             Asked::OldRules => vec![Call::CheckNodes],
             _ => self.calls(),
+        }
+    }
+
+    /// The words of a node that these calls tell.
+    fn node_words(&self) -> usize {
+        match self {
+            Asked::OldRules => STORED_WORDS,
+            _ => NODE_WORDS,
         }
     }
 
@@ -303,13 +319,11 @@ fn leading_value(text: &str) -> Option<(Call, Vec<u8>)> {
     None
 }
 
-/// "3 nodes" or "1 node"; so of steps.
+/// "3 nodes", "1 node" or "1,024 nodes"; so of steps and of words.
 fn leading_count(text: &str, noun: &str) -> Option<usize> {
-    let (_, behind) = text.split_once(' ')?;
-    behind
-        .starts_with(noun)
-        .then(|| leading_number(text))
-        .flatten()
+    let (number, behind) = text.split_once(' ')?;
+    let number = number.replace(',', "").parse().ok()?;
+    behind.starts_with(noun).then_some(number)
 }
 
 /// Whether what looks like a name is a text, by the prose on its two sides: its
@@ -372,6 +386,9 @@ fn asked(before: Asked, prose: &str) -> Asked {
             asked = call;
         }
     }
+    if let Some((_, words)) = sentence.split_once("ith a table of ") {
+        asked = leading_count(words, "word").map_or(asked, Asked::Words);
+    }
     if let Some((_, bytes)) = sentence.split_once("ith the file ") {
         asked = Asked::Check(leading_bytes(bytes, 2));
     }
@@ -383,9 +400,9 @@ fn behind_table_of(before: &[Part]) -> bool {
     matches!(before.last(), Some(Part::Prose(prose)) if one_spaced(prose).ends_with(TABLE_OF))
 }
 
-fn is_node(text: &str) -> bool {
+fn is_node(text: &str, length: usize) -> bool {
     let words: Vec<&str> = text.split(' ').collect();
-    words.len() == NODE_WORDS && words.iter().all(|word| word.parse::<u32>().is_ok())
+    words.len() == length && words.iter().all(|word| word.parse::<u32>().is_ok())
 }
 
 struct Reader<'a> {
@@ -485,7 +502,7 @@ impl Reader<'_> {
             let nodes = listed(&behind[1..])
                 .0
                 .into_iter()
-                .take_while(|code| is_node(code))
+                .take_while(|code| is_node(code, context.node_words()))
                 .collect();
             self.add(line, text, &context.nodes(), &Want::Nodes(nodes));
         } else if let Some(count) = leading_count(rest, "node") {
@@ -519,7 +536,7 @@ impl Reader<'_> {
             };
             let nodes: Vec<String> = all_codes(cell)
                 .into_iter()
-                .filter(|code| is_node(code))
+                .filter(|code| is_node(code, asked.node_words()))
                 .collect();
             let want = if let Some(((number, place), _)) = leading_answer(prose) {
                 Want::Refused(number, place)
@@ -577,10 +594,17 @@ fn listed(parts: &[Part]) -> (Vec<String>, String) {
     (texts, String::new())
 }
 
+/// Number, place, and the words of the nodes.
+type Reading = (u32, usize, Vec<u32>);
+
 /// The calls of a library.
 pub trait Library {
-    /// Number, place, and the words of the nodes.
-    fn read(&self, level: u32, text: &[u8]) -> (u32, usize, Vec<u32>);
+    /// With a table of so many words.
+    fn read_into(&self, level: u32, text: &[u8], words: usize) -> Reading;
+    /// With room enough.
+    fn read(&self, level: u32, text: &[u8]) -> Reading {
+        self.read_into(level, text, NODES_MAX * NODE_WORDS)
+    }
     /// Number, place and value.
     fn integer(&self, piece: &[u8]) -> (u32, usize, i64);
     /// Number, place and bytes.
@@ -603,8 +627,8 @@ pub trait Library {
 pub struct Second;
 
 impl Library for Second {
-    fn read(&self, level: u32, text: &[u8]) -> (u32, usize, Vec<u32>) {
-        let mut table = vec![0; NODES_MAX * NODE_WORDS];
+    fn read_into(&self, level: u32, text: &[u8], words: usize) -> Reading {
+        let mut table = vec![0; words];
         let answer = tree::read(level, text, &mut table);
         table.truncate(answer.count * NODE_WORDS);
         (answer.number, answer.place, table)
@@ -676,7 +700,11 @@ fn written(call: impl Fn(&[u8], &mut [u8]) -> Answer, piece: &[u8]) -> (u32, usi
 pub fn run(example: &Example, library: &dyn Library) -> Result<(), String> {
     let text = example.text.as_bytes();
     let found = match &example.call {
-        Call::Read(level) => reading(&example.want, *level, text, library),
+        Call::Read(level) => reading(&example.want, |at| library.read(at, text), *level),
+        Call::ReadInto(level, words) => {
+            let read = |at| library.read_into(at, text, *words);
+            reading(&example.want, read, *level)
+        }
         Call::Tokens => tokens(text, library),
         Call::Integer => integer(&example.want, library.integer(text)),
         Call::Text => characters(&example.want, library.text(text)),
@@ -733,9 +761,9 @@ fn file_with(text: &[u8], want: &Want) -> Vec<u8> {
         .collect()
 }
 
-/// What was read, in the terms that are wanted.
-fn reading(want: &Want, level: u32, text: &[u8], library: &dyn Library) -> Want {
-    let (number, place, words) = library.read(level, text);
+/// What was read at a level, in the terms that are wanted.
+fn reading(want: &Want, read: impl Fn(u32) -> Reading, level: u32) -> Want {
+    let (number, place, words) = read(level);
     let line = |node: &[u32]| {
         node.iter()
             .map(u32::to_string)
@@ -747,8 +775,8 @@ fn reading(want: &Want, level: u32, text: &[u8], library: &dyn Library) -> Want 
     }
     match want {
         Want::Count(_) => Want::Count(words.len() / NODE_WORDS),
-        Want::Detail(_) => Want::Detail(words[NODE_WORDS - 1]),
-        Want::Same if library.read(1, text) == (number, place, words.clone()) => Want::Same,
+        Want::Detail(_) => Want::Detail(words[DETAIL]),
+        Want::Same if read(1) == (number, place, words.clone()) => Want::Same,
         _ => Want::Nodes(words.chunks(NODE_WORDS).map(line).collect()),
     }
 }
@@ -821,7 +849,7 @@ mod tests {
         let text = "`(5:y,)` is 6@4. At level 1 `[1]` is 7@0, and at level 2 `[1]` has 2 nodes. \
             `1..10` has the tokens `1`, `..`, `10`. `5 ~` has the tokens `5` and then 4@2. \
             `29 56` has the value 2956. `\"a\\n\"` has the characters `a\\n`, `\"\"` has no characters. \
-            The Integer call: ` 5` is 9@0. `5` has the nodes `3 0 1 0 0 0`. \
+            The Integer call: ` 5` is 9@0. `5` has the nodes `3 0 1 0 0 0 1`. \
             `0xxA705` has the bytes A7 05, `0xy` has no bytes, and `0bo17` has the bits 0 0 1 1 1 1. \
             `0bb` has no bits. The Blob call: `0xy====` is 5@0. The Bits call: `0xx` is 9@0. \
             `seventeen letters` has 3 steps. The UTF-8 call: `aaaaaaaa\\xC3\\x41` is 3@8 after 1 step, and `a\\xFF` has 1 step. \
@@ -833,9 +861,10 @@ mod tests {
             `{a,b<-c}` is 15@4, but `(<-a)` is 6@1. As a text to be stored, `(b<-a)` is 15@2, and as one to be written plainly, `(b<-a)` is 15@2. \
             `(b<-a)` converts to `(a:b)`, and `x` converts to `x`. At level 1 `{b<-a}` converts to `{a:b}`. As a text to be converted, `(b<-` is 6@4. \
             By the old rules `(a<-$` is 4@4, and `(b<-a)` has the nodes `9 0 6 0 0 0`, `7 1 2 0 3 2`, `7 4 5 0 1 2`. \
-            With the file 46 4E 54 00 01 00 01 00 01 00 07 00 00 00 01 00 00 00 00 00 02, `x` is accepted.";
+            With the file 46 4E 54 00 01 00 01 00 01 00 07 00 00 00 01 00 00 00 00 00 02, `x` is accepted. \
+            With a table of 6 words, `x` is 8@1, and with a table of 7 words, `x` has the node `7 0 1 0 0 2 1`.";
         let found = of(text);
-        assert_eq!(found.examples.len(), 47);
+        assert_eq!(found.examples.len(), 51);
         assert_eq!(wrong(text), 0);
     }
 
@@ -871,6 +900,11 @@ mod tests {
             wrong("By the old rules `(b<-a)` has the nodes `9 0 6 0 0 0`, `7 1 2 0 2 2`, `7 4 5 0 1 2`"),
             1
         );
+        assert_eq!(wrong("With a table of 7 words, `x` is 8@1"), 2);
+        assert_eq!(wrong("With a table of 13 words, `{x}` has 2 nodes"), 2);
+        assert_eq!(wrong("With a table of 7,168 words, `{x}` is 8@3"), 2);
+        assert_eq!(wrong("`5` has the nodes `3 0 1 0 0 0`"), 2);
+        assert_eq!(wrong("`5` has the nodes `3 0 1 0 0 0 2`"), 2);
         assert_eq!(wrong("With the file 46 4E 54 00 01, `x` is accepted"), 1);
         assert_eq!(wrong("At level 1 `[ 5 ]` is written `[5]`"), 1);
         assert_eq!(wrong("A text to be written plainly: `(x` is 6@1"), 1);
@@ -892,7 +926,7 @@ mod tests {
             0
         );
         assert_eq!(
-            wrong(&format!("{head}| `5` | `3 0 1 0 0 0` | the same |\n")),
+            wrong(&format!("{head}| `5` | `3 0 1 0 0 0 1` | the same |\n")),
             0
         );
         assert_eq!(wrong(&format!("{head}| `[]` | 7@1 | fine |\n")), 2);

@@ -3,6 +3,7 @@ use crate::answer::{
     Answer, LEVEL, NEWER_FORM, NODES_MAX, NODE_WORDS, NOT_THE_FILE, RETIRED_ARROW, TEXT_MAX,
     TOO_LONG, WRONG_PLACE,
 };
+use crate::file::STORED_WORDS;
 use crate::samples::{self, members, readings};
 use crate::tree::{self, Rules};
 
@@ -192,9 +193,9 @@ fn the_order_of_the_refusals() {
     assert_eq!(of(&whole, 5), Answer::accepted(5, 5));
     for room in [0, 4] {
         assert_eq!(of(&whole, room), Answer::no_room(5, 5));
-        assert_eq!(of(&whole[..17], room), Answer::no_room(5, 3));
+        assert_eq!(of(&whole[..20], room), Answer::no_room(5, 3));
         assert_eq!(of(&[], room), Answer::no_room(5, 3));
-        assert_eq!(of(&[9; 18], room), Answer::refused(NOT_THE_FILE, 0));
+        assert_eq!(of(&[9; 21], room), Answer::refused(NOT_THE_FILE, 0));
     }
     for at in 0..whole.len() {
         let mut other = whole.clone();
@@ -218,6 +219,20 @@ fn the_order_of_the_refusals() {
         writes(2, &most, &[0; 10_000], 0).0,
         Answer::no_room(most.len(), 1_025)
     );
+}
+
+/// R7.2: it is judged as a table of seven words a node.
+#[test]
+fn a_table_of_six_words_a_node() {
+    let whole = table(2, b"(x:y)").expect("a good text");
+    let before: Vec<u32> = whole
+        .chunks(NODE_WORDS)
+        .flat_map(|node| node[..STORED_WORDS].to_vec())
+        .collect();
+    let of = |table: &[u32]| writes(2, b"(x:y)", table, 5).0;
+    assert_eq!((before.len(), of(&before)), (18, Answer::no_room(5, 3)));
+    let longer = [&before[..], &[0; 3]].concat();
+    assert_eq!(of(&longer), Answer::refused(NOT_THE_FILE, 0));
 }
 
 /// R5.5: the buffer alone is asked whether the plain form fits.
@@ -254,20 +269,21 @@ fn read_and_written_again() {
 
 #[test]
 fn turned_nodes() {
-    let node = |kind, parent, role| Turned {
+    let node = |kind, parent, role, skip| Turned {
         kind,
         parent,
         role,
         detail: 0,
+        skip,
     };
     let words = table_by(Rules::Old, 2, b"{\"b\"<-(1,),c<-d}").expect("a good text");
     let want = [
-        node(11, 0, 0),
-        node(10, 0, 1),
-        node(3, 1, 5),
-        node(7, 0, 2),
-        node(7, 0, 1),
-        node(7, 0, 2),
+        node(11, 0, 0, 6),
+        node(10, 0, 1, 3),
+        node(3, 1, 5, 3),
+        node(7, 0, 2, 4),
+        node(7, 0, 1, 5),
+        node(7, 0, 2, 6),
     ];
     assert_eq!(turned(&words), (want.to_vec(), vec![0, 2, 3, 1, 5, 4]));
 }

@@ -1,4 +1,4 @@
-//! The settled readings, sections A to D and R1 to R6, transcribed example by
+//! The settled readings, sections A to D and R1 to R7, transcribed example by
 //! example; where a request changes an answer of before, the new one.
 
 use super::{both, count, each, lacks, no, ok, retired, Sample, Want};
@@ -785,17 +785,32 @@ pub const EXAMPLES: &[(&str, &[Sample])] = &[
             retired(b"{a<-b,$", 2, no(4, 6)),
         ],
     ),
+    (
+        "R7.1",
+        &[both(
+            b"(x:(y,z))",
+            ok(&[
+                [9, 0, 9, 0, 0],
+                [7, 1, 2, 1, 2],
+                [10, 3, 8, 2, 0],
+                [7, 4, 5, 5, 2],
+                [7, 6, 7, 5, 2],
+            ]),
+        )],
+    ),
 ];
 
 /// Text, words of the table, answer at level 2.
 pub const ROOMS: &[(&[u8], usize, Want)] = &[
     (b"x", 0, lacks(1, 1)),
     (b"x", 5, lacks(1, 1)),
-    (b"x", 6, ok(&[[7, 0, 1, 0, 2]])),
-    (b"(x:y)", 17, lacks(5, 3)),
+    (b"x", 6, lacks(1, 1)),
+    (b"x", 7, ok(&[[7, 0, 1, 0, 2]])),
+    (b"(x:y)", 18, lacks(5, 3)),
+    (b"(x:y)", 20, lacks(5, 3)),
     (
         b"(x:y)",
-        18,
+        21,
         ok(&[[9, 0, 5, 0, 0], [7, 1, 2, 1, 2], [7, 3, 4, 2, 2]]),
     ),
     (b"(x", 0, no(6, 2)),
@@ -942,8 +957,37 @@ pub const CONVERTED: &[BytesCall] = &[
     (b"(a<-$", 0, 4, 4, 0, b""),
 ];
 
+/// A text, and the seventh words of its nodes at level 2.
+pub const SKIPS: &[(&[u8], &[u32])] = &[
+    (b"(x:(y,z))", &[5, 2, 5, 4, 5]),
+    (b"x", &[1]),
+    // empty brackets, and what makes no node of its own
+    (b"()", &[1]),
+    (b"{,,}", &[1]),
+    (b"[*]", &[1]),
+    (b"(Set:{})", &[1]),
+    (b"(((x)))", &[1]),
+    (b"((x):({(y)}))", &[4, 2, 4, 4]),
+    (b"::a::b", &[1]),
+    (b"(::a:::b)", &[3, 2, 3]),
+    // brackets in brackets, in front, between and behind
+    (b"{{},{{}},{}}", &[5, 2, 4, 4, 5]),
+    (b"{a:{b:{c:d}},e}", &[8, 2, 7, 4, 7, 6, 7, 8]),
+    (b"(x:1,(y,z),w:{})", &[8, 2, 3, 6, 5, 6, 7, 8]),
+    (b"[{a}<=*]", &[3, 3, 3]),
+    (b"{(x:y),[a..(Bag:{b:2})]}", &[9, 4, 3, 4, 9, 6, 9, 8, 9]),
+    (b"(Set:{(a,b),5:0bTRUE})", &[6, 4, 3, 4, 5, 6]),
+];
+
 /// Standard input and output of the program.
 pub const LISTINGS: &[(&[u8], &[u8])] = &[
     (b"", b"no 6 0\n"),
-    (b"(x:y)", b"ok 2 3\n9 0 5 0 0 0\n7 1 2 0 1 2\n7 3 4 0 2 2\n"),
+    (
+        b"(x:y)",
+        b"ok 2 3\n9 0 5 0 0 0 3\n7 1 2 0 1 2 2\n7 3 4 0 2 2 3\n",
+    ),
+    (
+        b"(x:(y,z))",
+        b"ok 2 5\n9 0 9 0 0 0 5\n7 1 2 0 1 2 2\n10 3 8 0 2 0 5\n7 4 5 2 5 2 4\n7 6 7 2 5 2 5\n",
+    ),
 ];

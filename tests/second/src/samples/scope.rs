@@ -82,5 +82,9 @@ pub const EXAMPLES: &[Sample] = &[
     both(b"\"`c`\"", no(4, 0)),
 ];
 
-/// The program's whole output for `(x:y)`.
-pub const LISTING: (&[u8], &[u8]) = (b"(x:y)", b"ok 2 3\n9 0 5 0 0 0\n7 1 2 0 1 2\n7 3 4 0 2 2\n");
+/// The program's whole output for `(x:y)`, with request 7's word at the end of
+/// each node.
+pub const LISTING: (&[u8], &[u8]) = (
+    b"(x:y)",
+    b"ok 2 3\n9 0 5 0 0 0 3\n7 1 2 0 1 2 2\n7 3 4 0 2 2 3\n",
+);

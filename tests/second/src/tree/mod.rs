@@ -4,8 +4,11 @@ mod parse;
 
 pub(crate) use parse::{kind, role};
 
-use crate::answer::{Answer, LEVEL, NODES_MAX, NODE_WORDS, NOT_UTF8, TEXT_MAX, TOO_LONG};
+use crate::answer::{Answer, LEVEL, NODES_MAX, NODE_WORDS, NOT_UTF8, SKIP, TEXT_MAX, TOO_LONG};
 use crate::{front, token, utf8};
+
+/// The word of a node that has its parent's index.
+const PARENT: usize = 3;
 
 /// A value and the values it holds, each with its role.
 #[derive(Clone, Debug)]
@@ -57,6 +60,7 @@ pub(crate) fn derived(
     let root = read_root(rules, level, text)?;
     let mut words = Vec::new();
     write_nodes(&root, 0, 0, &mut words);
+    write_skips(&mut words);
     let count = words.len() / NODE_WORDS;
     let room = NODES_MAX.min(table_len / NODE_WORDS);
     if count > room {
@@ -79,7 +83,8 @@ fn read_root(rules: Rules, level: u32, text: &[u8]) -> Result<Value, Answer> {
     parse::whole(rules, level, &token::list(text, front::begin(text)))
 }
 
-/// Adds the six words of `value` and of all it holds, parent first.
+/// Adds the words of `value` and of all it holds, parent first; each skip is
+/// written when all the parents are.
 fn write_nodes(value: &Value, parent: u32, role: u32, words: &mut Vec<u32>) {
     let index = (words.len() / NODE_WORDS) as u32;
     words.extend([
@@ -89,9 +94,27 @@ fn write_nodes(value: &Value, parent: u32, role: u32, words: &mut Vec<u32>) {
         parent,
         role,
         value.detail,
+        0,
     ]);
     for (role, child) in &value.children {
         write_nodes(child, index, *role, words);
+    }
+}
+
+/// The index just past each node's last descendant, or past itself.  It is told
+/// from the parents alone: every node in turn is the last one so far of itself
+/// and of all above it.
+fn write_skips(words: &mut [u32]) {
+    for last in 0..words.len() / NODE_WORDS {
+        let mut index = last;
+        loop {
+            let node = &mut words[index * NODE_WORDS..][..NODE_WORDS];
+            node[SKIP] = last as u32 + 1;
+            if index == 0 {
+                break;
+            }
+            index = node[PARENT] as usize;
+        }
     }
 }
 

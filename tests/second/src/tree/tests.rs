@@ -1,8 +1,8 @@
 use super::{read_by, Rules};
-use crate::answer::{Answer, NODES_MAX, NODE_WORDS, RETIRED_ARROW, WRONG_PLACE};
+use crate::answer::{Answer, NODES_MAX, NODE_WORDS, RETIRED_ARROW, SKIP, WRONG_PLACE};
 use crate::samples::{self, readings, Want};
 
-const WORDS: usize = NODES_MAX * NODE_WORDS + 7;
+const WORDS: usize = NODES_MAX * NODE_WORDS + 8;
 /// What the lent table holds before a call.
 const UNTOUCHED: u32 = 0xA5A5_5A5A;
 
@@ -18,6 +18,7 @@ fn checked(rules: Rules, level: u32, text: &[u8], words: usize) -> (Answer, Vec<
     assert!(table[written..].iter().all(|&word| word == UNTOUCHED));
     table.truncate(written);
     check_parents(&table);
+    check_skips(&table);
     (answer, table)
 }
 
@@ -39,6 +40,26 @@ fn check_parents(table: &[u32]) {
         if before[2] > node[1] {
             assert_eq!(node[3] as usize, index - 1);
         }
+    }
+}
+
+/// Children lie inside their parent's stretch, the first right behind the
+/// parent and each other one where the stretch before it ends; the last one
+/// ends it.
+fn check_skips(table: &[u32]) {
+    let nodes: Vec<&[u32]> = table.chunks(NODE_WORDS).collect();
+    if let Some(root) = nodes.first() {
+        assert_eq!(root[SKIP] as usize, nodes.len());
+    }
+    for (index, node) in nodes.iter().enumerate() {
+        let children =
+            (0..nodes.len()).filter(|child| *child > 0 && nodes[*child][3] == index as u32);
+        let mut next = index + 1;
+        for child in children {
+            assert_eq!(child, next);
+            next = nodes[child][SKIP] as usize;
+        }
+        assert_eq!(node[SKIP] as usize, next);
     }
 }
 
@@ -132,6 +153,27 @@ fn parents() {
     let (_, table) = checked(Rules::Today, 2, b"{(x:y),[a..(Bag:{b:2})]}", WORDS);
     let parents: Vec<u32> = table.chunks(NODE_WORDS).map(|node| node[3]).collect();
     assert_eq!(parents, [0, 0, 1, 1, 0, 4, 4, 6, 6]);
+}
+
+fn skips(rules: Rules, text: &[u8]) -> Vec<u32> {
+    let (_, table) = checked(rules, 2, text, WORDS);
+    table.chunks(NODE_WORDS).map(|node| node[SKIP]).collect()
+}
+
+#[test]
+fn the_seventh_word() {
+    for (text, want) in readings::SKIPS {
+        assert_eq!(skips(Rules::Today, text), *want, "{}", text.escape_ascii());
+    }
+    // as it stands, and as it follows the indices where the arrow is turned
+    assert_eq!(skips(Rules::Old, b"({c,d}<-b)"), [5, 4, 3, 4, 5]);
+    assert_eq!(skips(Rules::Old, b"(b:{c,d})"), [5, 2, 5, 4, 5]);
+    let mut flat: Vec<u32> = (1..=NODES_MAX as u32).collect();
+    flat[0] = NODES_MAX as u32;
+    let text = samples::members(2 * NODES_MAX);
+    assert_eq!(skips(Rules::Today, &text), flat);
+    let deep = ["{".repeat(32), "}".repeat(32)].concat();
+    assert_eq!(skips(Rules::Today, deep.as_bytes()), [32; 32]);
 }
 
 /// The third demand, by both rules: unless level 1 says "newer form", the
