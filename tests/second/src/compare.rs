@@ -2,6 +2,7 @@
 
 #[cfg(feature = "muon")]
 pub mod forms;
+pub mod skips;
 
 use crate::answer::Answer;
 use crate::generate::Random;

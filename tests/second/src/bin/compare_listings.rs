@@ -36,6 +36,11 @@ fn written(program: &str, text: &[u8], piece: usize) -> io::Result<Vec<u8>> {
 fn main() -> io::Result<ExitCode> {
     let program = std::env::args().nth(1).expect("the program's path");
     let mut all: Vec<Vec<u8>> = samples::all().iter().map(|s| s.text.to_vec()).collect();
+    all.extend(
+        samples::readings::SKIPS
+            .iter()
+            .map(|(text, _)| text.to_vec()),
+    );
     all.extend(texts(SEED, GENERATED));
     all.extend(arrow_texts(SEED, ARROWS));
     for length in [BUFFER - 2, BUFFER - 1, BUFFER, BUFFER + 1, 2 * BUFFER] {

@@ -12,7 +12,7 @@
 //!
 //! Exits with 1 at the first disagreement.
 
-use second::answer::{Answer, NODE_WORDS, NOT_THE_FILE, TEXT_MAX};
+use second::answer::{Answer, NODE_WORDS, NOT_THE_FILE, SKIP, TEXT_MAX};
 use second::compare::forms::{end, read, read_again};
 use second::compare::{
     all_met, each_met, finish, lengths, listed, same, same_written, Compared, Difference, TURNS,
@@ -196,7 +196,22 @@ impl Counts {
                 }
             }
         }
-        Ok(())
+        self.of_six_words(level, text, words)
+    }
+
+    /// The table as it was when a node had six words is too short; filled up it
+    /// is another's.
+    fn of_six_words(&mut self, level: u32, text: &[u8], words: &[u32]) -> Compared {
+        let count = words.len() / NODE_WORDS;
+        let nodes = words.chunks(NODE_WORDS);
+        let mut before: Vec<u32> = nodes.flat_map(|node| &node[..SKIP]).copied().collect();
+        let answer = self.answered(level, text, &before, 2 * text.len())?;
+        let want = Answer::no_room(text.len(), count);
+        same("refusal of a table of six words", text, want, answer)?;
+        before.resize(words.len(), 0);
+        let answer = self.answered(level, text, &before, 2 * text.len())?;
+        let want = Answer::refused(NOT_THE_FILE, 0);
+        same("refusal of it filled up", text, want, answer)
     }
 
     /// Words behind those of the nodes, which are free.

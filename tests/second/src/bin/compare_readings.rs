@@ -1,7 +1,7 @@
 //! Compares this package's readings with those of the verified archive:
 //! number, place, count and every word of the lent table.  Checks of the
-//! archive's own readings that old and new agree, and bounds its time on
-//! long inputs.
+//! archive's own readings that old and new agree, and that the skips follow
+//! from the parents, and bounds its time on long inputs.
 //!
 //! The texts are every sample, broken off at every byte and with bits
 //! flipped, texts made by the grammar or nearly, arrows `<-` at many places,
@@ -11,13 +11,15 @@
 //!
 //! Exits with 1 at the first disagreement.
 
+use muon::Branch;
 use second::answer::{Answer, DEPTH_MAX, NEWER_FORM, NODE_WORDS, NO_ROOM, TEXT_MAX};
-use second::compare::{finish, same, Compared, Difference};
+use second::compare::{finish, same, skips, Compared, Difference};
 use second::generate::{
     arrow_rows, arrow_texts, flipped, long_texts, paddings, random_bytes, row_texts, texts,
     two_groups, Random,
 };
 use second::{samples, tree};
+use std::iter::successors;
 use std::process::ExitCode;
 use std::time::{Duration, Instant};
 
@@ -28,7 +30,9 @@ const RANDOM_BYTES: usize = 4_000_000;
 /// Of the texts with rows, one in so many; the tokens of all are compared.
 const SPARSELY: usize = 11;
 /// More words than 1,024 nodes take.
-const WORDS_MAX: usize = 6_200;
+const WORDS_MAX: usize = 7_200;
+/// Around those of one node, of two and of 1,024.
+const ROOMS: [usize; 7] = [6, 7, 13, 14, 7_167, 7_168, 7_169];
 /// Words behind the lent table, which no call may touch.
 const GUARD: usize = 8;
 const NO_LEVELS: [u32; 4] = [0, 3, 257, u32::MAX];
@@ -85,6 +89,34 @@ fn old_and_new(text: &[u8], length: usize, old: &Reading, new: &Reading) -> Comp
     )))
 }
 
+/// That the package's walk over the nodes meets all of them in order, and that
+/// it gives the children of each alike in a row and one by one.
+fn walked(text: &[u8], words: &[u32]) -> Compared {
+    let count = words.len() / NODE_WORDS;
+    let mut open: Vec<Branch> = muon::root(words, count).into_iter().collect();
+    let mut met = 0;
+    while let Some(branch) = open.pop() {
+        same("node of the walk", text, met, branch.index())?;
+        met += 1;
+        let children: Vec<Branch> = branch.children().collect();
+        let siblings = successors(branch.first_child(), Branch::next_sibling);
+        let indices = children.iter().map(Branch::index);
+        same(
+            "children",
+            text,
+            indices.eq(siblings.map(|one| one.index())),
+            true,
+        )?;
+        let above = |child: &Branch| child.parent().map(|above| above.index());
+        let named = children
+            .iter()
+            .all(|child| above(child) == Some(branch.index()));
+        same("their parent", text, named, true)?;
+        open.extend(children.into_iter().rev());
+    }
+    same("nodes of the walk", text, count, met)
+}
+
 /// The words that the nodes of a text take; 0 if it is refused.
 fn need(text: &[u8]) -> usize {
     let answer = tree::read(2, text, &mut []);
@@ -100,6 +132,8 @@ struct Counts {
     texts: usize,
     readings: usize,
     answers: [usize; 16],
+    /// Nodes whose skips were checked.
+    nodes: usize,
     slowest: Duration,
 }
 
@@ -110,6 +144,7 @@ impl Counts {
             texts: 0,
             readings: 0,
             answers: [0; 16],
+            nodes: 0,
             slowest: Duration::ZERO,
         }
     }
@@ -127,6 +162,12 @@ impl Counts {
             }
         }
         self.answers[ours.answer.number as usize] += 1;
+        if theirs.answer.number == 0 {
+            let words = &theirs.words[..theirs.answer.count * NODE_WORDS];
+            skips::follow_from_parents(text, words)?;
+            walked(text, words)?;
+            self.nodes += theirs.answer.count;
+        }
         Ok(theirs)
     }
 
@@ -137,12 +178,14 @@ impl Counts {
     }
 
     /// None, the most, some; and for an accepted text what it needs, a word
-    /// less and a node less.
+    /// less, a node less and a word of each node less.
     fn lengths(&mut self, text: &[u8]) -> Vec<usize> {
         let need = need(text);
         let mut lengths = vec![0, WORDS_MAX, self.random.below(WORDS_MAX + 1)];
         if need > 0 {
-            lengths.extend([need, need - 1, need - NODE_WORDS, self.random.below(need)]);
+            let words = [need, need - 1, need - NODE_WORDS, need - need / NODE_WORDS];
+            lengths.extend(words);
+            lengths.push(self.random.below(need));
         }
         lengths.retain(|length| *length <= WORDS_MAX);
         lengths
@@ -172,8 +215,12 @@ impl Counts {
         Ok(())
     }
 
-    /// The sample, broken off at every byte, and with a bit flipped.
+    /// The sample with every room, broken off at every byte, and with a bit
+    /// flipped.
     fn sample(&mut self, text: &[u8]) -> Compared {
+        for length in ROOMS {
+            self.both_levels(text, length)?;
+        }
         for length in 0..=text.len() {
             self.text(&text[..length])?;
         }
@@ -217,10 +264,11 @@ impl Counts {
             .map(|number| format!("{number}: {}", self.answers[*number]))
             .collect();
         format!(
-            "{} texts, {} readings (answers {}), slowest long text {:?}",
+            "{} texts, {} readings (answers {}), {} skips, slowest long text {:?}",
             self.texts,
             self.readings,
             answers.join(", "),
+            self.nodes,
             self.slowest
         )
     }
@@ -269,6 +317,9 @@ fn sized_texts() -> Vec<Vec<u8>> {
 fn run(counts: &mut Counts) -> Compared {
     for sample in samples::all() {
         counts.sample(sample.text)?;
+    }
+    for (text, _) in samples::readings::SKIPS {
+        counts.sample(text)?;
     }
     for text in texts(SEED, GENERATED) {
         counts.text(&text)?;
