@@ -28,10 +28,10 @@ extern "C" {
 /* The most brackets open at once: each of ( { [ counts, also where it makes no node. */
 #define MUON_DEPTH_MAX 32
 /* Words of a node. */
-#define MUON_NODE_WORDS 6
+#define MUON_NODE_WORDS 7
 /* The most nodes that a table takes, however long it is. */
 #define MUON_NODES_MAX 1024
-/* The longest table that is made use of: 6,144 words. */
+/* The longest table that is made use of: 7,168 words. */
 #define MUON_TABLE_MAX (MUON_NODES_MAX * MUON_NODE_WORDS)
 /* The longest buffer that muon_bits makes use of, for no piece has more bits; muon_text and muon_blob need no more bytes than a piece. */
 #define MUON_BITS_MAX (4 * MUON_TEXT_MAX)
@@ -51,8 +51,8 @@ extern "C" {
    No call takes memory from anywhere else. */
 #define MUON_STACK_MAX 32768
 /* The stack that muon_file_write, muon_file_check, muon_plain and muon_convert need at most, since each reads the text into a table on its
-   stack. By the frames it comes to 54,832 bytes for either call of stored files and for muon_plain, and to 54,848 for muon_convert, and
-   54,428, 54,460 and 54,460 were measured (tests/stack, too). */
+   stack. By the frames it comes to 58,928 bytes for each of them; 58,524 were measured for either call of stored files, 58,556 for
+   muon_plain and 58,540 for muon_convert (tests/stack, too). */
 #define MUON_FILE_STACK_MAX (MUON_STACK_MAX + 4 * MUON_TABLE_MAX)
 
 /* ---- The answer ------------------------------------------------------------------------------------------------------------- */
@@ -126,21 +126,28 @@ extern "C" {
 
 /* ---- The nodes -------------------------------------------------------------------------------------------------------------- */
 
-/* A node is six words of the table; the nodes stand one behind the other, the root first, a parent before its children, children in
+/* A node is seven words of the table; the nodes stand one behind the other, the root first, a parent before its children, children in
    the order of the text. Of the node with index i, counted from 0:
 
-       table[6 * i + MUON_NODE_KIND]     kind
-       table[6 * i + MUON_NODE_FIRST]    place of its first byte
-       table[6 * i + MUON_NODE_END]      place of the byte after its last
-       table[6 * i + MUON_NODE_PARENT]   index of its parent; 0 for the root
-       table[6 * i + MUON_NODE_ROLE]     what it is to its parent
-       table[6 * i + MUON_NODE_DETAIL]   a further detail of its kind, else 0 */
+       table[7 * i + MUON_NODE_KIND]     kind
+       table[7 * i + MUON_NODE_FIRST]    place of its first byte
+       table[7 * i + MUON_NODE_END]      place of the byte after its last
+       table[7 * i + MUON_NODE_PARENT]   index of its parent; 0 for the root
+       table[7 * i + MUON_NODE_ROLE]     what it is to its parent
+       table[7 * i + MUON_NODE_DETAIL]   a further detail of its kind, else 0
+       table[7 * i + MUON_NODE_SKIP]     index just past its last descendant, or past itself if it has none
+
+   The skip passes a whole branch: what descends from node i are the nodes from i + 1 up to the one before its skip, and no others, so the
+   root's skip is the count. The first child of i, if it has one, is i + 1; behind a child the next one begins at that child's skip, and the
+   last child's skip is the skip of i. `(x:(y,z))` has the nodes `9 0 9 0 0 0 5`, `7 1 2 0 1 2 2`, `10 3 8 0 2 0 5`, `7 4 5 2 5 2 4` and
+   `7 6 7 2 5 2 5`. muon_first_child and muon_next_sibling walk so; see below. */
 #define MUON_NODE_KIND 0
 #define MUON_NODE_FIRST 1
 #define MUON_NODE_END 2
 #define MUON_NODE_PARENT 3
 #define MUON_NODE_ROLE 4
 #define MUON_NODE_DETAIL 5
+#define MUON_NODE_SKIP 6
 
 /* Kinds. A group `(v)` makes no node. The names in a Nesting are no nodes either. */
 #define MUON_KIND_IGNORANCE 1
@@ -190,6 +197,42 @@ extern "C" {
 #define MUON_DETAIL_UNLIMITED 10  /* [*]       */
 #define MUON_DETAIL_DOTS 11       /* [a..b]    */
 
+/* ---- Walking the nodes ------------------------------------------------------------------------------------------------------ */
+
+/* No index: what the two functions below give where there is no such node. No node has it, since a table has at most MUON_NODES_MAX; 0
+   would not do, since the root has it. */
+#define MUON_NONE 0xFFFFFFFFu
+
+/* The two functions stand here whole: they are no part of the archive, and not proved. What is proved, of every table that muon_read has
+   written, is that the way they go, from the next index by each child's skip up to the node's own, meets all children and nothing else.
+   They read at most three words of the table and write nothing. The table must be one that muon_read has accepted a text with, and the
+   index below the count of that reading; otherwise words outside of the table may be read. All children of a node, each passed with all
+   that is below it:
+
+       for (i = muon_first_child(table, node); i != MUON_NONE; i = muon_next_sibling(table, i))
+
+   tests/walk.c walks a whole text so. */
+#if defined(__cplusplus) || (defined(__STDC_VERSION__) && __STDC_VERSION__ >= 199901L)
+#define MUON_INLINE static inline
+#elif defined(__GNUC__) /* C90 has no inline, and a static function that is not used is warned of */
+#define MUON_INLINE static __inline__
+#else
+#define MUON_INLINE static
+#endif
+
+/* The index of a node's first child, or MUON_NONE if it has no children. */
+MUON_INLINE uint32_t muon_first_child(const uint32_t *table, uint32_t index) {
+    uint32_t skip = table[MUON_NODE_WORDS * index + MUON_NODE_SKIP];
+    return skip > index + 1 ? index + 1 : MUON_NONE;
+}
+
+/* The index of the next child of the same parent, or MUON_NONE if a node is the last one, or the root. */
+MUON_INLINE uint32_t muon_next_sibling(const uint32_t *table, uint32_t index) {
+    uint32_t skip = table[MUON_NODE_WORDS * index + MUON_NODE_SKIP];
+    uint32_t parent = table[MUON_NODE_WORDS * index + MUON_NODE_PARENT];
+    return skip < table[MUON_NODE_WORDS * parent + MUON_NODE_SKIP] ? skip : MUON_NONE;
+}
+
 /* ---- The stored file ------------------------------------------------------------------------------------------------------- */
 
 /* The nodes of a text as bytes, to be kept beside it. Behind the mark, every number has two bytes, the high one first.
@@ -199,10 +242,11 @@ extern "C" {
        3             2        the version, MUON_FILE_VERSION
        5             2        the number of nodes, n
        7             2        the length of the text
-       9 + 12 * i    12       the node with index i, counted from 0: its six words, two bytes each, in the order of the table
+       9 + 12 * i    12       the node with index i, counted from 0: its first six words, two bytes each, in the order of the table
 
-   So word w of node i begins at byte MUON_FILE_BYTES(i) + 2 * w, with w = MUON_NODE_KIND, ..., MUON_NODE_DETAIL. Behind the last node
-   nothing follows: the file has MUON_FILE_BYTES(n) bytes. `(x:y)` has the file 46 4E 54 00 01 00 03 00 05
+   So word w of node i begins at byte MUON_FILE_BYTES(i) + 2 * w, with w = MUON_NODE_KIND, ..., MUON_NODE_DETAIL; the skip, which follows
+   from the parents, is not stored, and files are what they were before nodes had it. Behind the last node nothing follows: the file has
+   MUON_FILE_BYTES(n) bytes. `(x:y)` has the file 46 4E 54 00 01 00 03 00 05
    00 09 00 00 00 05 00 00 00 00 00 00 00 07 00 01 00 02 00 00 00 01 00 02 00 07 00 03 00 04 00 00 00 02 00 02. */
 #define MUON_FILE_VERSION 1
 

@@ -110,9 +110,9 @@ static void answers(void) {
     deep[MUON_DEPTH_MAX + 1] = 0;
     expect(2, "(x:y)", WORDS, MUON_ACCEPTED, 5, 3);
     static const uint32_t pair[] = {
-        MUON_KIND_PAIR, 0, 5, 0, MUON_ROLE_ROOT,       0,
-        MUON_KIND_TEXT, 1, 2, 0, MUON_ROLE_THIS,       MUON_DETAIL_WORD,
-        MUON_KIND_TEXT, 3, 4, 0, MUON_ROLE_THAT_AFTER, MUON_DETAIL_WORD,
+        MUON_KIND_PAIR, 0, 5, 0, MUON_ROLE_ROOT,       0,                3,
+        MUON_KIND_TEXT, 1, 2, 0, MUON_ROLE_THIS,       MUON_DETAIL_WORD, 2,
+        MUON_KIND_TEXT, 3, 4, 0, MUON_ROLE_THAT_AFTER, MUON_DETAIL_WORD, 3,
     };
     if (memcmp(table, pair, sizeof pair) != 0) exit(1);
     expect(3, "(x:y)", WORDS, MUON_REFUSED_LEVEL, 0, 0);
@@ -121,7 +121,10 @@ static void answers(void) {
     expect(2, "1/0", WORDS, MUON_REFUSED_BAD_VALUE, 0, 0);
     expect(2, "(x:y", WORDS, MUON_REFUSED_WRONG_PLACE, 4, 0);
     expect(1, "(Set:{7,7})", WORDS, MUON_REFUSED_NEWER_FORM, 0, 0);
-    expect(2, "(x:y)", 17, MUON_REFUSED_NO_ROOM, 5, 3);
+    expect(2, "(x:y)", 20, MUON_REFUSED_NO_ROOM, 5, 3);
+    expect(2, "(x:y)", 21, MUON_ACCEPTED, 5, 3);
+    expect(2, "x", 6, MUON_REFUSED_NO_ROOM, 1, 1);
+    expect(2, "x", 7, MUON_ACCEPTED, 1, 1);
     expect(2, deep, WORDS, MUON_REFUSED_TOO_DEEP, MUON_DEPTH_MAX, 0);
     /* the arrow: where it was allowed, and elsewhere */
     for (uint32_t level = 1; level <= 2; level++) {
@@ -142,6 +145,32 @@ static void answers(void) {
     static uint8_t spaces[MUON_TEXT_MAX + 1];
     memset(spaces, ' ', sizeof spaces);
     if (muon_read(2, spaces, sizeof spaces, table, WORDS, &place, &count) != MUON_REFUSED_TOO_LONG || place != 0) exit(1);
+}
+
+/* The nodes of the text that was read, from one on, each the next sibling of the one before. */
+static void expect_row(uint32_t first, const char *row) {
+    char found[BYTES] = "";
+    for (uint32_t i = first; i != MUON_NONE; i = muon_next_sibling(table, i)) sprintf(found + strlen(found), " %u", (unsigned)i);
+    if (strcmp(found, row) == 0) return;
+    printf("nodes of %s:%s, not%s\n", call.text, found, row);
+    exit(1);
+}
+
+static void walks(void) {
+    expect(2, "(x:(y,z))", WORDS, MUON_ACCEPTED, 9, 5);
+    expect_row(muon_first_child(table, 0), " 1 2");
+    expect_row(muon_first_child(table, 1), "");
+    expect_row(muon_first_child(table, 2), " 3 4");
+    expect_row(muon_first_child(table, 4), "");
+    expect_row(0, " 0");
+    expect_row(4, " 4");
+    expect(2, "{{},{{}},{}}", WORDS, MUON_ACCEPTED, 12, 5);
+    expect_row(muon_first_child(table, 0), " 1 2 4");
+    expect_row(muon_first_child(table, 2), " 3");
+    expect(2, "(Bag:{(a,b):2,[c]})", WORDS, MUON_ACCEPTED, 19, 7);
+    expect_row(muon_first_child(table, 0), " 1 4 5");
+    expect(2, "{,,}", WORDS, MUON_ACCEPTED, 4, 1);
+    expect_row(muon_first_child(table, 0), "");
 }
 
 static void expect_integer(const char *piece, uint32_t number, size_t place, int64_t value) {
@@ -468,10 +497,10 @@ static void plain_forms(void) {
     }
     /* a table that is too short, one that is just long enough, and one that is another's */
     expect_plain(2, "(x:y)", 0, BYTES, MUON_REFUSED_NO_ROOM, 5, 3, "");
-    expect_plain(2, "(x:y)", 17, 0, MUON_REFUSED_NO_ROOM, 5, 3, "");
-    expect_plain(2, "(x:y)", 18, BYTES, MUON_ACCEPTED, 5, 5, "(x:y)");
+    expect_plain(2, "(x:y)", 20, 0, MUON_REFUSED_NO_ROOM, 5, 3, "");
+    expect_plain(2, "(x:y)", 21, BYTES, MUON_ACCEPTED, 5, 5, "(x:y)");
     call.words = WORDS;
-    for (size_t word = 0; word < 18; word++) {
+    for (size_t word = 0; word < 21; word++) {
         table[word] ^= 1;
         for (call.bytes = 0; call.bytes <= BYTES; call.bytes += BYTES) {
             write_plain_of_it();
@@ -479,10 +508,18 @@ static void plain_forms(void) {
         }
         table[word] ^= 1;
     }
-    table[18] ^= 1;
+    table[21] ^= 1;
     call.bytes = BYTES;
     write_plain_of_it();
     expect_answer("plain form", MUON_ACCEPTED, 5, 5);
+    /* a table of six words a node, as it was before the skip: too short, and with three words more another's */
+    for (size_t word = 0; word < 18; word++) table[word] = table[word / 6 * MUON_NODE_WORDS + word % 6];
+    call.words = 18;
+    write_plain_of_it();
+    expect_answer("plain form", MUON_REFUSED_NO_ROOM, 5, 3);
+    call.words = 21;
+    write_plain_of_it();
+    expect_answer("plain form", MUON_REFUSED_NOT_THE_FILE, 0, 0);
     /* nothing lent */
     size_t place = 1, count = 1;
     if (muon_plain(2, NULL, 0, NULL, 0, NULL, 0, &place, &count) != MUON_REFUSED_WRONG_PLACE || place != 0 || count != 0) exit(1);
@@ -714,6 +751,7 @@ static size_t most_touched_by_a_reading(size_t (*most_by)(void)) {
 
 int main(void) {
     answers();
+    walks();
     integers();
     texts();
     blobs();
