@@ -1,5 +1,5 @@
 //! Reads a file, or standard input if none is named, at level 2 and prints
-//! the listing: `ok 2 COUNT` and the six words of each node, or `no NUMBER
+//! the listing: `ok 2 COUNT` and the words of each node, or `no NUMBER
 //! PLACE`; what a refusal means goes to standard error.
 //!
 //! `cargo run --example list -- FILE`
@@ -36,8 +36,8 @@ fn main() -> io::Result<ExitCode> {
     for node in muon::nodes(&table, answer.count) {
         writeln!(
             out,
-            "{} {} {} {} {} {}",
-            node.kind, node.first, node.end, node.parent, node.role, node.detail
+            "{} {} {} {} {} {} {}",
+            node.kind, node.first, node.end, node.parent, node.role, node.detail, node.skip
         )?;
     }
     out.flush()?;

@@ -1,10 +1,10 @@
 //! Stored files: the nodes of a text as bytes, to be kept beside it.
 //!
 //! A file is the mark `FNT`, the version, the number of nodes, the length of
-//! the text, and the six words of each node as [`read`](crate::read) writes
-//! them at level 2.  Behind the mark every number has two bytes, the high one
-//! first.  The file tells what was read and not the text's bytes: `x` and `y`
-//! have the same file.
+//! the text, and the words of each node as [`read`](crate::read) writes them at
+//! level 2, less the last, the [skip](crate::Node::skip).  Behind the mark every
+//! number has two bytes, the high one first.  The file tells what was read and
+//! not the text's bytes: `x` and `y` have the same file.
 //!
 //! A file that was kept is checked against the text before it is relied on:
 //!

@@ -29,6 +29,18 @@
 //! assert_eq!(table, [7; 60]);
 //! ```
 //!
+//! [`root`] gives the nodes as a tree, in which a whole [`Branch`] is passed at
+//! once:
+//!
+//! ```
+//! let text = b"(machines : {7, 8, {9, 10}}, site : creek)";
+//! let mut table = [0; muon::TABLE_MAX];
+//! let answer = muon::read(1, text, &mut table);
+//! let root = muon::root(&table, answer.count).expect("an accepted text");
+//! let site = root.attributes().nth(1).expect("two attributes").value;
+//! assert_eq!(&text[site.node().span()], b"creek");
+//! ```
+//!
 //! [`integer`], [`text`], [`blob`] and [`bits`] give the value of a literal,
 //! whose bytes a node tells:
 //!
@@ -80,7 +92,7 @@
 //! ```
 //! use muon::{convert, Refusal};
 //!
-//! let answer = muon::read(2, b"(b <- a)", &mut [0; 18]);
+//! let answer = muon::read(2, b"(b <- a)", &mut [0; 60]);
 //! assert_eq!(answer.refusal(), Some(Refusal::RetiredArrow));
 //! assert_eq!(convert::to_vec(2, b"(b <- a)")?, b"(a:b)");
 //! # Ok::<(), muon::Refusal>(())
@@ -113,11 +125,13 @@ mod node;
 pub mod plain;
 mod raw;
 mod reading;
+mod tree;
 mod utf8;
 mod value;
 
 pub use answer::{Answer, IntegerAnswer, Refusal, Utf8Answer};
 pub use node::{detail, kind, nodes, role, Node, Nodes};
 pub use reading::{read, DEPTH_MAX, NODES_MAX, NODE_WORDS, STACK_MAX, TABLE_MAX, TEXT_MAX};
+pub use tree::{root, Attribute, Attributes, Branch, Children};
 pub use utf8::utf8;
 pub use value::{bits, blob, integer, text, BITS_MAX};

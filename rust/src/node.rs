@@ -20,6 +20,9 @@ pub struct Node {
     pub role: u32,
     /// A further detail of its kind, of [`detail`]; else 0.
     pub detail: u32,
+    /// The index just past its last descendant, or past itself if it has none;
+    /// see [`Branch`](crate::Branch).
+    pub skip: u32,
 }
 
 impl Node {
@@ -30,7 +33,7 @@ impl Node {
 }
 
 impl From<[u32; NODE_WORDS]> for Node {
-    fn from([kind, first, end, parent, role, detail]: [u32; NODE_WORDS]) -> Node {
+    fn from([kind, first, end, parent, role, detail, skip]: [u32; NODE_WORDS]) -> Node {
         Node {
             kind,
             first,
@@ -38,6 +41,7 @@ impl From<[u32; NODE_WORDS]> for Node {
             parent,
             role,
             detail,
+            skip,
         }
     }
 }

@@ -50,7 +50,7 @@ pub const fn bytes(text_len: usize) -> usize {
 /// use muon::{plain, Refusal};
 ///
 /// let text = b"(Array -> 5)";
-/// let mut table = [0; 18];
+/// let mut table = [0; 3 * muon::NODE_WORDS];
 /// muon::read(1, text, &mut table).accepted()?;
 /// let mut buffer = [0; plain::bytes(12)];
 /// let answer = plain::write(1, text, &table, &mut buffer);

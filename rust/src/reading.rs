@@ -7,7 +7,7 @@ pub const TEXT_MAX: usize = 32_768;
 /// The most brackets open at once.
 pub const DEPTH_MAX: usize = 32;
 /// Words of a node.
-pub const NODE_WORDS: usize = 6;
+pub const NODE_WORDS: usize = 7;
 /// The most nodes that a table takes, however long it is.
 pub const NODES_MAX: usize = 1_024;
 /// The longest table that is made use of, in words.

@@ -100,7 +100,7 @@ pub fn text(piece: &[u8], buffer: &mut [u8]) -> Answer {
 /// for piece in [&b"0xyA==="[..], b"0xyTWF="] {
 ///     let answer = muon::blob(piece, &mut buffer);
 ///     assert_eq!(answer.refusal(), Some(Refusal::BadValue));
-///     assert_eq!(muon::read(1, piece, &mut [0; 6]), answer);
+///     assert_eq!(muon::read(1, piece, &mut [0; muon::NODE_WORDS]), answer);
 /// }
 /// ```
 pub fn blob(piece: &[u8], buffer: &mut [u8]) -> Answer {

@@ -68,7 +68,13 @@ fn the_words_of_a_reading() {
             .collect();
         let head = [u32::from(file::VERSION), count as u32, text.len() as u32];
         assert_eq!(numbers[..3], head);
-        assert_eq!(numbers[3..], table[..count * muon::NODE_WORDS]);
+        // the skip is not stored
+        let words: Vec<u32> = table
+            .chunks(muon::NODE_WORDS)
+            .take(count)
+            .flat_map(|node| node[..6].to_vec())
+            .collect();
+        assert_eq!(numbers[3..], words);
         assert_eq!(fault(text, &stored), None);
     }
 }

@@ -55,7 +55,7 @@ fn formulas() {
 
 #[test]
 fn words() {
-    let node = muon::Node::from([0, 1, 2, 3, 4, 5]);
+    let node = muon::Node::from([0, 1, 2, 3, 4, 5, 6]);
     for (name, word) in [
         ("NODE_KIND", node.kind),
         ("NODE_FIRST", node.first),
@@ -63,9 +63,13 @@ fn words() {
         ("NODE_PARENT", node.parent),
         ("NODE_ROLE", node.role),
         ("NODE_DETAIL", node.detail),
+        ("NODE_SKIP", node.skip),
     ] {
         assert_eq!(defined(name), Some(word as usize), "{name}");
     }
+    // the width and the seven words
+    let told = HEADER.matches("#define MUON_NODE_").count();
+    assert_eq!(told, 1 + muon::NODE_WORDS);
 }
 
 #[test]

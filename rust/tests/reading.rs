@@ -29,7 +29,11 @@ fn a_pair() {
     let (answer, nodes) = nodes(2, b"(x:y)");
     assert_eq!(answer.accepted(), Ok(3));
     assert_eq!(answer.place, 5);
-    let words = [[9, 0, 5, 0, 0, 0], [7, 1, 2, 0, 1, 2], [7, 3, 4, 0, 2, 2]];
+    let words = [
+        [9, 0, 5, 0, 0, 0, 3],
+        [7, 1, 2, 0, 1, 2, 2],
+        [7, 3, 4, 0, 2, 2, 3],
+    ];
     assert_eq!(nodes, words.map(Node::from));
 }
 
@@ -93,16 +97,17 @@ fn arrows_that_are_refused_otherwise() {
 
 #[test]
 fn no_room_tells_the_need() {
-    let mut table = [FILLED; 17];
+    let mut table = [FILLED; 20];
     let answer = muon::read(2, b"(x:y)", &mut table);
     assert_eq!(answer.refusal(), Some(Refusal::NoRoom));
     assert_eq!((answer.place, answer.count), (5, 3));
-    assert_eq!(table, [FILLED; 17]);
+    assert_eq!(table, [FILLED; 20]);
+    assert_eq!(muon::read(2, b"(x:y)", &mut [0; 21]).accepted(), Ok(3));
 }
 
 #[test]
 fn nodes_of_a_short_table() {
-    assert_eq!(muon::nodes(&[1; 17], 5).len(), 2);
+    assert_eq!(muon::nodes(&[1; 20], 5).len(), 2);
     assert_eq!(muon::nodes(&[], usize::MAX).count(), 0);
-    assert_eq!(muon::nodes(&[1; 18], 1).count(), 1);
+    assert_eq!(muon::nodes(&[1; 21], 1).count(), 1);
 }
