@@ -77,6 +77,9 @@ pub const CONVERT_SHAPES: [(&str, Shape); 5] = [
     }),
 ];
 
+/// A big Lot to be passed.
+pub const WALK_SHAPES: [(&str, Shape); 1] = [("last-child", site)];
+
 /// Plain ASCII.
 const PLAIN: &str = "A page of the manual, pasted whole. ";
 /// A character of two bytes to some ten letters.
@@ -121,6 +124,20 @@ fn settings(size: usize) -> Vec<u8> {
         text += &format!("    {line}\n");
     }
     padded(text + ")\n", size)
+}
+
+/// The machines in a Lot, and one setting more behind it.
+fn site(size: usize) -> Vec<u8> {
+    let mut text = "(machines : {\n".to_string();
+    // each has 17 nodes
+    let machines = (1..NODES_MAX / 17).map(machine);
+    for one in machines.map(|lines| format!("({}),\n", lines.join("\n"))) {
+        if text.len() + one.len() + 20 > size {
+            break;
+        }
+        text += &one;
+    }
+    padded(text + "}, site : creek)\n", size)
 }
 
 /// The same without comments, and so a shorter text.

@@ -2,14 +2,14 @@
 //!
 //! `benchmark times` prints bytes per second.  `benchmark readings` makes
 //! each call once, in `counted`, and prints a line for it: shape, size, whose
-//! it is.  `tests/benchmark` runs that under callgrind, which counts the
+//! it is; of a walk over the nodes, by what it goes.  `tests/benchmark` runs that under callgrind, which counts the
 //! instructions of each call.
 
 mod inputs;
 
 use inputs::{
     grouped, Shape, BITS_SHAPES, BLOB_SHAPES, CHECK_SHAPES, CONVERT_SHAPES, PLAIN_SHAPES, SHAPES,
-    SIZES, UTF8_SHAPES, WRITE_SHAPES,
+    SIZES, UTF8_SHAPES, WALK_SHAPES, WRITE_SHAPES,
 };
 use second::answer::DEPTH_MAX;
 use second::generate::long_shapes;
@@ -28,6 +28,8 @@ struct Lent {
     table: [u32; muon::TABLE_MAX],
     buffer: [u8; muon::BITS_MAX],
     read: Vec<u32>,
+    /// The nodes in it.
+    count: usize,
     stored: Vec<u8>,
 }
 
@@ -35,9 +37,10 @@ impl Lent {
     /// For a text; one that is refused needs neither table nor file.
     fn new(text: &[u8]) -> Lent {
         let mut read = vec![0; muon::TABLE_MAX];
-        muon::read(LEVEL, text, &mut read);
+        let count = muon::read(LEVEL, text, &mut read).count;
         Lent {
             read,
+            count,
             table: [0; muon::TABLE_MAX],
             buffer: [0; muon::BITS_MAX],
             stored: muon::file::to_vec(text).unwrap_or_default(),
@@ -107,6 +110,20 @@ const CONVERT: Calls = [
         plain::convert(LEVEL, text, &mut lent.buffer).number
     }),
 ];
+/// To the last child of the root: past every branch by its skip, or from node to
+/// node by the parents.
+const WALK: Calls = [
+    ("skips", |_, lent| {
+        let root = muon::root(&lent.read, lent.count);
+        let last = root.and_then(|root| root.children().last());
+        u32::from(black_box(last).is_none())
+    }),
+    ("parents", |_, lent| {
+        let nodes = muon::nodes(&lent.read, lent.count);
+        let last = nodes.filter(|node| node.parent == 0).last();
+        u32::from(black_box(last).is_none())
+    }),
+];
 const UTF8: Calls = [
     ("proved", |text, _| muon::utf8(text).number),
     ("second", |text, _| utf8::test(text).number),
@@ -127,6 +144,7 @@ fn shapes() -> Vec<(&'static str, Shape, Calls)> {
         with(&PLAIN_SHAPES, PLAIN),
         with(&CONVERT_SHAPES, CONVERT),
         with(&UTF8_SHAPES, UTF8),
+        with(&WALK_SHAPES, WALK),
     ]
     .concat()
 }
