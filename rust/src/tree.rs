@@ -24,6 +24,8 @@ pub fn root(table: &[u32], count: usize) -> Option<Branch<'_>> {
 /// [`skip`](Node::skip) passes the whole branch, so that children and siblings
 /// are found without a look at what is below them.
 ///
+/// The header's `muon_first_child` and `muon_next_sibling` go the same way; they
+/// stand in the header whole and not in the archive, so they are not called here.
 /// In a table that no reading has written, the nodes may be any, but everything
 /// here still ends and stays inside the table.
 ///
