@@ -2,17 +2,17 @@
 -- accepted by the old rules. Assumes nothing.
 use mathlib.Core.Path.{_≡_, refl, sym, subst, _∙_}
 use mathlib.Core.Bool.{Bool, true, false}
-use mathlib.Core.List.{List, [], _∷_}
+use mathlib.Core.List.{List}
 use mathlib.Core.Option.{Option, none, some}
-use Prim.Native.Nat.{ℕ, zero, suc, _<_}
-use native.Mathlib.Nat.{not-suc-le-zero}
+use Prim.Native.Nat.{ℕ, _<_}
 use native.Mathlib.Omega.{arith}
 use lib.ListN.{length}
-use Rattle.rules.specs.Every.{Every, none, also}
+use Rattle.rules.specs.Every.{Every}
+use Rattle.rules.proofs.Every.{every-at}
 use Rattle.grammar.specs.Tree.{Value}
 use Rattle.grammar.specs.Level.{Level, arrowless, keeps}
 use Rattle.grammar.specs.Nodes.{Role, root, this, thatAfter, thatBefore, name, value, count, low, high, single, roleNumber, roleWord, Node, table, wordAt}
-use Rattle.grammar.proofs.NodeLaws.{nodeAt}
+use Rattle.grammar.proofs.NodeLaws.{noNode, nodeAt}
 use Rattle.grammar.proofs.Retired.{noThatBefore}
 use Rattle.reading.specs.declared.Answer.{Answer}
 use Rattle.reading.specs.declared.Rules.{Rules}
@@ -49,11 +49,6 @@ role-3 low e = absurd (omega (arith, e))
 role-3 high e = absurd (omega (arith, e))
 role-3 single e = absurd (omega (arith, e))
 
-node-role : (ns : List Node) (i : ℕ) → i < length ns → Every (λ n. n .role ≡ thatBefore → ⊥) ns → roleNumber (nodeAt ns i .role) ≡ 3 → ⊥
-node-role [] i h a e = not-suc-le-zero h
-node-role (n ∷ ns) zero h (also p a) e = p (role-3 (n .role) e)
-node-role (n ∷ ns) (suc i) h (also p a) e = node-role ns i (omega (arith, h)) a e
-
 -- ---- readings
 
 module _ (rules : Rules) (text : List ℕ) where
@@ -77,7 +72,7 @@ module _ (rules : Rules) (text : List ℕ) where
     no-role-3 lent {left} {number} i a e h is =
         let f = found rules text lent left number a e in
         let l : i < length (table (f .tree)) = omega (arith, h, f .count-is) in
-        node-role (table (f .tree)) i l (no-that-before (f .read)) (sym (held-word left (f .tree) (f .holds) i roleWord l (omega arith)) ∙ is)
+        every-at (no-that-before (f .read)) noNode i l (role-3 (nodeAt (table (f .tree)) i .role) (sym (held-word left (f .tree) (f .holds) i roleWord l (omega arith)) ∙ is))
 
   -- what today's rules accept, the old ones do
   pub answers-old : {lent left : List ℕ} {number : ℕ} {r : Answer} → Answers rules text lent number r left → (r .number ≡ 15 → ⊥) → Answers (withArrow rules) text lent number r left

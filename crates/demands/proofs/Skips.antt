@@ -1,41 +1,40 @@
 -- The seventh word: after every accepted reading, in a table that is lent with its text, and in that of a plain form. Assumes nothing.
 use mathlib.Core.Path.{_≡_, sym, ap, subst, _∙_}
 use mathlib.Core.List.{List, _++_, map}
-use mathlib.Core.Option.{Option, none, some}
+use mathlib.Core.Option.{Option, some}
 use Prim.Native.Nat.{ℕ, _+_, _*_, _≤_, _<_}
 use native.Mathlib.Omega.{arith}
-use lib.ListN.{length, getD, drop, length-append, length-drop, length-map, List·getD-map}
+use lib.ListN.{length, getD, drop, length-append, length-drop, List·getD-map}
 use lib.Seq.{drop-at}
 use Rattle.grammar.specs.Tree.{Value}
-use Rattle.grammar.specs.Nodes.{Node, nodeWords, skipWord, wordAt, table, tableWords}
+use Rattle.grammar.specs.Nodes.{Node, skipWord, wordAt, table, tableWords}
 use Rattle.grammar.specs.Stretches.{Stretches}
 use Rattle.grammar.proofs.NodeLaws.{tableWords-length, noNode, nodeAt, table-word}
 use Rattle.reading.specs.declared.Answer.{Answer}
 use Rattle.reading.specs.declared.Rules.{Rules}
-use Rattle.reading.specs.Sizes.{room}
-use Rattle.reading.specs.Answers.{Reading, Answers, nodesOf, accepted}
+use Rattle.reading.specs.Answers.{Answers, accepted}
 use Rattle.reading.specs.Tabled.{Holds, Tabled, shown, otherTable, refused}
 use Rattle.reading.proofs.Numbers.{refused-number}
 use Rattle.reading.proofs.Tabled.{held-word, held-stretches}
 use Rattle.reading.proofs.Found.{found}
 use Rattle.form.specs.Turn.{unspelled}
+use Rattle.form.proofs.Tables.{long}
 
 module _ (rules : Rules) (text : List ℕ) where
   -- what an accepted reading writes, and leaves
   pub seven-each : (lent left : List ℕ) {number : ℕ} {r : Answer} → Answers rules text lent number r left → r .number ≡ 0 →
       (length left ≡ length lent) × (7 * r .count ≤ length lent) × (drop (7 * r .count) left ≡ drop (7 * r .count) lent)
-  seven-each lent left {number} a e = by (a .tree) (a .reading) (a .left-is) e
-    where
-      by : {r : Answer} (t : Option Value) → Reading rules text (room rules (length lent)) number r t →
-          left ≡ tableWords (nodesOf t) ++ drop (nodeWords * length (nodesOf t)) lent → r .number ≡ 0 →
-          (length left ≡ length lent) × (7 * r .count ≤ length lent) × (drop (7 * r .count) left ≡ drop (7 * r .count) lent)
-      by none x is z = absurd (refused-number rules text x z)
-      by (some v) (accepted l h w x m) is z =
-          let n = 7 * length (table v) in
-          let written : length (tableWords (table v)) ≡ n = omega (arith, tableWords-length (table v)) in
-          let fits : n ≤ length lent = omega (arith, m) in
-          let all = length-append (tableWords (table v)) (drop n lent) in
-          (ap length is ∙ omega (arith, all, written, fits, length-drop n lent), fits, ap (drop n) is ∙ drop-at (tableWords (table v)) (drop n lent) n written)
+  seven-each lent left {number} a e =
+      let f = found rules text lent left number a e in
+      let ws = tableWords (table (f .tree)) in
+      let n = 7 * length (table (f .tree)) in
+      let written : length ws ≡ n = omega (arith, tableWords-length (table (f .tree))) in
+      let fits : n ≤ length lent = omega (arith, f .few, f .count-is) in
+      subst (λ (c : ℕ). (length left ≡ length lent) × (7 * c ≤ length lent) × (drop (7 * c) left ≡ drop (7 * c) lent)) (sym (f .count-is)) (
+        ap length (f .left-is) ∙ omega (arith, length-append ws (drop n lent), written, fits, length-drop n lent),
+        fits,
+        ap (drop n) (f .left-is) ∙ drop-at ws (drop n lent) n written,
+      )
 
   pub own-words : (lent left : List ℕ) {number : ℕ} {r : Answer} → Answers rules text lent number r left → r .number ≡ 0 → Stretches left (r .count)
   own-words lent left {number} a e =
@@ -58,7 +57,6 @@ same-stretch ns ms i e =
 pub same-skips : (v w : Value) (rest words : List ℕ) (i : ℕ) → map unspelled (table v) ≡ map unspelled (table w) → Holds words w → i < length (table w) →
     wordAt (tableWords (table v) ++ rest) i skipWord ≡ wordAt words i skipWord
 same-skips v w rest words i e h l =
-    let m : length (table v) ≡ length (table w) = sym (length-map (table v) unspelled) ∙ ap length e ∙ length-map (table w) unspelled in
-    table-word (table v) rest i skipWord (omega (arith, m, l)) (omega arith)
+    table-word (table v) rest i skipWord (omega (arith, long (table v) (table w) e, l)) (omega arith)
     ∙ ap (λ (k : ℕ). i + k) (same-stretch (table v) (table w) i e)
     ∙ sym (held-word words w h i skipWord l (omega arith))

@@ -106,7 +106,7 @@ module _ (text : List ℕ) where
 
   module _ (all : Every (λ (b : ℕ). b < 0x80) text) where
     plain-at : (i : ℕ) → i < length text → At text plain i
-    plain-at i h = (h, in-first 0x00 0x7F [] _ (omega arith) (omega (arith, every-at all i h)))
+    plain-at i h = (h, in-first 0x00 0x7F [] _ (omega arith) (omega (arith, every-at all 0 i h)))
 
     eights : (q i : ℕ) → i ≡ q * 8 → i ≤ length text → Steps text i q
     eights zero i e h = subst (λ (x : ℕ). Steps text x 0) (omega (arith, e)) start

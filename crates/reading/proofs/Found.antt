@@ -36,6 +36,7 @@ module _ (rules : Rules) (text : List ℕ) where
       pub tree : Value
       pub read : Reading rules text (room rules (length lent)) number a (some tree)
       pub count-is : a .count ≡ length (table tree)
+      pub left-is : left ≡ tableWords (table tree) ++ drop (nodeWords * length (table tree)) lent
       pub holds : Holds left tree
       pub few : a .count ≤ room rules (length lent)
       pub within : nodeWords * a .count ≤ length left
@@ -53,6 +54,7 @@ module _ (rules : Rules) (text : List ℕ) where
               tree = v;
               read = accepted l g w y k;
               count-is = refl;
+              left-is = is;
               holds = ap (take (nodeWords * length (table v))) is ∙ take-at (tableWords (table v)) rest (nodeWords * length (table v)) n;
               few = k;
               within = omega (arith, n, ap length is, length-append (tableWords (table v)) rest);

@@ -17,12 +17,12 @@ module _ {A : Type 0} {P : A → Type 0} where
   every-append none f = f
   every-append (also p e) f = also p (every-append e f)
 
+  -- the one at a place
+  pub every-at : {xs : List A} → Every P xs → (d : A) (i : ℕ) → i < length xs → P (getD xs i d)
+  every-at none d i h = absurd (not-suc-le-zero h)
+  every-at (also p e) d zero h = p
+  every-at (also p e) d (suc i) h = every-at e d i (omega (arith, h))
+
 pub every-map : {A : Type 0} {P Q : A → Type 0} → ((x : A) → P x → Q x) → {xs : List A} → Every P xs → Every Q xs
 every-map f none = none
 every-map f (also {x = x} p e) = also (f x p) (every-map f e)
-
--- the one at a place
-pub every-at : {P : ℕ → Type 0} {xs : List ℕ} → Every P xs → (i : ℕ) → i < length xs → P (getD xs i 0)
-every-at none i h = absurd (not-suc-le-zero h)
-every-at (also p e) zero h = p
-every-at (also p e) (suc i) h = every-at e i (omega (arith, h))
