@@ -3,6 +3,7 @@
    Prints `ok` and the bytes of FILE, or `no`, number and place; exits with 1 if text or file is refused, and with 2 if it cannot be read
    or written. */
 #include "muon.h"
+#include "whole_file.h"
 
 #include <stdio.h>
 #include <string.h>
@@ -10,26 +11,6 @@
 /* One byte more than a text or a file may have, so that one that is too long is seen to be. */
 static uint8_t text[MUON_TEXT_MAX + 1];
 static uint8_t file[MUON_FILE_MAX + 1];
-
-static int get(const char *path, uint8_t *bytes, size_t most, size_t *len) {
-    FILE *in = fopen(path, "rb");
-    if (in == NULL) return 0;
-    *len = fread(bytes, 1, most, in);
-    int good = !ferror(in);
-    return fclose(in) == 0 && good;
-}
-
-static int put(const char *path, const uint8_t *bytes, size_t len) {
-    FILE *out = fopen(path, "wb");
-    if (out == NULL) return 0;
-    int good = fwrite(bytes, 1, len, out) == len;
-    return fclose(out) == 0 && good;
-}
-
-static int failed(const char *path) {
-    perror(path);
-    return 2;
-}
 
 int main(int argc, char **argv) {
     int writes = argc == 4 && strcmp(argv[1], "write") == 0;

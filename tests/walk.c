@@ -3,6 +3,7 @@
    the number of its nodes. No recursion, and all memory is of fixed size. Prints `no`, number and place to standard error if TEXT is
    refused, and exits with 1; exits with 2 if it cannot be read. C90, and C++ as well. */
 #include "muon.h"
+#include "whole_file.h"
 
 #include <stdio.h>
 #include <stdlib.h>
@@ -18,15 +19,6 @@ static const char *const roles[] = {"", "this ", "that ", "that ", "name ", "val
 
 static uint32_t word(uint32_t index, uint32_t which) {
     return table[MUON_NODE_WORDS * index + which];
-}
-
-static int get(const char *path, size_t *len) {
-    FILE *in = fopen(path, "rb");
-    int good;
-    if (in == NULL) return 0;
-    *len = fread(text, 1, sizeof text, in);
-    good = !ferror(in);
-    return fclose(in) == 0 && good;
 }
 
 static void print(uint32_t index, unsigned depth, int passed) {
@@ -73,10 +65,7 @@ int main(int argc, char **argv) {
         fputs("walk TEXT [DEPTH]\n", stderr);
         return 2;
     }
-    if (!get(argv[1], &text_len)) {
-        perror(argv[1]);
-        return 2;
-    }
+    if (!get(argv[1], text, sizeof text, &text_len)) return failed(argv[1]);
     number = muon_read(2, text, text_len, table, MUON_TABLE_MAX, &place, &count);
     if (number != MUON_ACCEPTED) {
         fprintf(stderr, "no %u %lu\n", (unsigned)number, (unsigned long)place);
@@ -84,9 +73,5 @@ int main(int argc, char **argv) {
     }
     /* no node is deeper than the brackets */
     walk(argc == 3 ? (unsigned)strtoul(argv[2], NULL, 10) : MUON_DEPTH_MAX);
-    if (fflush(stdout) != 0) {
-        perror("standard output");
-        return 2;
-    }
-    return 0;
+    return fflush(stdout) == 0 ? 0 : failed("standard output");
 }
