@@ -7,10 +7,13 @@
 //!
 //! `cargo run --example walk -- TEXT DEPTH`
 
+mod whole_file;
+
 use muon::{kind, Branch, DEPTH_MAX};
-use std::io::{self, Read, Write};
+use std::env;
+use std::io::{self, Write};
 use std::process::ExitCode;
-use std::{env, fs};
+use whole_file::{accepted, exit_code, input, said, Failure};
 
 const KINDS: [&str; 16] = [
     "",
@@ -33,18 +36,6 @@ const KINDS: [&str; 16] = [
 const ROLES: [&str; 10] = [
     "", "this ", "that ", "that ", "name ", "value ", "count ", "low ", "high ", "single ",
 ];
-
-/// Why there is no tree, and the exit code.
-type Failure = (String, u8);
-
-/// A byte more than a text may have is enough to know that there are too many.
-fn input(path: &str) -> io::Result<Vec<u8>> {
-    let mut bytes = Vec::new();
-    let file = fs::File::open(path)?;
-    file.take(muon::TEXT_MAX as u64 + 1)
-        .read_to_end(&mut bytes)?;
-    Ok(bytes)
-}
 
 /// The line of a node; with how many are below it, if they are passed.
 fn print(
@@ -90,34 +81,24 @@ fn print_all(out: &mut impl Write, text: &[u8], root: Branch, most: usize) -> io
 }
 
 fn walk(path: &str, most: usize) -> Result<(), Failure> {
-    let said = |error: io::Error| (format!("{path}: {error}"), 2);
-    let text = input(path).map_err(said)?;
+    let text = input(path, muon::TEXT_MAX)?;
     let mut table = [0; muon::TABLE_MAX];
-    let answer = muon::read(2, &text, &mut table);
-    let refused = |refusal| (format!("byte {}: {refusal}", answer.place), 1);
-    let count = answer.accepted().map_err(refused)?;
+    let count = accepted(muon::read(2, &text, &mut table))?;
     let root = muon::root(&table, count).expect("an accepted text has a node");
     let mut out = io::BufWriter::new(io::stdout().lock());
     let written = print_all(&mut out, &text, root, most);
-    written.map_err(|error| (format!("standard output: {error}"), 2))
+    written.map_err(|error| said("standard output", error))
 }
 
 fn main() -> ExitCode {
     let arguments: Vec<String> = env::args().skip(1).collect();
     let usage = || ("walk TEXT [DEPTH]".to_string(), 2);
-    let outcome = match &arguments[..] {
+    exit_code(match &arguments[..] {
         [text] => walk(text, DEPTH_MAX),
         [text, depth] => match depth.parse() {
             Ok(most) => walk(text, most),
             Err(_) => Err(usage()),
         },
         _ => Err(usage()),
-    };
-    match outcome {
-        Ok(()) => ExitCode::SUCCESS,
-        Err((reason, code)) => {
-            eprintln!("{reason}");
-            ExitCode::from(code)
-        }
-    }
+    })
 }
