@@ -42,6 +42,15 @@ impl From<muon::Answer> for Answer {
     }
 }
 
+/// The answer of a call that is lent so many bytes, and those that it wrote: none
+/// if it refused.
+pub fn accepted_bytes(length: usize, call: impl FnOnce(&mut [u8]) -> Answer) -> (Answer, Vec<u8>) {
+    let mut bytes = vec![0; length];
+    let answer = call(&mut bytes);
+    let written = if answer.number == 0 { answer.count } else { 0 };
+    (answer, bytes[..written].to_vec())
+}
+
 /// The answer, and the buffer with its guard as they are then.  The bytes lent
 /// vary; with another `turn` each is another, so a byte that is not written
 /// shows with one of them, whatever it should be.

@@ -14,19 +14,19 @@
 //! Exits with 1 at the first disagreement.
 
 use second::answer::{Answer, NEWER_FORM, NODES_MAX, NODE_WORDS, RETIRED_ARROW, TEXT_MAX};
-use second::compare::forms::{end, read, read_again};
+use second::compare::forms::{end, form_lengths, no_level, read, read_again, LEVELS};
 use second::compare::{
-    all_met, each_met, finish, lengths, listed, same, same_written, Compared, Difference, TURNS,
+    accepted_bytes, all_met, each_met, finish, listed, same, same_written, Compared, Difference,
+    TURNS,
 };
 use second::generate::{
-    arrow_rows, arrow_texts, deep_forms, good_texts, head_forms, long_texts, old_texts,
+    arrow_rows, arrow_texts, commented, deep_forms, good_texts, head_forms, long_texts, old_texts,
     random_bytes, sized_forms, texts, Random,
 };
 use second::samples::readings::CONVERTED;
 use second::samples::{before, Sample, Want};
-use second::token::Lexed;
 use second::tree::{read_by, Rules};
-use second::{file, front, plain, samples, token};
+use second::{file, plain, samples};
 use std::process::ExitCode;
 
 const SEED: u64 = 20_261_124;
@@ -36,8 +36,6 @@ const OLD: usize = 12_000;
 const ARROWS: usize = 12_000;
 const RANDOM_BYTES: usize = 200_000;
 const COMMENT: &[u8] = b"`<-`";
-const LEVELS: [u32; 2] = [1, 2];
-const NO_LEVELS: [u32; 4] = [0, 3, 258, u32::MAX];
 /// The answers that the call can give; 14 and 15 are not among them.
 const ANSWERS: [usize; 10] = [0, 1, 2, 3, 4, 5, 6, 7, 8, 11];
 /// In the words of a node.
@@ -70,11 +68,7 @@ fn old_read(level: u32, text: &[u8]) -> Result<Vec<u32>, Answer> {
 
 /// The archive's answer with room enough, and what it wrote.
 fn whole(level: u32, text: &[u8]) -> (Answer, Vec<u8>) {
-    let mut form = vec![0; 2 * text.len()];
-    let answer = archive::convert(level, text, &mut form);
-    let written = if answer.number == 0 { answer.count } else { 0 };
-    form.truncate(written);
-    (answer, form)
+    accepted_bytes(2 * text.len(), |form| archive::convert(level, text, form))
 }
 
 /// What was compared.
@@ -132,9 +126,7 @@ impl Counts {
             }
         };
         let need = self.answered(level, text, 0)?.count;
-        // none and what is always enough among them
-        let some = [0, 1, 2 * text.len(), 2 * text.len() + 1];
-        for length in lengths(&some, need, &mut self.random) {
+        for length in form_lengths(text, need, &mut self.random) {
             self.answered(level, text, length)?;
         }
         let (answer, form) = whole(level, text);
@@ -225,7 +217,7 @@ impl Counts {
         }
         self.old_and_new(text)?;
         self.nodes(text)?;
-        let level = NO_LEVELS[self.random.below(NO_LEVELS.len())];
+        let level = no_level(&mut self.random);
         self.refused(level, text, Answer::refused(1, 0))
     }
 
@@ -252,12 +244,7 @@ impl Counts {
 
     /// A comment in every gap changes nothing.
     fn commented(&mut self, text: &[u8]) -> Compared {
-        let tokens = token::list(text, front::begin(text));
-        let gaps = tokens.iter().map(Lexed::first);
-        let other = gaps.rev().fold(text.to_vec(), |mut other, at| {
-            other.splice(at..at, COMMENT.iter().copied());
-            other
-        });
+        let other = commented(text, COMMENT);
         for level in LEVELS {
             let Some(form) = self.form(level, text)? else {
                 continue;

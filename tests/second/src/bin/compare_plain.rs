@@ -13,19 +13,18 @@
 //! Exits with 1 at the first disagreement.
 
 use second::answer::{Answer, NODE_WORDS, NOT_THE_FILE, SKIP, TEXT_MAX};
-use second::compare::forms::{end, read, read_again};
+use second::compare::forms::{end, form_lengths, no_level, read, read_again, LEVELS};
 use second::compare::{
-    all_met, each_met, finish, lengths, listed, same, same_written, Compared, Difference, TURNS,
+    accepted_bytes, all_met, each_met, finish, listed, same, same_written, Compared, Difference,
+    TURNS,
 };
 use second::generate::{
-    arrow_rows, arrow_texts, deep_forms, good_texts, head_forms, long_texts, random_bytes,
-    sized_forms, texts, Random,
+    arrow_rows, arrow_texts, commented, deep_forms, gaps, good_texts, head_forms, long_texts,
+    random_bytes, sized_forms, texts, Random,
 };
-use second::plain;
 use second::samples::readings::PLAIN;
-use second::token::Lexed;
 use second::tree::{read_by, Rules};
-use second::{front, samples, token};
+use second::{plain, samples};
 use std::process::ExitCode;
 
 const SEED: u64 = 20_261_123;
@@ -36,8 +35,6 @@ const ARROWS: usize = 1_000;
 const SPARSELY: usize = 7;
 const RANDOM_BYTES: usize = 200_000;
 const COMMENT: &[u8] = b"`)_\"`";
-const LEVELS: [u32; 2] = [1, 2];
-const NO_LEVELS: [u32; 4] = [0, 3, 258, u32::MAX];
 /// The answers that the call can give.
 const ANSWERS: [usize; 12] = [0, 1, 2, 3, 4, 5, 6, 7, 8, 11, 14, 15];
 
@@ -129,16 +126,13 @@ impl Counts {
             }
         };
         let need = self.answered(level, text, &words, 0)?.count;
-        // none and what is always enough among them
-        let some = [0, 1, 2 * text.len(), 2 * text.len() + 1];
-        for length in lengths(&some, need, &mut self.random) {
+        for length in form_lengths(text, need, &mut self.random) {
             self.write(level, text, &words, length)?;
         }
-        let mut form = vec![0; 2 * text.len()];
-        let answer = archive::write(level, text, &words, &mut form);
+        let write = |form: &mut [u8]| archive::write(level, text, &words, form);
+        let (answer, form) = accepted_bytes(2 * text.len(), write);
         let want = Answer::accepted(text.len(), need);
         same("twice the text is enough", text, want, answer)?;
-        form.truncate(need);
         self.again(level, text, &words, &form)?;
         Ok(Some((words, form)))
     }
@@ -275,17 +269,14 @@ impl Counts {
             self.of_others(level, text, &words, &form)?;
             self.last = words;
         }
-        let level = NO_LEVELS[self.random.below(NO_LEVELS.len())];
+        let level = no_level(&mut self.random);
         self.refused(level, text, Answer::refused(1, 0))
     }
 
     /// A comment at every byte; where it stands in a gap, with the same form.  Then
     /// one in every gap at once.
     fn commented(&mut self, text: &[u8]) -> Compared {
-        let gaps: Vec<usize> = token::list(text, front::begin(text))
-            .iter()
-            .map(Lexed::first)
-            .collect();
+        let gaps = gaps(text);
         for level in LEVELS {
             let Some((_, form)) = self.forms(level, text)? else {
                 continue;
@@ -299,10 +290,7 @@ impl Counts {
                     self.gaps += 1;
                 }
             }
-            let everywhere = gaps.iter().rev().fold(text.to_vec(), |mut other, at| {
-                other.splice(at..at, COMMENT.iter().copied());
-                other
-            });
+            let everywhere = commented(text, COMMENT);
             if everywhere.len() <= TEXT_MAX {
                 let found = self.forms(level, &everywhere)?.map(|(_, form)| form);
                 same("form without comments", text, Some(&form), found.as_ref())?;

@@ -16,7 +16,7 @@
 use muon as _;
 
 use second::answer::{Answer, DEPTH_MAX, NODES_MAX, NODE_WORDS, TEXT_MAX};
-use second::compare::{finish, same, Compared};
+use second::compare::{accepted_bytes, finish, same, Compared};
 use second::generate::{
     around, arrow_texts, deep_forms, encoded_texts, flipped, framed, long_packed_pieces,
     long_texts, packed_pieces, pieces, random_bytes, random_packed_pieces, row, sample_pieces,
@@ -276,9 +276,7 @@ fn compare(level: u32, text: &[u8], words: usize) -> Compared {
 /// program's.
 fn compare_value(call: &(&str, Writing, Ours), piece: &[u8], length: usize) -> Compared {
     let (name, theirs, ours) = *call;
-    let mut bytes = vec![0; length];
-    let answer = ours(piece, &mut bytes);
-    let written = if answer.number == 0 { answer.count } else { 0 };
+    let (answer, bytes) = accepted_bytes(length, |buffer| ours(piece, buffer));
 
     let lent = Lent::holding(piece);
     let buffer = Lent::<u8>::new(length);
@@ -291,13 +289,8 @@ fn compare_value(call: &(&str, Writing, Ours), piece: &[u8], length: usize) -> C
     same(&what, piece, answer, proved)?;
     // SAFETY: the piece is as long, and of an accepted one so many bytes are
     // written, which valgrind checks.
-    let (after, theirs) = unsafe { (lent.written(piece.len()), buffer.written(written)) };
-    same(
-        &format!("{what}: the bytes"),
-        piece,
-        &bytes[..written],
-        theirs,
-    )?;
+    let (after, theirs) = unsafe { (lent.written(piece.len()), buffer.written(bytes.len())) };
+    same(&format!("{what}: the bytes"), piece, &bytes[..], theirs)?;
     same(&format!("{what}: the piece"), piece, piece, after)
 }
 
@@ -337,9 +330,8 @@ fn compare_check(text: &[u8], stored: &[u8]) -> Compared {
 /// program's.
 fn compare_plain(level: u32, text: &[u8], words: &[u32], behind: usize, length: usize) -> Compared {
     let table = [words, &vec![0; behind]].concat();
-    let mut bytes = vec![0; length];
-    let answer = plain::write(level, text, &table, &mut bytes);
-    let written = if answer.number == 0 { answer.count } else { 0 };
+    let ours = |buffer: &mut [u8]| plain::write(level, text, &table, buffer);
+    let (answer, bytes) = accepted_bytes(length, ours);
 
     let lent = Lent::holding(text);
     let kept = Lent::<u32>::new(table.len());
@@ -368,15 +360,10 @@ fn compare_plain(level: u32, text: &[u8], words: &[u32], behind: usize, length: 
         (
             lent.written(text.len()),
             kept.written(words.len()),
-            buffer.written(written),
+            buffer.written(bytes.len()),
         )
     };
-    same(
-        &format!("{what}: the bytes"),
-        text,
-        &bytes[..written],
-        theirs,
-    )?;
+    same(&format!("{what}: the bytes"), text, &bytes[..], theirs)?;
     same(&format!("{what}: the text"), text, text, text_after)?;
     same(&format!("{what}: the table"), text, words, words_after)
 }
@@ -384,9 +371,8 @@ fn compare_plain(level: u32, text: &[u8], words: &[u32], behind: usize, length: 
 /// What a text is converted to in a buffer of this length, held against the
 /// second program's.
 fn compare_convert(level: u32, text: &[u8], length: usize) -> Compared {
-    let mut bytes = vec![0; length];
-    let answer = plain::convert(level, text, &mut bytes);
-    let written = if answer.number == 0 { answer.count } else { 0 };
+    let ours = |buffer: &mut [u8]| plain::convert(level, text, buffer);
+    let (answer, bytes) = accepted_bytes(length, ours);
 
     let lent = Lent::holding(text);
     let buffer = Lent::<u8>::new(length);
@@ -399,13 +385,8 @@ fn compare_convert(level: u32, text: &[u8], length: usize) -> Compared {
     same(&what, text, answer, proved)?;
     // SAFETY: the text is as long, and of an accepted one so many bytes are
     // written, which valgrind checks.
-    let (after, theirs) = unsafe { (lent.written(text.len()), buffer.written(written)) };
-    same(
-        &format!("{what}: the bytes"),
-        text,
-        &bytes[..written],
-        theirs,
-    )?;
+    let (after, theirs) = unsafe { (lent.written(text.len()), buffer.written(bytes.len())) };
+    same(&format!("{what}: the bytes"), text, &bytes[..], theirs)?;
     same(&format!("{what}: the text"), text, text, after)
 }
 

@@ -1,8 +1,24 @@
 //! Plain forms, and how the archive reads them again.
 
-use super::{same, Difference};
+use super::{lengths, same, Difference};
 use crate::answer::{Answer, NODE_WORDS};
+use crate::generate::Random;
 use crate::plain::turned;
+
+pub const LEVELS: [u32; 2] = [1, 2];
+const NO_LEVELS: [u32; 4] = [0, 3, 258, u32::MAX];
+
+/// One that there is not.
+pub fn no_level(random: &mut Random) -> u32 {
+    NO_LEVELS[random.below(NO_LEVELS.len())]
+}
+
+/// Lengths of a buffer for the form of a text, which needs so many bytes; none and
+/// what is always enough among them.
+pub fn form_lengths(text: &[u8], need: usize, random: &mut Random) -> Vec<usize> {
+    let enough = 2 * text.len();
+    lengths(&[0, 1, enough, enough + 1], need, random)
+}
 
 /// The words of a text that the archive accepts, or its refusal.
 pub fn read(level: u32, text: &[u8]) -> Result<Vec<u32>, Answer> {

@@ -1,7 +1,8 @@
 //! Texts for plain forms and conversions.
 
 use crate::answer::{DEPTH_MAX, NODES_MAX, TEXT_MAX};
-use crate::samples;
+use crate::token::Lexed;
+use crate::{front, samples, token};
 
 /// Brackets as deep as may be, around members or the innermost value; this is
 /// the sign of the pairs, `->` or the arrow `<-`.
@@ -94,4 +95,31 @@ pub fn sized_forms(sign: &str) -> Vec<Vec<u8>> {
     let lengths = [TEXT_MAX - 1, TEXT_MAX, TEXT_MAX + 1];
     all.extend(lengths.into_iter().flat_map(samples::digit_at_either_end));
     all
+}
+
+/// Where a comment may stand: before each token, and at the end or where there
+/// is none.
+pub fn gaps(text: &[u8]) -> Vec<usize> {
+    let tokens = token::list(text, front::begin(text));
+    tokens.iter().map(Lexed::first).collect()
+}
+
+/// The text with a comment in each of its gaps.
+pub fn commented(text: &[u8], comment: &[u8]) -> Vec<u8> {
+    let mut other = text.to_vec();
+    for at in gaps(text).into_iter().rev() {
+        other.splice(at..at, comment.iter().copied());
+    }
+    other
+}
+
+#[cfg(test)]
+mod tests {
+    use super::*;
+
+    #[test]
+    fn a_comment_in_each_gap() {
+        assert_eq!(gaps(b"( xy )`z` "), [0, 2, 5, 10]);
+        assert_eq!(commented(b"( xy )", b"`c`"), b"`c`( `c`xy `c`)`c`");
+    }
 }

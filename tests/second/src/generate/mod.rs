@@ -18,7 +18,7 @@ pub use arrows::{arrow_rows, arrow_texts};
 pub use bytes::random_bytes;
 pub use encoded::{around, encoded_texts, BAD, LONGER, RUN_MAX};
 pub use flip::flipped;
-pub use forms::{deep_forms, head_forms, sized_forms};
+pub use forms::{commented, deep_forms, gaps, head_forms, sized_forms};
 pub use grammar::Made;
 use grammar::Mischief;
 pub use long::{long_shapes, long_texts, Shape};
