@@ -47,8 +47,8 @@ impl From<muon::Answer> for Answer {
 pub fn accepted_bytes(length: usize, call: impl FnOnce(&mut [u8]) -> Answer) -> (Answer, Vec<u8>) {
     let mut bytes = vec![0; length];
     let answer = call(&mut bytes);
-    let written = if answer.number == 0 { answer.count } else { 0 };
-    (answer, bytes[..written].to_vec())
+    bytes.truncate(if answer.number == 0 { answer.count } else { 0 });
+    (answer, bytes)
 }
 
 /// The answer, and the buffer with its guard as they are then.  The bytes lent
