@@ -75,6 +75,9 @@ module _ (text : List ℕ) where
   wordForm none = Form.Word
   wordForm (some h) = Form.HeadWord h
 
+  abbrev pub formOf : ℕ → ℕ → Form
+  formOf i j = wordForm (headOf heads i j)
+
   abbrev pub kindOf : Lexeme → ℕ → ℕ → Kind
   kindOf anIgnorance i j = Kind.Ignorance
   kindOf (aBoolean b) i j = Kind.Boolean b
@@ -83,7 +86,7 @@ module _ (text : List ℕ) where
   kindOf aBits i j = Kind.Bits
   kindOf aBlob i j = Kind.Blob
   kindOf aQuoted i j = Kind.Text Form.Quoted
-  kindOf aWord i j = Kind.Text (wordForm (headOf heads i j))
+  kindOf aWord i j = Kind.Text (formOf i j)
   kindOf aCodePoint i j = Kind.Text Form.CodePoint
   kindOf aLater i j = Kind.Later
   kindOf (aSymbol s) i j = Kind.Symbol s

@@ -14,3 +14,5 @@ pub mod Lexemes
 pub mod Next
 pub mod Front
 pub mod Utf8
+pub mod Listed
+pub mod First

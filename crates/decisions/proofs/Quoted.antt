@@ -22,10 +22,10 @@ module _ (text : List ℕ) where
   abbrev Closed : ℕ → ℕ → ℕ → Type 0
   Closed j s e = Takes text (lit ">") e j × BadCode text s e
 
-  abbrev badEscape : ℕ → ℕ → Bool
+  abbrev pub badEscape : ℕ → ℕ → Bool
   badEscape i j = leads text (lit "\\<") i (λ s. leads text codePoint s (closed j s))
 
-  bad-escape : (i j : ℕ) → Says (badEscape i j) (BadEscape text i j)
+  pub bad-escape : (i j : ℕ) → Says (badEscape i j) (BadEscape text i j)
   bad-escape i j =
       by (λ x. record { start = x .0; end = x .2 .0; before = x .1; code = x .2 .2 .1; behind = x .2 .2 .0 })
       (λ x. (x .start, x .before, (x .end, code-takes text (x .code), (x .behind, x .code))))

@@ -25,4 +25,5 @@ pub mod Formed
 pub mod Moved
 pub mod Pieces
 pub mod Segments
+pub mod Places
 pub mod Examples

@@ -22,7 +22,7 @@ use Rattle.lexicon.specs.Space.{sp}
 use Rattle.lexicon.specs.Literals.{unescaped, escape, segment}
 use Rattle.lexicon.specs.Values.{Digits, lastUnit, nextUnit, read, value, scalar, Number, IntegerOf, Behind, markAlone, markDigits, BitsOf, BlobOf, Letter, CodeOf, Plain, Escaped, Row, done, Segment, Quoted, lastSegment, nextSegment, TextOf, quotes, bare, coded}
 use Rattle.lexicon.specs.Values as Values
-use Rattle.lexicon.specs.Bad.{BadCode, BadEscape, BadSegment, BadFurther, BadQuoted, inFirst, inFurther, ZeroDenominator, SmallRadix, NoBytes}
+use Rattle.lexicon.specs.Bad.{BadCode, BadEscape, BadSegment, BadFurther, BadQuoted, inFirst, inFurther, backslashOf, ZeroDenominator, SmallRadix, NoBytes}
 use Rattle.lexicon.specs.Token.{Bad}
 use Rattle.lexicon.proofs.Groups.{unit-end, digits-forward}
 use Rattle.lexicon.proofs.Contents.{blob-forward}
@@ -33,7 +33,7 @@ module _ (text : List ℕ) where
   pub number-forward : {i j v : ℕ} → Number text i j v → i < j
   number-forward (b, n) = omega (arith, forward (n .before), digits-forward (n .digits-are))
 
-  code-forward : {i j v : ℕ} → CodeOf text i j v → i ≤ j
+  pub code-forward : {i j v : ℕ} → CodeOf text i j v → i ≤ j
   code-forward c = omega (arith, forward (c .before), forward (c .all-digits))
 
   plain-forward : {i j c : ℕ} → Plain text i j c → i ≤ j
@@ -224,7 +224,7 @@ module _ (a b : List ℕ) (p q n : ℕ) (w : Window a b p q n) where
       let f = forward (z .before) in let g = bad-segment-forward (z .bad) in
       record { start = shift p q (z .start); before = on (z .before) h (omega (arith, g, k)); bad = bad-segment (z .bad) (omega (arith, f, h)) k }
 
-  bad-quoted : {i j : ℕ} → BadQuoted a i j → p ≤ i → j ≤ p + n → BadQuoted b (shift p q i) (shift p q j)
+  pub bad-quoted : {i j : ℕ} → BadQuoted a i j → p ≤ i → j ≤ p + n → BadQuoted b (shift p q i) (shift p q j)
   bad-quoted (inFirst s t) h k =
       let f = bad-segment-forward s in let g = forward t in
       inFirst (bad-segment s h (omega (arith, g, k))) (on t (omega (arith, f, h)) k)
@@ -232,6 +232,12 @@ module _ (a b : List ℕ) (p q n : ℕ) (w : Window a b p q n) where
       let f = forward s in let g = among-forward t in
       inFurther (on s h (omega (arith, g, k)))
       (among-moved a b p q n w (opt sp then segment) (BadFurther a) (BadFurther b) (λ i j x u v. bad-further x u v) t (omega (arith, f, h)) k)
+
+  -- the backslash moves with its escape
+  pub backslash-moved : {i j : ℕ} (x : BadQuoted a i j) (h : p ≤ i) (k : j ≤ p + n) → backslashOf b (bad-quoted x h k) ≡ shift p q (backslashOf a x)
+  unfolding bad-quoted bad-further bad-segment among-moved
+  backslash-moved (inFirst s t) h k = refl
+  backslash-moved (inFurther s t) h k = refl
 
   -- ---- Fraction
 

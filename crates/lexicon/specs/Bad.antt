@@ -1,6 +1,7 @@
 -- Bad values, refusal 5: 01, 'a code point outside 0..D7FF and E000..10FFFF; denominator 0; radix below 2', and for
 -- Blobs 02, request 3. Each is a property of a literal's bytes, from place i to place j, and is asked where the literal
 -- stands. Assumes nothing.
+use mathlib.Core.Path.{_≡_}
 use mathlib.Core.Logic.{_⊎_}
 use mathlib.Core.List.{List, _∷_}
 use Prim.Native.Nat.{ℕ, _≤_, _<_}
@@ -58,6 +59,17 @@ module _ (text : List ℕ) where
     pub characters : List ℕ
     pub are : Quoted text i j characters
     pub outside : Outside characters
+
+  -- where the backslash of the bad escape stands
+  abbrev pub backslashOf : {i j : ℕ} → BadQuoted i j → ℕ
+  backslashOf (inFirst b t) = b .content .from
+  backslashOf (inFurther t a) = a .holds .bad .content .from
+
+  -- 02, request 8: 'the backslash of that escape, the first such one'
+  pub record FirstBad (i j place : ℕ) : Type 0 where
+    pub bad : BadQuoted i j
+    pub there : place ≡ backslashOf bad
+    pub first : (other : BadQuoted i j) → place ≤ backslashOf other
 
   -- ---- Fraction
 

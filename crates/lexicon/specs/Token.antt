@@ -24,7 +24,7 @@ use Rattle.lexicon.specs.Space.{Skips}
 use Rattle.lexicon.specs.Literals.{ignorance, boolean, integer, fraction, bits, blob, quoted, word, codePoint}
 use Rattle.lexicon.specs.Literals.{later, plusMinus}
 use Rattle.lexicon.specs.Symbols.{symbol, Colons}
-use Rattle.lexicon.specs.Bad.{BadCode, BadQuoted, BadFraction, NoBytes}
+use Rattle.lexicon.specs.Bad.{BadCode, BadQuoted, FirstBad, BadFraction, NoBytes}
 
 -- the token rules
 pub data Lexeme : Type 0 where
@@ -113,6 +113,13 @@ module _ (text : List ℕ) where
   Bad (Symbol s) i j = ⊥
   Bad Colon i j = ⊥
   Bad TwoColons i j = ⊥
+
+  -- and the place that is told with it: 02, request 8, 'For a code point out of range inside quotes, 5 now gives the
+  -- backslash of that escape, the first such one, and no longer the literal's first byte. Bare code points are as
+  -- before'
+  pub data BadPlace (k : Kind) (i j place : ℕ) : Type 0 where
+    insideQuotes : k ≡ Text Quoted → FirstBad text i j place → BadPlace k i j place
+    firstByte : (k ≡ Text Quoted → ⊥) → place ≡ i → BadPlace k i j place
 
   -- `Comes`: what comes next at or after a place, for each answer of `token::next::next`, whose contract it is.
   -- Dividing space is passed over; the end is a token at the text length

@@ -53,7 +53,7 @@ module _ (a b : List ℕ) (p q n : ℕ) (w : Window a b p q n) where
   moved (more t u) h k = let x = forward t in let y = forward u in more (moved t h (omega (arith, y, k))) (moved u (omega (arith, x, h)) k)
 
   -- a row of matches, one of which has a property
-  pub among-moved : (r : Rule) (P Q : ℕ → ℕ → Type 0) → ((i j : ℕ) → P i j → p ≤ i → j ≤ p + n → Q (shift p q i) (shift p q j)) →
+  unfoldable pub among-moved : (r : Rule) (P Q : ℕ → ℕ → Type 0) → ((i j : ℕ) → P i j → p ≤ i → j ≤ p + n → Q (shift p q i) (shift p q j)) →
       {i j : ℕ} → Among a r P i j → p ≤ i → j ≤ p + n → Among b r Q (shift p q i) (shift p q j)
   among-moved r P Q f z h k =
       let x = forward (z .before) in let y = forward (z .match) in let v = forward (z .behind) in
