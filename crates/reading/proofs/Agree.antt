@@ -29,8 +29,9 @@ use Rattle.reading.specs.Faults.{NewerAt, tests, Fault, noToken, wrongEn
 use Rattle.reading.specs.Answers.{LevelOf, first, second, Accepted, Reading, Answers, noLevel, tooLong, notUtf8, faulty, noRoom, accepted}
 use Rattle.reading.specs.Agree.{NewerFrom, FirstNewer, Agree}
 use Rattle.reading.specs.Tests.{First}
-use Rattle.reading.proofs.Tests.{None, no-test, all-fail, behind as others, no-number, Alike, same, first-alike, none-alike}
+use Rattle.reading.proofs.Tests.{None, no-test, behind as others, no-number, Alike, same, first-alike, none-alike}
 use Rattle.reading.proofs.Rows.{Order, equal, less, more, order, pick, comes-forward, one-row, row-beyond, append, split}
+use Rattle.reading.proofs.Placed.{placed-first, at-first, no-test-holds}
 use Rattle.reading.proofs.First.{follows, start, went, fault-later, fault-there}
 use Rattle.reading.proofs.Unique.{one-level, one-answer}
 
@@ -49,7 +50,7 @@ module _ (bytes : List ℕ) (limits : Limits) (a b : Level) (within : a Within b
       }
 
   known-passed : {s p : ℕ} {ts : List Tok} → Front bytes s → Passed limits a bytes ts p → Known a ts []
-  known-passed f g = known (follows bytes limits a f g) (λ xs m u x c h n. went bytes limits a f x g h .sound 7 (u .first) (atToken c (inl (refl, n))))
+  known-passed f g = known (follows bytes limits a f g) (λ xs m u x c h n. went bytes limits a f x g h .sound 7 (u .first) (atToken c (inl (refl, n)) (at-first (λ e. omega (arith, e)))))
 
   known-next : {s p : ℕ} {ts : List Tok} {t : Token.Token} → Front bytes s → Passed limits a bytes ts p → Comes bytes p (Next.Token t) →
       (NewerAt a bytes ts t → ⊥) → Known a (ts ++ (seen t ∷ [])) []
@@ -61,7 +62,7 @@ module _ (bytes : List ℕ) (limits : Limits) (a b : Level) (within : a Within b
           let o = one-row bytes x (follows bytes limits a f g) e in
           let same : u ≡ t = pick bytes (subst (λ (q : ℕ). Comes bytes q (Next.Token u)) (o .1) d) c in
           v (subst (NewerAt a bytes ts) same (subst (λ (r : List Tok). NewerAt a bytes r u) (o .0) n))
-      by xs m u x d h n (less k) = went bytes limits a f x g k .sound 7 (u .first) (atToken d (inl (refl, n)))
+      by xs m u x d h n (less k) = went bytes limits a f x g k .sound 7 (u .first) (atToken d (inl (refl, n)) (at-first (λ e. omega (arith, e))))
       by xs m u x d h n (more k) = omega (arith, k, h, length-append ts (seen t ∷ []))
 
   newer-below : {ts : List Tok} {t : Token.Token} → Known a ts [] → NewerAt b bytes ts t → NewerAt a bytes ts t
@@ -80,8 +81,8 @@ module _ (bytes : List ℕ) (limits : Limits) (a b : Level) (within : a Within b
   higher : {s p : ℕ} {ts : List Tok} → Front bytes s → Passed limits a bytes ts p → ((n q : ℕ) → Fault limits a bytes ts p n q → ⊥) → (n q : ℕ) → Fault limits b bytes ts p n q → ⊥
   higher f g k n q (noToken d) = k 4 q (noToken d)
   higher {ts = ts} f g k n q (wrongEnd d w) = k 6 q (wrongEnd d (record { none = λ s. w .none (sentenceAlike a b within arrows ts [] (known-passed f g) s) }))
-  higher {ts = ts} f g k n q (atToken {t = t} d x) =
-      let none : None (tests limits a bytes ts t) = all-fail (tests limits a bytes ts t) (λ m y. k m (t .first) (atToken d y)) in
+  higher {ts = ts} f g k n q (atToken {t = t} d x v) =
+      let none : None (tests limits a bytes ts t) = no-test-holds limits a bytes d k in
       no-test (tests limits b bytes ts t) n (none-alike (tests limits a bytes ts t) (tests limits b bytes ts t) (alike f g d (none .0)) none) x
 
   pub passed-too : {p : ℕ} {ts : List Tok} → Passed limits a bytes ts p → Passed limits b bytes ts p
@@ -93,9 +94,9 @@ module _ (bytes : List ℕ) (limits : Limits) (a b : Level) (within : a Within b
   fault-too : {s p n q : ℕ} {ts : List Tok} → Front bytes s → Passed limits a bytes ts p → (n ≡ 7 → ⊥) → Fault limits a bytes ts p n q → Fault limits b bytes ts p n q
   fault-too f g h (noToken d) = noToken d
   fault-too {ts = ts} f g h (wrongEnd d w) = wrongEnd d (record { none = λ s. w .none (sentenceAlikeBack a b within arrows ts [] (known-passed f g) s) })
-  fault-too f g h (atToken d (inl x)) = absurd (h (x .0))
-  fault-too {n = n} {ts = ts} f g h (atToken {t = t} d (inr x)) =
-      atToken d (first-alike (tests limits a bytes ts t) (tests limits b bytes ts t) n (alike f g d (x .0)) (inr x))
+  fault-too f g h (atToken d (inl x) v) = absurd (h (x .0))
+  fault-too {n = n} {ts = ts} f g h (atToken {t = t} d (inr x) v) =
+      atToken d (first-alike (tests limits a bytes ts t) (tests limits b bytes ts t) n (alike f g d (x .0)) (inr x)) v
 
   pub first-too : {n q : ℕ} → (n ≡ 7 → ⊥) → FirstFault limits a bytes n q → FirstFault limits b bytes n q
   first-too h f =
@@ -129,8 +130,8 @@ module _ (bytes : List ℕ) (limits : Limits) (a b : Level) (within : a Within b
   newer-fault : {ts : List Tok} {p n q : ℕ} → n ≡ 7 → Fault limits a bytes ts p n q → NewerFault ts p q
   newer-fault e (noToken d) = absurd (omega (arith, e))
   newer-fault e (wrongEnd d w) = absurd (omega (arith, e))
-  newer-fault e (atToken {t = t} d (inl x)) = record { token = t; comes = d; newer = x .1; place-is = refl }
-  newer-fault {ts} {n = n} e (atToken {t = t} d (inr x)) =
+  newer-fault e (atToken {t = t} d (inl x) v) = record { token = t; comes = d; newer = x .1; place-is = placed-first (λ f. omega (arith, e, f)) v }
+  newer-fault {ts} {n = n} e (atToken {t = t} d (inr x) v) =
       absurd (no-number (others (tests limits a bytes ts t)) 7 refl (subst (First (others (tests limits a bytes ts t))) e (x .1)))
 
   pub first-newer : {n q : ℕ} → n ≡ 7 → FirstFault limits a bytes n q → FirstNewer a bytes q
@@ -154,7 +155,7 @@ module _ (bytes : List ℕ) (limits : Limits) (a b : Level) (within : a Within b
           let o = one-row bytes (y .row) (follows bytes limits a (y .front) (f .good)) h in
           let same : y .token ≡ x .token = pick bytes (subst (λ (p : ℕ). Comes bytes p (Next.Token (y .token))) (o .1) (y .comes)) (x .comes) in
           omega (arith, x .place-is, y .place-is, ap (λ (t : Token.Token). t .first) same)
-      least y (less h) = absurd (went bytes limits a (y .front) (y .row) (f .good) h .sound 7 (y .token .first) (atToken (y .comes) (inl (refl, y .newer))))
+      least y (less h) = absurd (went bytes limits a (y .front) (y .row) (f .good) h .sound 7 (y .token .first) (atToken (y .comes) (inl (refl, y .newer)) (at-first (λ e. omega (arith, e)))))
       least y (more h) =
           omega (
             arith,

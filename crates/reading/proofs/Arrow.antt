@@ -38,7 +38,8 @@ use Rattle.reading.specs.Tests.{test, First}
 use Rattle.reading.specs.Faults.{NewerAt, Retired, TooDeep, tests, Fault, noToken, wrongEnd, atToken, Passed, begun, passed, FirstFault, AllPassed}
 use Rattle.reading.specs.Answers.{LevelOf, answer, Accepted, Reading, Answers, noLevel, tooLong, notUtf8, faulty, noRoom, accepted}
 use Rattle.reading.specs.Arrow.{IsArrow, NoArrows, FirstArrow, Retirement}
-use Rattle.reading.proofs.Tests.{None, no-test, all-fail, behind as others, no-number, Alike, alike-back, first-alike, none-alike}
+use Rattle.reading.proofs.Placed.{placed-first, at-first, no-test-holds}
+use Rattle.reading.proofs.Tests.{None, no-test, behind as others, no-number, Alike, alike-back, first-alike, none-alike}
 use Rattle.reading.proofs.Rows.{Order, equal, less, more, order, one-row, row-beyond, every-part}
 use Rattle.reading.proofs.First.{follows, start, went, fault-later}
 use Rattle.reading.proofs.Decide.{arrow-read, faultless}
@@ -100,9 +101,9 @@ module _ (limits : Limits) (l : Level) (bytes : List ℕ) where
   unfaulted : {ts : List Tok} {p : ℕ} → ((n q : ℕ) → Fault limits l bytes ts p n q → ⊥) → (n q : ℕ) → Fault old l bytes ts p n q → ⊥
   unfaulted k n q (noToken d) = k 4 q (noToken d)
   unfaulted k n q (wrongEnd d w) = k 6 q (wrongEnd d w)
-  unfaulted {ts} k n q (atToken {t = t} d x) =
+  unfaulted {ts} k n q (atToken {t = t} d x v) =
       let new = tests limits l bytes ts t in
-      let clean : None new = all-fail new (λ m y. k m (t .first) (atToken d y)) in
+      let clean : None new = no-test-holds limits l bytes d k in
       no-test (tests old l bytes ts t) n (none-alike new (tests old l bytes ts t) (alike ts t (clean .1 .1 .0)) clean) x
 
   passed-old : {p : ℕ} {ts : List Tok} → Passed limits l bytes ts p → Passed old l bytes ts p
@@ -111,7 +112,7 @@ module _ (limits : Limits) (l : Level) (bytes : List ℕ) where
 
   -- a token that passes is no retired arrow
   not-retired : {ts : List Tok} {p : ℕ} (t : Token.Token) → Comes bytes p (Next.Token t) → ((n q : ℕ) → Fault limits l bytes ts p n q → ⊥) → Retired limits t → ⊥
-  not-retired {ts} t c k = all-fail (tests limits l bytes ts t) (λ m y. k m (t .first) (atToken c y)) .1 .1 .0
+  not-retired t c k = no-test-holds limits l bytes c k .1 .1 .0
 
   no-arrow-passed : limits .arrow ≡ false → {p : ℕ} {ts : List Tok} → Passed limits l bytes ts p → Every (λ t. IsArrow t → ⊥) ts
   no-arrow-passed e (begun f) = none
@@ -123,7 +124,7 @@ module _ (limits : Limits) (l : Level) (bytes : List ℕ) where
       let b = every-part ts (seen t ∷ []) a in
       let before = tests old l bytes ts t in
       let now = tests limits l bytes ts t in
-      let clean : None before = all-fail before (λ m y. k m (t .first) (atToken c y)) in
+      let clean : None before = no-test-holds old l bytes c k in
       passed (passed-new g (b .0)) c
       (λ n q f. faultless bytes limits l c (none-alike before now (alike-back now before (alike ts t (λ r. every-first (b .1) (r .arrow)))) clean) n q f)
 
@@ -132,11 +133,11 @@ module _ (limits : Limits) (l : Level) (bytes : List ℕ) where
   fault-old : {ts : List Tok} {p n q : ℕ} → (n ≡ 15 → ⊥) → Fault limits l bytes ts p n q → Fault old l bytes ts p n q
   fault-old h (noToken d) = noToken d
   fault-old h (wrongEnd d w) = wrongEnd d w
-  fault-old h (atToken d (inl x)) = atToken d (inl x)
-  fault-old h (atToken d (inr (v, inl x))) = atToken d (inr (v, inl x))
-  fault-old h (atToken d (inr (v, inr (w, inl x)))) = absurd (h (x .0))
-  fault-old {ts} {n = n} h (atToken {t = t} d (inr (v, inr (w, inr (r, x))))) =
-      atToken d (first-alike (tests limits l bytes ts t) (tests old l bytes ts t) n (alike ts t r) (inr (v, inr (w, inr (r, x)))))
+  fault-old h (atToken d (inl x) u) = atToken d (inl x) u
+  fault-old h (atToken d (inr (v, inl x)) u) = atToken d (inr (v, inl x)) u
+  fault-old h (atToken d (inr (v, inr (w, inl x))) u) = absurd (h (x .0))
+  fault-old {ts} {n = n} h (atToken {t = t} d (inr (v, inr (w, inr (r, x)))) u) =
+      atToken d (first-alike (tests limits l bytes ts t) (tests old l bytes ts t) n (alike ts t r) (inr (v, inr (w, inr (r, x))))) u
 
   first-old : {n q : ℕ} → (n ≡ 15 → ⊥) → FirstFault limits l bytes n q → FirstFault old l bytes n q
   first-old h f = record { before = f .before; from = f .from; good = passed-old (f .good); fault = fault-old h (f .fault) }
@@ -159,10 +160,11 @@ module _ (limits : Limits) (l : Level) (bytes : List ℕ) where
   fifteen : {ts : List Tok} {p n q : ℕ} → n ≡ 15 → Fault limits l bytes ts p n q → Fifteen ts p q
   fifteen e (noToken d) = absurd (omega (arith, e))
   fifteen e (wrongEnd d w) = absurd (omega (arith, e))
-  fifteen e (atToken d (inl x)) = absurd (omega (arith, e, x .0))
-  fifteen e (atToken d (inr (v, inl x))) = absurd (omega (arith, e, x .0))
-  fifteen e (atToken {t = t} d (inr (v, inr (w, inl x)))) = record { token = t; comes = d; in-place = w; retired = x .1; place-is = refl }
-  fifteen {ts} {n = n} e (atToken {t = t} d (inr (v, inr (w, inr (r, x))))) =
+  fifteen e (atToken d (inl x) u) = absurd (omega (arith, e, x .0))
+  fifteen e (atToken d (inr (v, inl x)) u) = absurd (omega (arith, e, x .0))
+  fifteen e (atToken {t = t} d (inr (v, inr (w, inl x))) u) =
+      record { token = t; comes = d; in-place = w; retired = x .1; place-is = placed-first (λ f. omega (arith, e, f)) u }
+  fifteen {ts} {n = n} e (atToken {t = t} d (inr (v, inr (w, inr (r, x)))) u) =
       let rest = others (others (others (tests limits l bytes ts t))) in
       absurd (no-number rest 15 refl (subst (First rest) e x))
 
@@ -192,7 +194,7 @@ module _ (limits : Limits) (l : Level) (bytes : List ℕ) where
         before = x .before;
         from = x .from;
         good = passed-new (x .good) (x .first);
-        fault = atToken (x .comes) (inr (known (x .token) (x .arrow), inr (x .in-place, inl (refl, record { retired = e; arrow = x .arrow }))));
+        fault = atToken (x .comes) (inr (known (x .token) (x .arrow), inr (x .in-place, inl (refl, record { retired = e; arrow = x .arrow })))) (at-first (λ f. omega (arith, f)));
       })
 
   -- ---- behind it

@@ -16,7 +16,7 @@ use Rattle.lexicon.specs.declared.Kind.the-variants as Kind
 use Rattle.lexicon.specs.declared.Token as Token
 use Rattle.lexicon.specs.declared.Next.the-variants as Next
 use Rattle.lexicon.specs.Front.{Front}
-use Rattle.lexicon.specs.Token.{Comes, Bad}
+use Rattle.lexicon.specs.Token.{BadPlace, Comes, Bad}
 use Rattle.grammar.specs.Tokens
 use Rattle.grammar.specs.Tokens.{Tok, tok, Mark, Class, atom, text, names, round, curly, square, mark, later, spelled, headWord, classKind}
 use Rattle.grammar.specs.Tree.{Value}
@@ -402,10 +402,10 @@ module _ (limits : Limits) (l : Level) (bytes : List ℕ) where
       step l c (seen t) ≡ some c' → FirstFault limits l bytes 15 (t .first)
   retired-here a t k r s = arrow-retired limits l bytes (a .stands) k (λ n. not-by-class limits l bytes t (ap mayBegin (r .arrow)) n) s r
 
-  pub bad-here : {d p : ℕ} {c c' : Config} → At d p c → (t : Token.Token) → Comes bytes p (Next.Token t) → plain (classKind (t .kind)) ≡ true →
-      t .bad ≡ true → step l c (seen t) ≡ some c' → FirstFault limits l bytes 5 (t .first)
-  bad-here a t k e b s = bad-value limits l bytes (a .stands) k (λ n. not-by-class limits l bytes t (plain-known (classKind (t .kind)) e) n) s
-      (λ r. not-arrow t (plain-arrow (classKind (t .kind)) e) r) b
+  pub bad-here : {d p q : ℕ} {c c' : Config} → At d p c → (t : Token.Token) → Comes bytes p (Next.Token t) → plain (classKind (t .kind)) ≡ true →
+      t .bad ≡ true → BadPlace bytes (t .kind) (t .first) (t .end) q → step l c (seen t) ≡ some c' → FirstFault limits l bytes 5 q
+  bad-here a t k e b o s = bad-value limits l bytes (a .stands) k (λ n. not-by-class limits l bytes t (plain-known (classKind (t .kind)) e) n) s
+      (λ r. not-arrow t (plain-arrow (classKind (t .kind)) e) r) b o
 
   pub deep-here : {d p : ℕ} {c c' : Config} (a : At d p c) (t : Token.Token) → Comes bytes p (Next.Token t) → opens (classKind (t .kind)) ≡ true →
       (NewerAt l bytes (a .tokens) t → ⊥) → limits .depth ≤ d → step l c (seen t) ≡ some c' → FirstFault limits l bytes 11 (t .first)

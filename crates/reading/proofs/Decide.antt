@@ -25,6 +25,7 @@ use Rattle.reading.specs.declared.Limits.{Limits}
 use Rattle.reading.specs.Tokens.{seen, Follow, nothing, next, opened}
 use Rattle.reading.specs.Faults.{NewerAt, Retired, TooDeep, tests, Fault, noToken, wrongEnd, atToken}
 use Rattle.reading.specs.Tests.{First}
+use Rattle.reading.proofs.Placed.{Places, placed}
 use Rattle.reading.proofs.Tests.{None, no-test, Each, first-or-none}
 use Rattle.reading.proofs.Rows.{Order, equal, less, more, order, pick, no-end, no-none}
 
@@ -118,13 +119,13 @@ module _ (bytes : List ℕ) (limits : Limits) (l : Level) where
   pub faultless : {ts : List Tok} {p : ℕ} {t : Token.Token} → Comes bytes p (Next.Token t) → None (tests limits l bytes ts t) → (n q : ℕ) → Fault limits l bytes ts p n q → ⊥
   faultless {ts} {p} {t} c x n q (noToken a) = no-none bytes p c a
   faultless {ts} {p} {t} c x n q (wrongEnd a w) = no-end bytes p c a
-  faultless {ts} {p} {t} c x n q (atToken a f) = no-test (tests limits l bytes ts t) n x (subst (λ (u : Token.Token). First (tests limits l bytes ts u) n) (pick bytes a c) f)
+  faultless {ts} {p} {t} c x n q (atToken a f v) = no-test (tests limits l bytes ts t) n x (subst (λ (u : Token.Token). First (tests limits l bytes ts u) n) (pick bytes a c) f)
 
 -- no step is no configuration
 pub no-step : (d : Config) → none ≡ some d → ⊥
 no-step d x = let z : _≡_ {A = ℕ} 0 1 = cc in omega arith
 
-module _ (bytes : List ℕ) (comes : (p : ℕ) → (r : Next) × Comes bytes p r) (limits : Limits) (l : Level) where
+module _ (bytes : List ℕ) (comes : (p : ℕ) → (r : Next) × Comes bytes p r) (places : Places bytes) (limits : Limits) (l : Level) where
   -- ---- what stands behind a token: two tokens are enough to see a head
 
   record Ahead (p : ℕ) : Type 0 where
@@ -228,7 +229,7 @@ module _ (bytes : List ℕ) (comes : (p : ℕ) → (r : Next) × Comes bytes p r
       on t a x (some d) s = goes t d a (λ n q f. faultless bytes limits l a x n q f) (oneMore l ts c (seen t) e ∙ s)
 
       tested : (t : Token.Token) → Comes bytes p (Next.Token t) → ((n : ℕ) × First (tests limits l bytes ts t) n) ⊎ None (tests limits l bytes ts t) → Decided ts p
-      tested t a (inl f) = stops (f .0) (t .first) (atToken a (f .1))
+      tested t a (inl f) = let x = placed limits l bytes places a (f .1) in stops (f .0) (x .0) (atToken a (f .1) (x .1))
       tested t a (inr x) = on t a x (step l c (seen t)) refl
 
       ended : (q : ℕ) → Comes bytes p (Next.End q) → (b : Bool) → whole c ≡ b → Decided ts p

@@ -21,11 +21,12 @@ use Rattle.grammar.proofs.NewerForms.{newerBegins}
 use Rattle.grammar.proofs.Retired.{NoArrow, keepsArrowless, yieldsNoArrow, keepsToo}
 use Rattle.reading.specs.declared.Limits.{Limits}
 use Rattle.reading.specs.Tokens.{seen, Follow, nothing, next, opened}
-use Rattle.reading.specs.Faults.{NewerAt, Retired, TooDeep, tests, Fault, atToken, Passed, begun, passed, AllPassed}
+use Rattle.reading.specs.Faults.{NewerAt, Retired, TooDeep, tests, Fault, Passed, begun, passed, AllPassed}
 use Rattle.reading.specs.Derived.{readable, allowed, Derived}
 use Rattle.reading.specs.Answers.{Accepted}
 use Rattle.reading.specs.Arrow.{IsArrow, NoArrows}
-use Rattle.reading.proofs.Tests.{None, all-fail}
+use Rattle.reading.proofs.Placed.{no-test-holds}
+use Rattle.reading.proofs.Tests.{None}
 use Rattle.reading.proofs.Rows.{Order, equal, less, more, order, pick, no-end, append, one-row, every-part}
 use Rattle.reading.proofs.First.{follows, start, went}
 use Rattle.reading.proofs.Decide.{faultless}
@@ -130,7 +131,7 @@ module _ (limits : Limits) (l : Level) (bytes : List ℕ) (v : Value) where
             let o = one-row bytes f whole (ap (λ (r : List Tok). length r) (sym (append-nil ts) ∙ e)) in
             absurd (no-end bytes (a .from) (subst (λ (q : ℕ). Comes bytes q (Next.Token t)) (o .1) c) (a .at-end))
         by (r ∷ rest, e) =
-            all-fail (tests limits l bytes ts t) (λ n x. none n (t .first) (atToken c x))
+            no-test-holds limits l bytes c none
           where
             none : (n q : ℕ) → Fault limits l bytes ts p n q → ⊥
             none = went bytes limits l (at .1) f (a .good) (omega (arith, ap (λ (r : List Tok). length r) e, length-append ts (r ∷ rest))) .sound

@@ -17,9 +17,10 @@ use Rattle.grammar.specs.Level.{Level}
 use Rattle.grammar.specs.Place.{Wrong, WrongEnd}
 use Rattle.reading.specs.declared.Limits.{Limits}
 use Rattle.reading.specs.Tokens.{seen, Follow, nothing, next}
-use Rattle.reading.specs.Faults.{tests, Fault, noToken, wrongEnd, atToken, Passed, begun, passed, FirstFault, AllPassed}
+use Rattle.reading.specs.Faults.{tests, PlaceOf, Fault, noToken, wrongEnd, atToken, Passed, begun, passed, FirstFault, AllPassed}
 use Rattle.reading.specs.Tests.{First}
 use Rattle.reading.proofs.Tests.{one-test}
+use Rattle.reading.proofs.Placed.{one-placed, placed-from}
 use Rattle.reading.proofs.Rows.{Order, equal, less, more, order, pick, same-place, no-end, no-none, none-end, one-row, comes-forward, append}
 
 module _ (bytes : List ℕ) where
@@ -29,27 +30,28 @@ module _ (bytes : List ℕ) where
     pub one-fault : {ts : List Tok} {p m n x y : ℕ} → Fault limits l bytes ts p m x → Fault limits l bytes ts p n y → (m ≡ n) × (x ≡ y)
     one-fault {ts} {p} (noToken {q} c) (noToken {q = r} d) = (refl, same-place bytes p (Next.NoToken q) (Next.NoToken r) c d)
     one-fault {ts} {p} (noToken c) (wrongEnd d w) = absurd (none-end bytes p c d)
-    one-fault {ts} {p} (noToken c) (atToken d f) = absurd (no-none bytes p d c)
+    one-fault {ts} {p} (noToken c) (atToken d f w) = absurd (no-none bytes p d c)
     one-fault {ts} {p} (wrongEnd c e) (noToken d) = absurd (none-end bytes p d c)
     one-fault {ts} {p} (wrongEnd {q} c e) (wrongEnd {q = r} d e') = (refl, same-place bytes p (Next.End q) (Next.End r) c d)
-    one-fault {ts} {p} (wrongEnd c e) (atToken d f) = absurd (no-end bytes p d c)
-    one-fault {ts} {p} (atToken c f) (noToken d) = absurd (no-none bytes p c d)
-    one-fault {ts} {p} (atToken c f) (wrongEnd d e) = absurd (no-end bytes p c d)
-    one-fault {ts} {p} {m} (atToken {t = t} c f) (atToken {t = u} d g) =
+    one-fault {ts} {p} (wrongEnd c e) (atToken d f w) = absurd (no-end bytes p d c)
+    one-fault {ts} {p} (atToken c f v) (noToken d) = absurd (no-none bytes p c d)
+    one-fault {ts} {p} (atToken c f v) (wrongEnd d e) = absurd (no-end bytes p c d)
+    one-fault {ts} {p} {m} {n} {x} (atToken {t = t} c f v) (atToken {t = u} d g w) =
         let same : t ≡ u = pick bytes c d in
-        (one-test (tests limits l bytes ts u) (subst (λ (x : Token.Token). First (tests limits l bytes ts x) m) same f) g, ap (λ (x : Token.Token). x .first) same)
+        let number : m ≡ n = one-test (tests limits l bytes ts u) (subst (λ (y : Token.Token). First (tests limits l bytes ts y) m) same f) g in
+        (number, one-placed (subst (λ (k : ℕ). PlaceOf bytes u k x) number (subst (λ (y : Token.Token). PlaceOf bytes y m x) same v)) w)
 
     -- a fault is not before the place from which its token is looked for
     pub fault-later : {ts : List Tok} {x p n q : ℕ} → x ≤ p → x ≤ length bytes → Fault limits l bytes ts p n q → x ≤ q
     fault-later h g (noToken d) = omega (arith, h, forward (d .0 .takes))
     fault-later h g (wrongEnd d w) = omega (arith, g, d .0)
-    fault-later h g (atToken d x) = omega (arith, h, comes-forward bytes d)
+    fault-later h g (atToken d x v) = omega (arith, h, comes-forward bytes d, placed-from v)
 
-    -- where a token comes, a fault is at its first byte
+    -- where a token comes, a fault is at its first byte or behind it
     pub fault-there : {ts : List Tok} {p n q : ℕ} {t : Token.Token} → Comes bytes p (Next.Token t) → Fault limits l bytes ts p n q → t .first ≤ q
     fault-there {p = p} c (noToken d) = absurd (no-none bytes p c d)
     fault-there {p = p} c (wrongEnd d w) = absurd (no-end bytes p c d)
-    fault-there c (atToken d x) = omega (arith, ap (λ (t : Token.Token). t .first) (pick bytes c d))
+    fault-there c (atToken d x v) = omega (arith, ap (λ (t : Token.Token). t .first) (pick bytes c d), placed-from v)
 
     -- ---- the tokens that pass
 
@@ -108,7 +110,7 @@ module _ (bytes : List ℕ) where
     end-fault : {ts : List Tok} {p q n x : ℕ} → Comes bytes p (Next.End q) → (WrongEnd l ts → ⊥) → Fault limits l bytes ts p n x → ⊥
     end-fault {ts} {p} c k (noToken d) = none-end bytes p d c
     end-fault {ts} {p} c k (wrongEnd d w) = k w
-    end-fault {ts} {p} c k (atToken d f) = no-end bytes p d c
+    end-fault {ts} {p} c k (atToken d f v) = no-end bytes p d c
 
     pub all-or-fault : {ts : List Tok} {n x : ℕ} → AllPassed limits l bytes ts → FirstFault limits l bytes n x → ⊥
     all-or-fault {ts} {n} {x} a f = by (order (length ts) (length (f .before)))

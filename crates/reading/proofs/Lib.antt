@@ -1,6 +1,7 @@
 -- The laws of readings.
 pub mod Tests
 pub mod Rows
+pub mod Placed
 pub mod First
 pub mod Unique
 pub mod Numbers

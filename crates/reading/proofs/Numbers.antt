@@ -24,7 +24,7 @@ isFault n = eqb n 4 || (eqb n 7 || (eqb n 6 || (eqb n 15 || (eqb n 5 || (eqb n 1
 pub fault-number : (limits : Limits) (bytes : List ℕ) {l : Level} {ts : List Tok} {p n q : ℕ} (m : ℕ) → isFault m ≡ false → Fault limits l bytes ts p n q → n ≡ m → ⊥
 fault-number limits bytes m e (noToken c) i = clash (subst (λ (k : ℕ). isFault k ≡ true) i refl) e
 fault-number limits bytes m e (wrongEnd c w) i = clash (subst (λ (k : ℕ). isFault k ≡ true) i refl) e
-fault-number limits bytes {l} {ts} m e (atToken {t = t} c x) i =
+fault-number limits bytes {l} {ts} m e (atToken {t = t} c x v) i =
     let T = tests limits l bytes ts t in no-number T m (or-false-right (eqb m 4) (has T m) e) (subst (First T) i x)
 
 -- without a derivation the number is not 0

@@ -6,11 +6,12 @@ use mathlib.Core.Logic.{inl, inr}
 use mathlib.Core.List.{List, [], _∷_, _++_}
 use mathlib.Core.Option.{none, some}
 use Prim.Native.Nat.{ℕ}
+use native.Mathlib.Omega.{arith}
 use Rattle.rules.proofs.Bools.{clash}
 use Rattle.lexicon.specs.declared.Token as Token
 use Rattle.lexicon.specs.declared.Next.the-variants as Next
 use Rattle.lexicon.specs.Front.{Front}
-use Rattle.lexicon.specs.Token.{Comes}
+use Rattle.lexicon.specs.Token.{BadPlace, Comes}
 use Rattle.grammar.specs.Tokens.{Tok, Class, atom, text, names, round, curly, square, mark, later, classKind}
 use Rattle.grammar.specs.Level.{Level}
 use Rattle.grammar.specs.Place.{Wrong, Beyond, newerHead, newerBracket, laterLiteral}
@@ -20,7 +21,8 @@ use Rattle.grammar.proofs.Viable as Viable
 use Rattle.grammar.proofs.Viable.{Final, oneMore, stuckWrong, wrongStuck, Wants, valueWants}
 use Rattle.reading.specs.declared.Limits.{Limits}
 use Rattle.reading.specs.Tokens.{seen}
-use Rattle.reading.specs.Faults.{NewerAt, Retired, TooDeep, tests, Fault, noToken, wrongEnd, atToken, Passed, begun, passed, FirstFault}
+use Rattle.reading.specs.Faults.{NewerAt, Retired, TooDeep, tests, ofValue, Fault, noToken, wrongEnd, atToken, Passed, begun, passed, FirstFault}
+use Rattle.reading.proofs.Placed.{at-first}
 use Rattle.reading.proofs.Decide.{faultless, no-step}
 
 -- the classes that may begin a newer form
@@ -80,23 +82,24 @@ module _ (limits : Limits) (l : Level) (bytes : List ℕ) where
 
   pub wrong-place : {ts : List Tok} {p : ℕ} {c : Config} {t : Token.Token} → Stands ts p c → Comes bytes p (Next.Token t) →
       (NewerAt l bytes ts t → ⊥) → step l c (seen t) ≡ none → FirstFault limits l bytes 6 (t .first)
-  wrong-place {ts} {p} {c} {t} s k v e = stops s (atToken k (inr (v, inl (refl, stuckWrong l ts c (seen t) (s .reached) e))))
+  wrong-place {ts} {p} {c} {t} s k v e = stops s (atToken k (inr (v, inl (refl, stuckWrong l ts c (seen t) (s .reached) e))) (at-first (λ f. omega (arith, f))))
 
   pub wrong-end : {ts : List Tok} {p q : ℕ} {c : Config} → Stands ts p c → Comes bytes p (Next.End q) → (Final c → ⊥) → FirstFault limits l bytes 6 q
   wrong-end {ts} {p} {q} {c} s k h = stops s (wrongEnd k (Viable.wrongEnd l ts c (s .reached) h))
 
   pub newer-form : {ts : List Tok} {p : ℕ} {c : Config} {t : Token.Token} → Stands ts p c → Comes bytes p (Next.Token t) → NewerAt l bytes ts t → FirstFault limits l bytes 7 (t .first)
-  newer-form s k n = stops s (atToken k (inl (refl, n)))
+  newer-form s k n = stops s (atToken k (inl (refl, n)) (at-first (λ f. omega (arith, f))))
 
   pub arrow-retired : {ts : List Tok} {p : ℕ} {c d : Config} {t : Token.Token} → Stands ts p c → Comes bytes p (Next.Token t) →
       (NewerAt l bytes ts t → ⊥) → step l c (seen t) ≡ some d → Retired limits t → FirstFault limits l bytes 15 (t .first)
-  arrow-retired {t = t} s k v e r = stops s (atToken k (inr (v, inr ((λ w. not-wrong s t e w), inl (refl, r)))))
+  arrow-retired {t = t} s k v e r = stops s (atToken k (inr (v, inr ((λ w. not-wrong s t e w), inl (refl, r)))) (at-first (λ f. omega (arith, f))))
 
-  pub bad-value : {ts : List Tok} {p : ℕ} {c d : Config} {t : Token.Token} → Stands ts p c → Comes bytes p (Next.Token t) →
-      (NewerAt l bytes ts t → ⊥) → step l c (seen t) ≡ some d → (Retired limits t → ⊥) → t .bad ≡ true → FirstFault limits l bytes 5 (t .first)
-  bad-value {t = t} s k v e r b = stops s (atToken k (inr (v, inr ((λ w. not-wrong s t e w), inr (r, inl (refl, b))))))
+  pub bad-value : {ts : List Tok} {p q : ℕ} {c d : Config} {t : Token.Token} → Stands ts p c → Comes bytes p (Next.Token t) →
+      (NewerAt l bytes ts t → ⊥) → step l c (seen t) ≡ some d → (Retired limits t → ⊥) → t .bad ≡ true →
+      BadPlace bytes (t .kind) (t .first) (t .end) q → FirstFault limits l bytes 5 q
+  bad-value {t = t} s k v e r b o = stops s (atToken k (inr (v, inr ((λ w. not-wrong s t e w), inr (r, inl (refl, b))))) (ofValue refl o))
 
   pub too-deep : {ts : List Tok} {p : ℕ} {c d : Config} {t : Token.Token} → Stands ts p c → Comes bytes p (Next.Token t) →
       (NewerAt l bytes ts t → ⊥) → step l c (seen t) ≡ some d → (Retired limits t → ⊥) → t .bad ≡ false → TooDeep limits ts t →
       FirstFault limits l bytes 11 (t .first)
-  too-deep {t = t} s k v e r b h = stops s (atToken k (inr (v, inr ((λ w. not-wrong s t e w), inr (r, inr ((λ x. clash x b), inl (refl, h)))))))
+  too-deep {t = t} s k v e r b h = stops s (atToken k (inr (v, inr ((λ w. not-wrong s t e w), inr (r, inr ((λ x. clash x b), inl (refl, h)))))) (at-first (λ f. omega (arith, f))))

@@ -1,7 +1,7 @@
 -- Faulty tokens: 01, 'tokens from left to right; the first faulty token decides. At one token: 4, 6, 7, 5, 11', and 'a
 -- token that begins a newer form is 7 and never 6'; 02, request 6, '`<-` at a place where it was allowed is refused
 -- with a new number 15 at its first byte; elsewhere it stays 6. At one token 15 comes right after 6, and 6 is judged
--- for that arrow by the old rules.' Assumes nothing.
+-- for that arrow by the old rules'; request 8, the place of 5 inside quotes. Assumes nothing.
 use mathlib.Core.Path.{_≡_}
 use mathlib.Core.Bool.{true, false}
 use mathlib.Core.List.{List, [], _∷_, _++_}
@@ -10,7 +10,7 @@ use lib.ListN.{length}
 use Rattle.lexicon.specs.declared.Token as Token
 use Rattle.lexicon.specs.declared.Next.the-variants as Next
 use Rattle.lexicon.specs.Front.{Front}
-use Rattle.lexicon.specs.Token.{Comes}
+use Rattle.lexicon.specs.Token.{BadPlace, Comes}
 use Rattle.grammar.specs.Tokens.{Tok, mark, leftArrow}
 use Rattle.grammar.specs.Level.{Level}
 use Rattle.grammar.specs.Place.{Wrong, WrongEnd, Newer}
@@ -35,6 +35,11 @@ pub record TooDeep (limits : Limits) (ts : List Tok) (t : Token.Token) : Type 0 
   pub deeper : opened ts < opened (ts ++ (seen t ∷ []))
   pub beyond : limits .depth < opened (ts ++ (seen t ∷ []))
 
+-- the place of the refusal n at the token t: of 5 that of the bad value, of any other the token's first byte
+pub data PlaceOf (bytes : List ℕ) (t : Token.Token) (n place : ℕ) : Type 0 where
+  ofValue : n ≡ 5 → BadPlace bytes (t .kind) (t .first) (t .end) place → PlaceOf bytes t n place
+  ofToken : (n ≡ 5 → ⊥) → place ≡ t .first → PlaceOf bytes t n place
+
 module _ (limits : Limits) (l : Level) (bytes : List ℕ) where
   -- the token t behind the tokens ts, in the order in which it is judged: 'At one token: 4, 6, 7, 5, 11', 7 before 6
   -- since 'a token that begins a newer form is 7 and never 6', and '15 comes right after 6'. The level has the arrow,
@@ -52,7 +57,8 @@ module _ (limits : Limits) (l : Level) (bytes : List ℕ) where
   pub data Fault (ts : List Tok) (p : ℕ) : ℕ → ℕ → Type 0 where
     noToken : {q : ℕ} → Comes bytes p (Next.NoToken q) → Fault ts p 4 q
     wrongEnd : {q : ℕ} → Comes bytes p (Next.End q) → WrongEnd l ts → Fault ts p 6 q
-    atToken : {t : Token.Token} {n : ℕ} → Comes bytes p (Next.Token t) → First (tests ts t) n → Fault ts p n (t .first)
+    atToken : {t : Token.Token} {n q : ℕ} → Comes bytes p (Next.Token t) → First (tests ts t) n →
+        PlaceOf bytes t n q → Fault ts p n q
 
   -- the tokens ts stand from the front up to p, and none of them is faulty
   pub data Passed : List Tok → ℕ → Type 0 where
