@@ -11,7 +11,7 @@ use Rattle.rules.specs.Rule.{Rule, many, Takes, stop, more, Among}
 use Rattle.rules.proofs.Bools.{or-cases, or-left, or-right}
 use Rattle.rules.proofs.Matches.{forward, starting}
 use Rattle.rules.proofs.Tests.{says-no}
-use Rattle.rules.proofs.Chains.{Single, move, snoc}
+use Rattle.rules.proofs.Chains.{Single, move, join, snoc}
 
 -- every match takes a byte at least
 pub record Strict (text : List ℕ) (r : Rule) : Type 0 where
@@ -72,3 +72,26 @@ module _ (text : List ℕ) (r : Rule) (P : ℕ → ℕ → Type 0) (single : Sin
   pub said-on : {i j k : ℕ} {b : Bool} → Takes text (many r) i j → Takes text r j k → Says b (Among text r P i j) → (P j k → ⊥) → Says b (Among text r P i k)
   said-on t s u n =
       record { true-holds = λ e. kept (u .true-holds e) s; holds-true = λ a. ⊎-elim (λ x. u .holds-true x) (λ p. absurd (n p)) (which t s a) }
+
+  -- a match with the property stands at or behind the end of a row that has none
+  pub beyond :
+      {i p x y : ℕ} →
+      Takes text (many r) i p → (Among text r P i p → ⊥) →
+      Takes text (many r) i x → Takes text r x y → P x y → Takes text (many r) p x
+  beyond (stop e) n b m h = move (sym e) b
+  beyond (more s c) n (stop d) m h =
+      absurd (n (record { from = _; upto = _; before = stop d; match = m; holds = h; behind = move (single .same (starting (sym d) m) s) c }))
+  beyond (more s c) n (more t d) m h = beyond c (λ a. n (later s a)) (move (single .same s t) d) m h
+
+  -- so a row that has one has a match at that end, too
+  pub at-end :
+      {Q : ℕ → ℕ → Type 0} {i p j : ℕ} →
+      Takes text (many r) i p → (Among text r P i p → ⊥) → ((k : ℕ) → Takes text r p k → Q p k) → Among text r P i j → Among text r Q i j
+  at-end {Q} {i} {p} {j} c n q a = go (beyond c n (a .before) (a .match) (a .holds))
+    where
+      at : {k : ℕ} → Takes text r p k → Takes text (many r) k j → Among text r Q i j
+      at m b = record { from = _; upto = _; before = c; match = m; holds = q _ m; behind = b }
+
+      go : Takes text (many r) p (a .from) → Among text r Q i j
+      go (stop e) = at (starting (sym e) (a .match)) (a .behind)
+      go (more t d) = at t (join d (more (a .match) (a .behind)))

@@ -6,3 +6,4 @@ pub mod Items
 pub mod Characters
 pub mod Escapes
 pub mod Segments
+pub mod FirstBad

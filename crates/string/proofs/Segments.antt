@@ -123,14 +123,14 @@ module _ (text : List ℕ) where
 
   -- ---- a further segment
 
-  further-strict : Strict text further
+  pub further-strict : Strict text further
   further-strict = strict-of further refl
 
   bad-further : {i s j : ℕ} → Skips text i s → BadFurther text i j → BadSegment text s j
   bad-further {j = j} y b =
       subst (λ (x : ℕ). BadSegment text x j) (space-ends text (b .before) (bad-takes text (b .bad)) y) (b .bad)
 
-  further-judged : (i s : ℕ) (r : Literal) → Skips text i s → Judges text segment (BadSegment text) s r → Judges text further (BadFurther text) i r
+  pub further-judged : (i s : ℕ) (r : Literal) → Skips text i s → Judges text segment (BadSegment text) s r → Judges text further (BadFurther text) i r
   further-judged i s (Literal.the-variants.At j bad) p y = (
     record { takes = both (p .takes) (y .0 .takes); most = λ t. y .0 .most (further-rest text p t) },
     record {
@@ -146,7 +146,7 @@ module _ (text : List ℕ) where
   no-quoted f = fails-first f
 
   module _ {i m : ℕ} (first : Takes text segment i m) where
-    first-same : {k : ℕ} → Takes text segment i k → k ≡ m
+    pub first-same : {k : ℕ} → Takes text segment i k → k ≡ m
     first-same t = segment-single text .same t first
 
     quoted-ends : {j : ℕ} → Takes text (many further) m j → Fails text further j → Longest text quoted i j

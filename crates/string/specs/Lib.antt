@@ -1,2 +1,3 @@
 -- What the parts of a Text literal answer.
 pub mod Parts
+pub mod FirstBad

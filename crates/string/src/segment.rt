@@ -5,14 +5,22 @@ use lexicon::Literal;
 use text::byte::stands;
 use text::byte::within;
 use utf8::sequence;
+ghost use mathlib.Core.Path.{_≡_};
 ghost use Prim.Native.Nat.{_+_};
 ghost use Rattle.rules.specs.Test.{Says};
 ghost use Rattle.rules.specs.Rule.{one, many, Takes, Longest};
 ghost use Rattle.lexicon.specs.Found.{Finds, Judges};
 ghost use Rattle.lexicon.specs.Literals as Literals;
-ghost use Rattle.lexicon.specs.Bad.{BadEscape, BadSegment};
+ghost use Rattle.lexicon.specs.Bad.{BadEscape};
+ghost use Rattle.string.specs.FirstBad.{markedAt, soonerOf, RestWalked, SegmentWalked};
 ghost use Rattle.string.specs.Parts as Parts;
-ghost use Rattle.string.specs.Parts.{BadAngled, BadRest};
+ghost use Rattle.string.specs.Parts.{BadAngled};
+
+// Where a part of a quoted text ends, and the backslash of the first bad escape in it, if there is one.
+pub enum Walk {
+    At { end: usize, bad: Found },
+    Nothing,
+}
 
 // Whether a byte of ASCII stands at the place that may stand inside quotes as it is, other than a backslash.
 fn plain_byte(text: &[u8], at: usize) -> bool
@@ -149,37 +157,61 @@ fn plain(text: &[u8], at: usize) -> Found
     }
 }
 
+// The place, if an escape there is bad.
+fn marked(bad: bool, place: usize) -> Found
+    ensures { λ r. ⌜ r ≡ markedAt bad place ⌝ }
+{
+    if bad {
+        Found::At(place)
+    } else {
+        Found::Nothing
+    }
+}
+
+// The bad escape that was met first, or else the one that is met now.
+pub fn sooner(met: Found, now: Found) -> Found
+    ensures { λ r. ⌜ r ≡ soonerOf met now ⌝ }
+{
+    match met {
+        Found::At(place) => Found::At(place),
+        Found::Nothing => now,
+    }
+}
+
 // Characters and escapes up to the closing quote, which begins none of them.
-fn escaped(text: &[u8], at: usize) -> Literal
-    ensures { λ r. ⌜ Judges (now (text .entry)) Parts.escapedRest (BadRest (now (text .entry))) at r ⌝ }
+fn escaped(text: &[u8], at: usize) -> Walk
+    ensures { λ r. ⌜ RestWalked (now (text .entry)) at r ⌝ }
 {
     let mut i = at;
-    let mut bad = false;
+    let mut bad = Found::Nothing;
     loop {
         i = run(text, i);
         if stands(text, i, b'"') {
-            return Literal::At { end: i + 1, bad };
+            return Walk::At { end: i + 1, bad };
         }
         let Literal::At { end, bad: worse } = item(text, i) else {
-            return Literal::Nothing;
+            return Walk::Nothing;
         };
+        bad = sooner(bad, marked(worse, i));
         i = end;
-        bad = bad | worse;
     }
 }
 
 // A segment.
-pub fn segment(text: &[u8], at: usize) -> Literal
-    ensures { λ r. ⌜ Judges (now (text .entry)) Literals.segment (BadSegment (now (text .entry))) at r ⌝ }
+pub fn segment(text: &[u8], at: usize) -> Walk
+    ensures { λ r. ⌜ SegmentWalked (now (text .entry)) at r ⌝ }
 {
     if !stands(text, at, b'"') {
-        return Literal::Nothing;
+        return Walk::Nothing;
     }
     if stands(text, at + 1, b'\\') {
         return escaped(text, at + 2);
     }
     let Found::At(end) = plain(text, at + 1) else {
-        return Literal::Nothing;
+        return Walk::Nothing;
     };
-    Literal::At { end, bad: false }
+    Walk::At {
+        end,
+        bad: Found::Nothing,
+    }
 }

@@ -3,3 +3,4 @@ pub mod Bytes
 pub mod Symbols
 pub mod Starts
 pub mod Dispatch
+pub mod Places

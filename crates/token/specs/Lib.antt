@@ -1,2 +1,3 @@
 -- What the private functions of this crate answer.
 pub mod Answers
+pub mod Places

@@ -1,4 +1,5 @@
 // The token at a place of a text.
+pub mod bad;
 mod literal;
 pub mod next;
 mod symbol;

@@ -5,7 +5,8 @@ use native.Mathlib.Omega.{arith}
 use borrow.Author.Tests.{not-true, not-false}
 use Rattle.lexicon.proofs.Answers.{found-at, found-none}
 use Rattle.rules.proofs.Tests.{there, not-there}
-use Rattle.string.proofs.Segments.{no-segment, segment-escaped, segment-plain, segment-open}
+use Rattle.string.proofs.Segments.{no-segment, segment-open}
+use Rattle.string.proofs.FirstBad.{escaped-walked, plain-walked}
 use Rattle.string.proofs.segment.segment.Statement.{statement}
 use Rattle.string.proofs.segment.segment.Tie as tie
 
@@ -28,7 +29,7 @@ escaped-requires : tie.Need-escaped-requires
 escaped-requires c κs = search needs
 
 returns-2 : tie.Need-returns-2
-returns-2 c = let a = c .before .before .before .before .before .before .args in segment-escaped (a .text .now) (a .at) (c .escaped .result) (there (c .before .before .before .before .stands .ensures) (not-false _ (c .before .before .before .if1 .left))) (there (c .before .before .stands2 .ensures) (c .before .if2 .taken)) (c .escaped .ensures)
+returns-2 c = let a = c .before .before .before .before .before .before .args in escaped-walked (a .text .now) (a .at) (c .escaped .result) (there (c .before .before .before .before .stands .ensures) (not-false _ (c .before .before .before .if1 .left))) (there (c .before .before .stands2 .ensures) (c .before .if2 .taken)) (c .escaped .ensures)
 
 add-plain : tie.Need-add-plain
 add-plain c = omega (arith, (there (c .before .before .before .stands .ensures) (not-false _ (c .before .before .if1 .left))) .0)
@@ -46,7 +47,7 @@ returns-3 : tie.Need-returns-3
 returns-3 c = let a = c .before .before .before .before .before .before .before .before .args in segment-open (a .text .now) (a .at) (not-there (c .before .before .before .before .stands2 .ensures) (c .before .before .before .if2 .left)) (found-none (c .enum-told .given .1) (c .before .before .plain .ensures))
 
 returns-4 : tie.Need-returns-4
-returns-4 c = let a = c .before .before .before .before .before .before .before .before .before .args in segment-plain (a .text .now) (a .at) (c .before .end .given .0 .0) (there (c .before .before .before .before .before .before .before .stands .ensures) (not-false _ (c .before .before .before .before .before .before .if1 .left))) (not-there (c .before .before .before .before .before .stands2 .ensures) (c .before .before .before .before .if2 .left)) (found-at (c .before .end .given .1) (c .before .before .before .plain .ensures))
+returns-4 c = let a = c .before .before .before .before .before .before .before .before .before .args in plain-walked (a .text .now) (a .at) (c .before .end .given .0 .0) (there (c .before .before .before .before .before .before .before .stands .ensures) (not-false _ (c .before .before .before .before .before .before .if1 .left))) (not-there (c .before .before .before .before .before .stands2 .ensures) (c .before .before .before .before .if2 .left)) (found-at (c .before .end .given .1) (c .before .before .before .plain .ensures))
 
 pub segment-spec : {M : Type 1} → statement M
 segment-spec =
