@@ -15,6 +15,8 @@ use Rattle.lexicon.specs.declared.Next.the-variants as Next
 use Rattle.lexicon.specs.Token.{Comes}
 use Rattle.lexicon.proofs.Determined.{one-answer}
 use Rattle.lexicon.proofs.Pieces.{token-bounds}
+use Rattle.token.specs.Places.{PointsIn}
+use Rattle.token.proofs.Places.{bad-placed}
 use Rattle.look.specs.declared.answer.Got.{Got}
 use Rattle.look.specs.declared.answer.Got.the-variants as Got
 use Rattle.look.specs.declared.names.Further.{Further}
@@ -49,9 +51,11 @@ module _ (text : List ℕ) where
       NameNext text at (Named.Refused 6 (t .first))
   name-other at r {t} g e h = inr (inr (inl (refl, record { token = t; comes = got-token at r g e; no-text = h; place-is = refl })))
 
-  pub name-bad : (at : ℕ) (r : Got) {t : Token.Token} {f : Form} → Gets text at r → r ≡ Got.Token t → t .kind ≡ Kind.Text f → t .bad ≡ true →
-      NameNext text at (Named.Refused 5 (t .first))
-  name-bad at r {t} {f} g e k b = inr (inr (inr (refl, record { word = t; comes = got-token at r g e; form = f; word-is = k; bad = b; place-is = refl })))
+  pub name-bad : (at : ℕ) (r : Got) {t : Token.Token} {f : Form} {q : ℕ} → Gets text at r → r ≡ Got.Token t → t .kind ≡ Kind.Text f → t .bad ≡ true →
+      PointsIn text t q → NameNext text at (Named.Refused 5 q)
+  name-bad at r {t} {f} g e k b p =
+      let c = got-token at r g e in
+      inr (inr (inr (refl, record { word = t; comes = c; form = f; word-is = k; bad = b; placed = bad-placed text c b p })))
 
   pub name-good : (at : ℕ) (r : Got) {t : Token.Token} {f : Form} → Gets text at r → r ≡ Got.Token t → t .kind ≡ Kind.Text f → t .bad ≡ false →
       NameHere text at (t .end)

@@ -8,7 +8,7 @@ use Rattle.lexicon.specs.declared.Form.{Form}
 use Rattle.lexicon.specs.declared.Kind.the-variants as Kind
 use Rattle.lexicon.specs.declared.Token as Token
 use Rattle.lexicon.specs.declared.Next.the-variants as Next
-use Rattle.lexicon.specs.Token.{Comes}
+use Rattle.lexicon.specs.Token.{BadPlace, Comes}
 use Rattle.look.specs.declared.answer.Read.{Read}
 use Rattle.look.specs.declared.answer.Read.the-variants as Read
 use Rattle.look.specs.declared.answer.Got.{Got}
@@ -53,7 +53,7 @@ module _ (text : List ℕ) where
     pub form : Form
     pub word-is : word .kind ≡ Kind.Text form
     pub bad : word .bad ≡ true
-    pub place-is : place ≡ word .first
+    pub placed : BadPlace text (word .kind) (word .first) (word .end) place
 
   abbrev pub NameNext : ℕ → Named → Type 0
   NameNext at (Named.At end) = NameHere at end

@@ -4,6 +4,7 @@ use crate::answer::Read;
 use crate::answer::get;
 use lexicon::Kind;
 use lexicon::Next;
+use token::bad::bad_place;
 use token::next::next;
 ghost use mathlib.Core.Path.{_≡_};
 ghost use Rattle.look.specs.Names.{ColonsNext, NameNext, unnamedBy, namelessBy};
@@ -51,7 +52,7 @@ pub fn name(text: &[u8], at: usize) -> Named
     if t.bad {
         return Named::Refused {
             number: 5,
-            place: t.first,
+            place: bad_place(text, t),
         };
     }
     Named::At(t.end)

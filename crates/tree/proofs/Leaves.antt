@@ -28,6 +28,8 @@ use Rattle.moves.specs.Means.{levelOf, shapeOf}
 use Rattle.table.specs.declared.Entry.{Entry}
 use Rattle.table.specs.Over.{entryWords, Stored, Written}
 use Rattle.table.proofs.Written.{told-put, written-node}
+use Rattle.token.specs.Places.{PointsIn}
+use Rattle.token.proofs.Places.{bad-placed}
 use Rattle.look.specs.declared.answer.Read.the-variants as Read
 use Rattle.begin.specs.Signs.{literal}
 use Rattle.tree.specs.declared.leaf.Telling.{Telling}
@@ -128,14 +130,14 @@ literal-value l k s K Tokens.square e h = absurd (false≢true h)
 literal-value l k s K (Tokens.mark m) e h = absurd (false≢true h)
 literal-value l k s K Tokens.later e h = absurd (false≢true h)
 
-module _ (t : Token.Token) (lent left : List ℕ) (index parent : ℕ) where
-  pub literal-bad : t .bad ≡ true → Literal t lent left index parent (Read.Refused 5 (t .first))
-  literal-bad b =
+module _ (text : List ℕ) (t : Token.Token) (lent left : List ℕ) (index parent : ℕ) where
+  pub literal-bad : {q : ℕ} → t .bad ≡ true → PointsIn text t q → Literal text t lent left index parent (Read.Refused 5 q)
+  literal-bad b p =
       record {
         sized = tt;
-        outcome = λ text limits forms K d at a h.
+        outcome = λ limits forms K d at a h.
             let v = literal-value (levelOf forms) (t .kind) (spanOf t) K (classKind (t .kind)) refl h in
-            bad-here limits (levelOf forms) text (a .stands) t (a .comes) (v .is-plain) b (v .steps);
+            bad-here limits (levelOf forms) text (a .stands) t (a .comes) (v .is-plain) b (bad-placed text (a .comes) b p) (v .steps);
       }
 
   -- the node of a token that is a value by itself
@@ -143,11 +145,11 @@ module _ (t : Token.Token) (lent left : List ℕ) (index parent : ℕ) where
   alone r = record { kind = r .kind; first = t .first; end = t .end; parent = parent; role = Role.Root; detail = r .detail; skip = index + 1 }
 
   pub literal-read : (r : Telling) → t .bad ≡ false → LeafTold (t .kind) r → Stored lent left index (entryWords (alone r)) →
-      Literal t lent left index parent (Read.Value (t .end) 1 (r .shape))
+      Literal text t lent left index parent (Read.Value (t .end) 1 (r .shape))
   literal-read r b says stored =
       record {
         sized = (refl, refl);
-        outcome = λ text limits forms K d at a h.
+        outcome = λ limits forms K d at a h.
             let v = literal-value (levelOf forms) (t .kind) (spanOf t) K (classKind (t .kind)) refl h in
             let node : Nodes.Node = record { kind = v .kind; at = spanOf t; parent = parent; role = Nodes.root; detail = leafDetail (t .kind); stretch = 1 } in
             record {

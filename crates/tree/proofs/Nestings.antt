@@ -210,9 +210,8 @@ module _ (text : List ℕ) where
           bad : (limits : Limits) (forms : Forms) (K : Stack) (d : ℕ) → Wants limits forms K d at → BadHere text at place → Faulty text limits forms 5 place
           bad limits forms K d w o =
               let u = o .word in
-              subst (λ (x : ℕ). Faulty text limits forms 5 x) (sym (o .place-is))
-              (bad-here limits (levelOf forms) text (w .stands) u (o .comes) (ap (λ (k : Kind). plain (classKind k)) (o .word-is)) (o .bad)
-              (ap (λ (k : Kind). textClass (classKind k) (w .names) (w .sign) (spanOf u) K) (o .word-is)))
+              bad-here limits (levelOf forms) text (w .stands) u (o .comes) (ap (λ (k : Kind). plain (classKind k)) (o .word-is)) (o .bad) (o .placed)
+              (ap (λ (k : Kind). textClass (classKind k) (w .names) (w .sign) (spanOf u) K) (o .word-is))
 
           refused : (limits : Limits) (forms : Forms) (K : Stack) (d : ℕ) → Wants limits forms K d at → Faulty text limits forms number place
           refused limits forms K d w =

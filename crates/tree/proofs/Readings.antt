@@ -63,7 +63,7 @@ use Rattle.look.proofs.Looking.{got-token}
 use Rattle.begin.specs.Signs.{noMark, isClose}
 use Rattle.begin.specs.Begins.{Begins as Starts}
 use Rattle.begin.proofs.Signs.{close-class}
-use Rattle.tree.specs.Readers.{spanOf, opened, Fit, Sized, Inner, Turned, Born, Stands, Faulty, Asks, IsValue, Outcome, Reads, Holds, Turns, Bore, Member, Bracketed, Rounded, entering, signs, Ends, Alone, Slim, Literal, Nesting, Taken}
+use Rattle.tree.specs.Readers.{spanOf, opened, Fit, Sized, Inner, Turned, Born, Stands, Faulty, Asks, IsValue, Outcome, Reads, Holds, Turns, Bore, Member, Bracketed, Rounded, entering, signs, Ends, Alone, Literal, Nesting, Taken}
 use Rattle.tree.specs.Turning.{Narrow, Outer}
 use Rattle.tree.proofs.Beginning.{From, Entered, Begun, begins-so}
 use Rattle.tree.proofs.Turns.{isBare}
@@ -183,8 +183,8 @@ module _ (text : List ℕ) (limits : Limits) (forms : Forms) where
       alone-sized (Read.Value end n shape) (y, z) = (omega (arith, y, z, f .some-byte), omega (arith, z), omega (arith, z, f .inside-text))
       alone-sized (Read.Refused n q) y = tt
 
-      pub value-leaf : (r : Read) → b ≡ Begin.Literal → Literal t lent left index parent r → Reads text limits forms d t lent left index parent r
-      value-leaf r e l = record { sized = alone-sized r (l .sized); outcome = λ K at a. l .outcome text limits forms K d at a (begun-as Begin.Literal e K at a) }
+      pub value-leaf : (r : Read) → b ≡ Begin.Literal → Literal text t lent left index parent r → Reads text limits forms d t lent left index parent r
+      value-leaf r e l = record { sized = alone-sized r (l .sized); outcome = λ K at a. l .outcome limits forms K d at a (begun-as Begin.Literal e K at a) }
 
       pub value-names : (r : Read) → b ≡ Begin.Names → Nesting text t lent left index parent r → Reads text limits forms d t lent left index parent r
       value-names r e l = record { sized = l .sized; outcome = λ K at a. l .outcome limits forms K d at a (begun-as Begin.Names e K at a) }
@@ -486,9 +486,6 @@ inner-fit {text} f h k =
       },
       omega (arith, h, f .some-byte, y .0),
     )
-
-pub fit-slim : {text : List ℕ} {t : Token.Token} {index parent : ℕ} → Fit text t index parent → Slim t index parent
-fit-slim f = record { some-byte = f .some-byte; short = omega (arith, f .inside-text, f .short); index-fits = f .index-fits; parent-fits = f .parent-fits }
 
 pub enters-at : {mode : Mode} {at index : ℕ} (d : ℕ) (s : State.State) → s ≡ entering mode at d index → s .at ≡ at
 enters-at d s e = ap (λ (x : State.State). x .at) e

@@ -212,17 +212,10 @@ abbrev pub Alone : Token.Token → Read → Type 0
 Alone t (Read.Value end n shape) = (n ≡ 1) × (end ≡ t .end)
 Alone t (Read.Refused n q) = Unit {0}
 
-pub record Slim (t : Token.Token) (index parent : ℕ) : Type 0 where
-  pub some-byte : t .first < t .end
-  pub short : t .end ≤ widest
-  pub index-fits : index ≤ t .first
-  pub parent-fits : parent ≤ index
-
-pub record Literal (t : Token.Token) (lent left : List ℕ) (index parent : ℕ) (r : Read) : Type 0 where
+pub record Literal (text : List ℕ) (t : Token.Token) (lent left : List ℕ) (index parent : ℕ) (r : Read) : Type 0 where
   pub sized : Alone t r
-  pub outcome : (text : List ℕ) (limits : Limits) (forms : Forms) (K : Stack) (d at : ℕ) →
-      Asks text limits forms K d at t → literal (classKind (t .kind)) ≡ true →
-      Outcome text limits forms K t lent left index parent r
+  pub outcome : (limits : Limits) (forms : Forms) (K : Stack) (d at : ℕ) → Asks text limits forms K d at t →
+      literal (classKind (t .kind)) ≡ true → Outcome text limits forms K t lent left index parent r
 
 pub record Nesting (text : List ℕ) (t : Token.Token) (lent left : List ℕ) (index parent : ℕ) (r : Read) : Type 0 where
   pub sized : Sized text t r

@@ -14,10 +14,11 @@ use moves::Role;
 use moves::Shape;
 use table::Entry;
 use table::put;
+use token::bad::bad_place;
 ghost use Rattle.grammar.specs.Tokens.{wording};
 ghost use Rattle.grammar.specs.Nodes.{truthDetail};
 ghost use Rattle.moves.specs.declared.Shape.the-variants as Shape;
-ghost use Rattle.tree.specs.Readers.{Fit, Slim, Literal, Nesting};
+ghost use Rattle.tree.specs.Readers.{Fit, Literal, Nesting};
 ghost use Rattle.tree.specs.Tellings.{wordingDetail, wordingShape, ToldAs, LeafTold};
 
 // What a literal's node tells, and what the literal is to a colon.
@@ -89,14 +90,14 @@ pub(crate) fn told(kind: Kind) -> Telling
 }
 
 // A literal by itself, if its value is not bad.
-pub(crate) fn leaf(t: Token, table: &mut [u32], index: usize, parent: usize) -> Read
-    requires { ⌜ Slim t index parent ⌝ }
-    ensures { λ r. ⌜ Literal t (now (table .entry)) (now (table .exit)) index parent r ⌝ }
+pub(crate) fn leaf(text: &[u8], t: Token, table: &mut [u32], index: usize, parent: usize) -> Read
+    requires { ⌜ Fit (now text) t index parent ⌝ }
+    ensures { λ r. ⌜ Literal (now (text .entry)) t (now (table .entry)) (now (table .exit)) index parent r ⌝ }
 {
     if t.bad {
         return Read::Refused {
             number: 5,
-            place: t.first,
+            place: bad_place(text, t),
         };
     }
     let literal = t.kind;

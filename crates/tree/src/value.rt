@@ -53,7 +53,7 @@ pub(crate) fn value(
 {
     let begun = begins(text, limits, forms, t, depth);
     match begun {
-        Begin::Literal => leaf(t, table, index, parent),
+        Begin::Literal => leaf(text, t, table, index, parent),
         Begin::Names => names(text, t, table, index, parent),
         Begin::Round(first) => round(text, limits, forms, t, first, depth, table, index, parent),
         Begin::Bracket { mode, at } => {

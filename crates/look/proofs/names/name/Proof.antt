@@ -32,11 +32,16 @@ returns-2 c =
     let a = b .before .before .args in
     name-other (a .text .now) (a .at) _ (b .get .ensures) (c .before .before .got .given .1) (no-text _ (c .match2 .keys2))
 
+bad-place-requires : tie.Need-bad-place-requires
+bad-place-requires c κs = search needs
+
 returns-3 : tie.Need-returns-3
 returns-3 c =
-    let b = c .before .before .before .before .before .before in
+    let d = c .before in
+    let b = d .before .before .before .before .before .before in
     let a = b .before .before .args in
-    name-bad (a .text .now) (a .at) _ (b .get .ensures) (c .before .before .before .before .got .given .1) (c .before .enum-told2 .given .1) (c .if1 .taken)
+    name-bad (a .text .now) (a .at) _ (b .get .ensures) (d .before .before .before .before .got .given .1) (d .before .enum-told2 .given .1) (d .if1 .taken)
+    (c .bad-place .ensures)
 
 returns-4 : tie.Need-returns-4
 returns-4 c =
@@ -55,5 +60,6 @@ name-spec =
     returns
     enum-told-2
     returns-2
+    bad-place-requires
     returns-3
     returns-4)

@@ -7,7 +7,7 @@ use native.Mathlib.Omega.{arith}
 use borrow.Author.Needs.{needs}
 use Rattle.lexicon.proofs.Pieces.{token-bounds}
 use Rattle.look.proofs.Looking.{got-token}
-use Rattle.tree.proofs.Readings.{leftAt, rank-falls, byte-falls, inner-fit, fit-slim, enters-at, start-inner, first-inner, begin-from, begin-got, turn-narrow, turn-outer, child-fit, signs-told, value-sized, value-leaf, value-names, value-round, value-bracket, value-refused, round-missing, round-bracket, first-refused, first-open, first-group, first-bracket, child-refused, child-on, member-missing, member-taken, member-child, Going, going-starts, going-less, going-on, going-ends}
+use Rattle.tree.proofs.Readings.{leftAt, rank-falls, byte-falls, inner-fit, enters-at, start-inner, first-inner, begin-from, begin-got, turn-narrow, turn-outer, child-fit, signs-told, value-sized, value-leaf, value-names, value-round, value-bracket, value-refused, round-missing, round-bracket, first-refused, first-open, first-group, first-bracket, child-refused, child-on, member-missing, member-taken, member-child, Going, going-starts, going-less, going-on, going-ends}
 use borrow.Fn.Kinds.{In}
 use borrow.Fn.PlainCycle.{Measures, is, falls, and}
 use Rattle.tree.proofs.value.bracket.Reads as bracket
@@ -370,7 +370,7 @@ value-enum-told : (t : ℕ) → value-lts.Need-enum-told (value-calls t) (value-
 value-enum-told t c = search needs
 
 value-leaf-requires : (t : ℕ) → value-lts.Need-leaf-requires (value-calls t) (value-at t) value.Post
-value-leaf-requires t c κs = fit-slim (c .before .before .before .before .before .before .pre .1 .0)
+value-leaf-requires t c κs = c .before .before .before .before .before .before .pre .1 .0
 
 value-enum-told-2 : (t : ℕ) → value-lts.Need-enum-told-2 (value-calls t) (value-at t) value.Post
 value-enum-told-2 t c = search needs
