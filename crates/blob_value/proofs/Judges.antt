@@ -108,11 +108,11 @@ module _ (piece : List ℕ) where
     blob-within = blob-long exact
 
     pub blob-bad : b ≡ true → Judged Kind.Blob piece Verdict.Bad
-    blob-bad t = bad exact (subst (λ (x : ℕ). NoBytes piece 0 x) h (y .1 .true-holds t))
+    blob-bad t = bad exact (refl, subst (λ (x : ℕ). NoBytes piece 0 x) h (y .1 .true-holds t))
 
     module _ (f : b ≡ false) where
       bytes : Good blobCall piece
-      bytes = ⊎-elim (λ n. absurd (refuted (y .1) f (subst (λ (x : ℕ). NoBytes piece 0 x) (sym h) n))) (λ g. g) (blob-settled .bad-or-good piece exact)
+      bytes = ⊎-elim (λ n. absurd (refuted (y .1) f (subst (λ (x : ℕ). NoBytes piece 0 x) (sym h) (n .1 .1)))) (λ g. g) (blob-settled .bad-or-good piece exact)
 
       pub binary-good : getD piece 2 0 ≡ byteOf "b" → Judged Kind.Blob piece (Verdict.Good BlobBinary)
       binary-good x = good refl (record { exact = exact; good = bytes .not-bad; digits = blob-binary exact x; bytes = bytes .bytes; are = bytes .are })
@@ -133,17 +133,17 @@ module _ (piece : List ℕ) where
     pub binary-bits : getD piece 2 0 ≡ byteOf "b" → Judged Kind.Bits piece (Verdict.Good BitsBinary)
     binary-bits x =
         let b = has-bits piece exact-bits in
-        good refl (record { exact = exact-bits; good = λ n. n; digits = bits-binary exact-bits x; bytes = b .0; are = b .1 })
+        good refl (record { exact = exact-bits; good = λ p n. n; digits = bits-binary exact-bits x; bytes = b .0; are = b .1 })
 
     pub octal-bits : getD piece 2 0 ≡ byteOf "o" → Judged Kind.Bits piece (Verdict.Good BitsOctal)
     octal-bits x =
         let b = has-bits piece exact-bits in
-        good refl (record { exact = exact-bits; good = λ n. n; digits = bits-octal exact-bits x; bytes = b .0; are = b .1 })
+        good refl (record { exact = exact-bits; good = λ p n. n; digits = bits-octal exact-bits x; bytes = b .0; are = b .1 })
 
     pub hexadecimal-bits : (getD piece 2 0 ≡ byteOf "b" → ⊥) → (getD piece 2 0 ≡ byteOf "o" → ⊥) → Judged Kind.Bits piece (Verdict.Good BitsHexadecimal)
     hexadecimal-bits x z =
         let b = has-bits piece exact-bits in
-        good refl (record { exact = exact-bits; good = λ n. n; digits = bits-hexadecimal exact-bits x z; bytes = b .0; are = b .1 })
+        good refl (record { exact = exact-bits; good = λ p n. n; digits = bits-hexadecimal exact-bits x z; bytes = b .0; are = b .1 })
 
   pub judged-as : {kind : Kind} {v w : Verdict} → v ≡ w → Judged kind piece v → Judged kind piece w
   judged-as {kind} e x = subst (λ (y : Verdict). Judged kind piece y) e x

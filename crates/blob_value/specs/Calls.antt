@@ -26,7 +26,7 @@ callOf Kind.Bits = bitsCall
 -- the piece is exactly one literal of the mark, and has bytes
 pub record Sound (piece : List ℕ) (mark : Mark) : Type 0 where
   pub exact : Exactly (callOf (kindOf mark) .literal) piece
-  pub good : BadPiece (callOf (kindOf mark)) piece → ⊥
+  pub good : (p : ℕ) → BadPiece (callOf (kindOf mark)) piece p → ⊥
   pub digits : Has (Whole piece mark)
   pub bytes : List ℕ
   pub are : PieceBytes (callOf (kindOf mark)) piece bytes
@@ -39,5 +39,5 @@ pub record Padded (piece : List ℕ) (mark : Mark) (n : ℕ) : Type 0 where
 
 pub data Judged (kind : Kind) (piece : List ℕ) : Verdict → Type 0 where
   other : (Exactly (callOf kind .literal) piece → ⊥) → Judged kind piece Verdict.Other
-  bad : Exactly (callOf kind .literal) piece → BadPiece (callOf kind) piece → Judged kind piece Verdict.Bad
+  bad : Exactly (callOf kind .literal) piece → BadPiece (callOf kind) piece 0 → Judged kind piece Verdict.Bad
   good : {mark : Mark} → kindOf mark ≡ kind → Sound piece mark → Judged kind piece (Verdict.Good mark)

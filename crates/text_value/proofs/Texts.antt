@@ -85,7 +85,7 @@ module _ (piece : List ℕ) where
   shaped-exact Shape.the-variants.Word x = right (left x)
   shaped-exact Shape.the-variants.CodePoint x = right (right (x .0))
 
-  pub shaped-good : (s : Shape) → Shaped piece s → BadText piece 0 (length piece) → ⊥
+  pub shaped-good : (s : Shape) → Shaped piece s → (p : ℕ) → BadText piece 0 (length piece) p → ⊥
   shaped-good Shape.the-variants.Quoted x = quoted-good piece (x .0) (x .1)
   shaped-good Shape.the-variants.Word x = word-good piece x
   shaped-good Shape.the-variants.CodePoint x = code-good piece (x .0) (x .1)
@@ -129,7 +129,7 @@ module _ (piece : List ℕ) where
   text-bytes : {t t' : List ℕ} {n : ℕ} (w : WroteText piece t t' n) → TextBytes piece 0 (length piece) (encoded (w .characters))
   text-bytes w = record { characters = w .characters; are = w .is; bytes-are = refl }
 
-  module _ (good : BadText piece 0 (length piece) → ⊥) where
+  module _ (good : (p : ℕ) → BadText piece 0 (length piece) p → ⊥) where
     module _ (rules : Rules) (h : length piece ≤ rules .text) (fit : length piece ≤ largest) (formed : WellFormed piece) (exact : Exactly textLiteral piece) (lent : List ℕ) where
       -- the bytes are counted exactly, for they are no more than the piece has
       counted : {t t' : List ℕ} {n : ℕ} (w : WroteText piece t t' n) → n ≡ length (encoded (w .characters))

@@ -24,7 +24,7 @@ module _ (piece : List ℕ) where
 
   abbrev pub Judged : Verdict → Type 0
   Judged Verdict.the-variants.Other = Exactly textLiteral piece → ⊥
-  Judged Verdict.the-variants.Bad = Exactly textLiteral piece × BadText piece 0 (length piece)
+  Judged (Verdict.the-variants.Bad place) = Exactly textLiteral piece × BadText piece 0 (length piece) place
   Judged (Verdict.the-variants.Good shape) = Shaped shape
 
   -- its characters are written from the start of t

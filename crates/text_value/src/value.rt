@@ -9,6 +9,7 @@ use lexicon::Found;
 use lexicon::Literal;
 use reading::Answer;
 use reading::TEXT;
+use string::quoted::first_bad;
 use utf8::utf8;
 ghost use mathlib.Core.Path.{_≡_};
 ghost use Prim.Native.Nat.{_≤_};
@@ -28,10 +29,10 @@ enum Shape {
     CodePoint,
 }
 
-// What a piece is: no Text, a bad one, or one of a shape.
+// What a piece is: no Text, one that is bad at a place, or one of a shape.
 enum Verdict {
     Other,
-    Bad,
+    Bad(usize),
     Good(Shape),
 }
 
@@ -59,7 +60,7 @@ fn coded(piece: &[u8]) -> Verdict
         return Verdict::Other;
     }
     if bad {
-        return Verdict::Bad;
+        return Verdict::Bad(0);
     }
     Verdict::Good(Shape::CodePoint)
 }
@@ -78,7 +79,7 @@ fn unquoted(piece: &[u8]) -> Verdict
     Verdict::Good(Shape::Word)
 }
 
-// Whether the piece is exactly one Text literal, of which shape, and whether its value is bad.
+// Whether the piece is exactly one Text literal, of which shape, and whether its value is bad, and where.
 fn judge(piece: &[u8]) -> Verdict
     ensures { λ r. ⌜ Judged (now (piece .entry)) r ⌝ }
 {
@@ -89,7 +90,7 @@ fn judge(piece: &[u8]) -> Verdict
         return Verdict::Other;
     }
     if bad {
-        return Verdict::Bad;
+        return Verdict::Bad(first_bad(piece, 0));
     }
     Verdict::Good(Shape::Quoted)
 }
@@ -141,7 +142,7 @@ pub fn text(piece: &[u8], buffer: &mut [u8]) -> Answer
             let verdict = judge(piece);
             match verdict {
                 Verdict::Other => refused(9, 0),
-                Verdict::Bad => refused(5, 0),
+                Verdict::Bad(place) => refused(5, place),
                 Verdict::Good(shape) => fitting(piece, shape, buffer),
             }
         }

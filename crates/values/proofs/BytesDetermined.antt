@@ -16,15 +16,17 @@ use Rattle.values.specs.Bytes.{Call, BadPiece, PieceBytes, BytesAnswers,
 
 -- the bytes of a value that is not bad
 pub record Good (call : Call) (piece : List ℕ) : Type 0 where
-  pub not-bad : BadPiece call piece → ⊥
+  pub not-bad : (p : ℕ) → BadPiece call piece p → ⊥
   pub bytes : List ℕ
   pub are : PieceBytes call piece bytes
 
 -- what a call must have of its literals, so that it has exactly one answer
 pub record Settled (call : Call) : Type 0 where
-  pub determined : (piece : List ℕ) → (BadPiece call piece → ⊥) → {bs cs : List ℕ} →
+  pub one-place : (piece : List ℕ) {p q : ℕ} → BadPiece call piece p → BadPiece call piece q → p ≡ q
+  pub determined : (piece : List ℕ) → ((p : ℕ) → BadPiece call piece p → ⊥) → {bs cs : List ℕ} →
       PieceBytes call piece bs → PieceBytes call piece cs → bs ≡ cs
-  pub bad-or-good : (piece : List ℕ) → Exactly (call .literal) piece → BadPiece call piece ⊎ Good call piece
+  pub bad-or-good : (piece : List ℕ) → Exactly (call .literal) piece →
+      ((p : ℕ) × BadPiece call piece p) ⊎ Good call piece
 
 module _ (call : Call) (rules : Rules) (piece lent : List ℕ) where
   abbrev Gives : Answer → List ℕ → Type 0
@@ -34,7 +36,7 @@ module _ (call : Call) (rules : Rules) (piece lent : List ℕ) where
 
   -- the first bytes of the buffer t, as many as are counted, are those of a value that is not bad; the others are as lent
   pub record Handed (count : ℕ) (t : List ℕ) : Type 0 where
-    pub good : BadPiece call piece → ⊥
+    pub good : (p : ℕ) → BadPiece call piece p → ⊥
     pub bytes : PieceBytes call piece (take count t)
     pub kept : drop count t ≡ drop count lent
 
@@ -84,20 +86,20 @@ module _ (call : Call) (rules : Rules) (piece lent : List ℕ) where
     one-answer (bad h w x b) (tooLong g) = absurd (omega arith)
     one-answer (bad h w x b) (notUtf8 g c) = absurd (formed-or-bad piece w c)
     one-answer (bad h w x b) (notTheLiteral g v n) = absurd (n x)
-    one-answer (bad h w x b) (bad g v y c) = (refl, refl)
-    one-answer (bad h w x b) (noRoom g v y n t l) = absurd (n b)
-    one-answer (bad h w x b) (accepted g v y n t l) = absurd (n b)
+    one-answer (bad h w x b) (bad g v y c) = (ap (λ (p : ℕ). answer 5 p 0) (settled .one-place piece b c), refl)
+    one-answer (bad h w x b) (noRoom g v y n t l) = absurd (n _ b)
+    one-answer (bad h w x b) (accepted g v y n t l) = absurd (n _ b)
     one-answer (noRoom h w x m t l) (tooLong g) = absurd (omega arith)
     one-answer (noRoom h w x m t l) (notUtf8 g b) = absurd (formed-or-bad piece w b)
     one-answer (noRoom h w x m t l) (notTheLiteral g v n) = absurd (n x)
-    one-answer (noRoom h w x m t l) (bad g v y b) = absurd (m b)
+    one-answer (noRoom h w x m t l) (bad g v y b) = absurd (m _ b)
     one-answer (noRoom h w x m t l) (noRoom g v y n s k) =
         (ap (λ (b : List ℕ). answer 8 (length piece) (length b)) (settled .determined piece m t s), refl)
     one-answer (noRoom h w x m t l) (accepted g v y n s k) = absurd (omega (arith, l, k, ap length (settled .determined piece m t s)))
     one-answer (accepted h w x m t l) (tooLong g) = absurd (omega arith)
     one-answer (accepted h w x m t l) (notUtf8 g b) = absurd (formed-or-bad piece w b)
     one-answer (accepted h w x m t l) (notTheLiteral g v n) = absurd (n x)
-    one-answer (accepted h w x m t l) (bad g v y b) = absurd (m b)
+    one-answer (accepted h w x m t l) (bad g v y b) = absurd (m _ b)
     one-answer (accepted h w x m t l) (noRoom g v y n s k) = absurd (omega (arith, l, k, ap length (settled .determined piece m t s)))
     one-answer (accepted h w x m t l) (accepted g v y n s k) =
         let e = settled .determined piece m t s in

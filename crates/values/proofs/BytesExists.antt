@@ -33,8 +33,9 @@ module _ (call : Call) (values : Settled call) (rules : Rules) (piece lent : Lis
       room h w x g (inl l) = (_, _, accepted h w x (g .not-bad) (g .are) l)
       room h w x g (inr l) = (_, _, noRoom h w x (g .not-bad) (g .are) (omega (arith, l)))
 
-      valued : length piece ≤ rules .text → WellFormed piece → Asked → BadPiece call piece ⊎ Good call piece → Answered
-      valued h w x (inl b) = (_, _, bad h w x b)
+      valued : length piece ≤ rules .text → WellFormed piece → Asked →
+          ((p : ℕ) × BadPiece call piece p) ⊎ Good call piece → Answered
+      valued h w x (inl b) = (_, _, bad h w x (b .1))
       valued h w x (inr g) = room h w x g (settled (at-most (length (g .bytes)) (length lent)))
 
       found : length piece ≤ rules .text → WellFormed piece → Asked ⊎ (Asked → ⊥) → Answered

@@ -12,7 +12,7 @@ use Rattle.values.specs.Bytes.{Call, BadPiece, PieceBytes, BytesAnswers,
 
 -- a value has at most k bytes for each byte of its literal
 pub record Bounded (call : Call) (k : ℕ) : Type 0 where
-  pub at-most : (piece : List ℕ) → (BadPiece call piece → ⊥) → {bs : List ℕ} → PieceBytes call piece bs → length bs ≤ k * length piece
+  pub at-most : (piece : List ℕ) → ((p : ℕ) → BadPiece call piece p → ⊥) → {bs : List ℕ} → PieceBytes call piece bs → length bs ≤ k * length piece
 
 -- with a buffer k times as long as the piece no answer is the refusal 8
 pub enough-room : {call : Call} {k : ℕ} → Bounded call k → (rules : Rules) (piece lent : List ℕ) → k * length piece ≤ length lent →

@@ -1,5 +1,5 @@
--- The first byte of a Text tells whether it is quoted, a word or a code point: a literal is bad in its own way only. Assumes nothing.
-use mathlib.Core.Path.{_≡_, refl}
+-- The first byte of a Text tells whether it is quoted, a word or a code point: a literal is bad in its own way only, and at one place. Assumes nothing.
+use mathlib.Core.Path.{_≡_, refl, sym, _∙_}
 use mathlib.Core.Logic.{inl, inr}
 use mathlib.Core.Bool.{true}
 use mathlib.Core.List.{List}
@@ -10,8 +10,9 @@ use Rattle.rules.proofs.Classes.{apart, apartSpan, includes, inSome}
 use Rattle.rules.proofs.Ways.{never, never-takes, opens, opens-at}
 use Rattle.lexicon.specs.Literals.{segment, quoted, word, codePoint, codeOfBase}
 use Rattle.lexicon.specs.Values.{CodeOf}
-use Rattle.lexicon.specs.Bad.{BadCode, BadQuoted, inFirst, inFurther}
+use Rattle.lexicon.specs.Bad.{BadCode, BadQuoted, FirstBad, inFirst, inFurther}
 use Rattle.lexicon.proofs.Bases.{any-base}
+use Rattle.lexicon.proofs.Places.{one-first-bad}
 use Rattle.values.specs.QuotedBytes.{quote}
 use Rattle.values.specs.Text.{BadText}
 
@@ -62,14 +63,31 @@ module _ (piece : List ℕ) where
 
   -- ---- a literal is bad in its own way only
 
-  pub quoted-good : {i j : ℕ} → Takes piece quoted i j → (BadQuoted piece i j → ⊥) → BadText piece i j → ⊥
-  quoted-good t n (inl b) = n b
-  quoted-good t n (inr b) = no-code t (code-takes (b .code))
+  pub quoted-bad : {i j p : ℕ} → Takes piece quoted i j → BadText piece i j p → FirstBad piece i j p
+  quoted-bad t (inl b) = b
+  quoted-bad t (inr b) = absurd (no-code t (code-takes (b .1 .code)))
 
-  pub word-good : {i j : ℕ} → Takes piece word i j → BadText piece i j → ⊥
-  word-good t (inl b) = never-takes piece quote word quote-word (bad-first b) t
-  word-good t (inr b) = word-code t (code-takes (b .code))
+  pub code-bad : {i j p : ℕ} → Takes piece codePoint i j → BadText piece i j p → (p ≡ i) × BadCode piece i j
+  code-bad t (inl b) = absurd (never-takes piece quote codePoint quote-code (bad-first (b .bad)) t)
+  code-bad t (inr b) = b
 
-  pub code-good : {i j : ℕ} → Takes piece codePoint i j → (BadCode piece i j → ⊥) → BadText piece i j → ⊥
-  code-good t n (inl b) = never-takes piece quote codePoint quote-code (bad-first b) t
-  code-good t n (inr b) = n b
+  pub word-good : {i j : ℕ} → Takes piece word i j → (p : ℕ) → BadText piece i j p → ⊥
+  word-good t p (inl b) = never-takes piece quote word quote-word (bad-first (b .bad)) t
+  word-good t p (inr b) = word-code t (code-takes (b .1 .code))
+
+  pub quoted-good : {i j : ℕ} → Takes piece quoted i j → (BadQuoted piece i j → ⊥) → (p : ℕ) → BadText piece i j p → ⊥
+  quoted-good t n p b = n (quoted-bad t b .bad)
+
+  pub code-good : {i j : ℕ} → Takes piece codePoint i j → (BadCode piece i j → ⊥) → (p : ℕ) → BadText piece i j p → ⊥
+  code-good t n p b = n (code-bad t b .1)
+
+  -- ---- and at one place
+
+  bad-apart : {i j k : ℕ} → BadQuoted piece i j → BadCode piece i k → ⊥
+  bad-apart b c = never-takes piece quote codePoint quote-code (bad-first b) (code-takes (c .code))
+
+  pub one-bad-place : {i j p q : ℕ} → BadText piece i j p → BadText piece i j q → p ≡ q
+  one-bad-place (inl b) (inl c) = one-first-bad piece b c
+  one-bad-place (inl b) (inr c) = absurd (bad-apart (b .bad) (c .1))
+  one-bad-place (inr b) (inl c) = absurd (bad-apart (c .bad) (b .1))
+  one-bad-place (inr b) (inr c) = b .0 ∙ sym (c .0)

@@ -15,11 +15,12 @@ use Rattle.lexicon.proofs.Groups.{read-length}
 use Rattle.decisions.proofs.Tests.{either, settled}
 use Rattle.decisions.proofs.Codes.{bad-code}
 use Rattle.decisions.proofs.Quoted.{bad-quoted}
+use Rattle.decisions.proofs.First.{first-bad}
 use Rattle.reading.specs.declared.Answer.{Answer}
 use Rattle.reading.specs.declared.Rules.{Rules}
 use Rattle.values.specs.Exactly.{Exactly}
 use Rattle.values.specs.Text.{textLiteral, textCall, BadText, TextAnswers}
-use Rattle.values.proofs.Shapes.{no-word, no-code, word-code, code-takes}
+use Rattle.values.proofs.Shapes.{no-word, no-code, word-code, code-takes, one-bad-place}
 use Rattle.values.proofs.Spelled.{code-same, quoted-same, code-short, quoted-short}
 use Rattle.values.proofs.Characters.{Scalars, quoted-bytes, word-same}
 use Rattle.values.proofs.Values.{scalar-or, code-of, quoted-of, quoted-takes, quoted-scalars}
@@ -34,11 +35,11 @@ module _ (piece : List ℕ) where
   pub code-known : {v : ℕ} → CodeOf piece 0 (length piece) v → (BadCode piece 0 (length piece) → ⊥) → Scalar v
   code-known {v} c n = ⊎-elim (λ s. s) (λ b. absurd (n (record { number = v; code = c; bad = b }))) (scalar-or v)
 
-  module _ (good : BadText piece 0 (length piece) → ⊥) where
+  module _ (good : (p : ℕ) → BadText piece 0 (length piece) p → ⊥) where
     pub text-scalars : {cs : List ℕ} → TextOf piece 0 (length piece) cs → Scalars cs
-    text-scalars (quotes q) = quoted-known q (λ b. good (inl b))
+    text-scalars (quotes q) = quoted-known q (λ b. good _ (inl (first-bad piece b)))
     text-scalars (bare t) = word-same piece t .1
-    text-scalars (coded c) = (code-known c (λ b. good (inr b)), tt)
+    text-scalars (coded c) = (code-known c (λ b. good 0 (inr (refl, b))), tt)
 
     -- the bytes of an accepted Text are well formed
     pub text-formed : {cs : List ℕ} → TextOf piece 0 (length piece) cs → WellFormed (encoded cs)
@@ -69,18 +70,37 @@ module _ (piece : List ℕ) where
   has-text (right (left t)) = (_, bare t)
   has-text (right (right t)) = let x = code-of piece t in (_, coded (x .1))
 
-  bad-or-not : BadText piece 0 (length piece) ⊎ (BadText piece 0 (length piece) → ⊥)
+  abbrev Bad : Type 0
+  Bad = BadQuoted piece 0 (length piece) ⊎ BadCode piece 0 (length piece)
+
+  bad-somewhere : Bad → (p : ℕ) × BadText piece 0 (length piece) p
+  bad-somewhere (inl b) = (_, inl (first-bad piece b))
+  bad-somewhere (inr b) = (0, inr (refl, b))
+
+  bad-at : (p : ℕ) → BadText piece 0 (length piece) p → Bad
+  bad-at p (inl b) = inl (b .bad)
+  bad-at p (inr b) = inr (b .1)
+
+  bad-or-not : Bad ⊎ (Bad → ⊥)
   bad-or-not = settled (either (bad-quoted piece 0 (length piece)) (bad-code piece 0 (length piece)))
 
-  bad-or-good : Exactly textLiteral piece → BadText piece 0 (length piece) ⊎ Good textCall piece
+  bad-or-good : Exactly textLiteral piece → ((p : ℕ) × BadText piece 0 (length piece) p) ⊎ Good textCall piece
   bad-or-good x =
       let t = has-text x in
-      ⊎-elim (λ b. inl b)
-      (λ n. inr (record { not-bad = n; bytes = encoded (t .0); are = record { characters = t .0; are = t .1; bytes-are = refl } })) bad-or-not
+      ⊎-elim (λ b. inl (bad-somewhere b))
+      (λ n.
+      inr
+      (record {
+        not-bad = λ p b. n (bad-at p b);
+        bytes = encoded (t .0);
+        are = record { characters = t .0; are = t .1; bytes-are = refl };
+      }))
+      bad-or-not
 
 pub text-settled : Settled textCall
 text-settled =
     record {
+      one-place = λ piece b c. one-bad-place piece b c;
       determined = λ piece n x y. x .bytes-are ∙ text-same piece n (x .are) (y .are) ∙ sym (y .bytes-are);
       bad-or-good = bad-or-good;
     }

@@ -8,7 +8,7 @@ use Rattle.reading.specs.declared.Rules.{Rules}
 use Rattle.values.specs.Bytes.{Call, BytesAnswers}
 
 abbrev pub bitsCall : Call
-bitsCall = record { literal = bits; Bad = λ text i j. ⊥; Bytes = BitsOf }
+bitsCall = record { literal = bits; Bad = λ text i j place. ⊥; Bytes = BitsOf }
 
 abbrev pub BitsAnswers : Rules → (piece lent : List ℕ) → Answer → List ℕ → Type 0
 BitsAnswers = BytesAnswers bitsCall

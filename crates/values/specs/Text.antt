@@ -7,7 +7,7 @@ use Rattle.rules.specs.Rule.{Rule, _or_}
 use Rattle.lexicon.specs.Encode.{encoded}
 use Rattle.lexicon.specs.Literals.{quoted, word, codePoint}
 use Rattle.lexicon.specs.Values.{TextOf}
-use Rattle.lexicon.specs.Bad.{BadCode, BadQuoted}
+use Rattle.lexicon.specs.Bad.{BadCode, FirstBad}
 use Rattle.reading.specs.declared.Answer.{Answer}
 use Rattle.reading.specs.declared.Rules.{Rules}
 use Rattle.values.specs.Bytes.{Call, BytesAnswers}
@@ -15,8 +15,9 @@ use Rattle.values.specs.Bytes.{Call, BytesAnswers}
 abbrev pub textLiteral : Rule
 textLiteral = quoted or word or codePoint
 
-abbrev pub BadText : List ℕ → ℕ → ℕ → Type 0
-BadText text i j = BadQuoted text i j ⊎ BadCode text i j
+-- 02, request 8, 'In the Text call, too, the place is counted within the piece'
+abbrev pub BadText : List ℕ → (i j place : ℕ) → Type 0
+BadText text i j place = FirstBad text i j place ⊎ ((place ≡ i) × BadCode text i j)
 
 pub record TextBytes (text : List ℕ) (i j : ℕ) (bs : List ℕ) : Type 0 where
   pub characters : List ℕ

@@ -1,5 +1,6 @@
 -- `text_value::value::coded` meets its contract. Assumes nothing.
 use borrow.Author.Needs.{needs}
+use mathlib.Core.Path.{refl}
 use mathlib.Core.Logic.{inr}
 use Rattle.rules.specs.Rule.{right}
 use Rattle.rules.proofs.Matches.{ending}
@@ -29,7 +30,7 @@ returns-2 c =
 returns-3 : tie.Need-returns-3
 returns-3 c =
     let y = judged-at (BadCode (c .before .before .before .before .before .before .before .args .piece .now)) (c .before .before .before .end .given .1) (c .before .before .before .before .before .code-point .ensures) in
-    (right (right (ending (c .before .if1 .left) (y .0 .takes))), inr (whole-bad _ (BadCode (c .before .before .before .before .before .before .before .args .piece .now)) y (c .before .if1 .left) (c .if2 .taken)))
+    (right (right (ending (c .before .if1 .left) (y .0 .takes))), inr (refl, whole-bad _ (BadCode (c .before .before .before .before .before .before .before .args .piece .now)) y (c .before .if1 .left) (c .if2 .taken)))
 
 returns-4 : tie.Need-returns-4
 returns-4 c =

@@ -28,10 +28,13 @@ returns-2 : tie.Need-returns-2
 returns-2 c =
     quoted-other _ (judged-at _ (c .before .before .end .given .1) (c .before .before .before .before .quoted .ensures) .0) (c .if1 .taken)
 
+first-bad-requires : tie.Need-first-bad-requires
+first-bad-requires c κs = search needs
+
 returns-3 : tie.Need-returns-3
 returns-3 c =
-    let y = judged-at (BadQuoted (c .before .before .before .before .before .before .before .args .piece .now)) (c .before .before .before .end .given .1) (c .before .before .before .before .before .quoted .ensures) in
-    (left (ending (c .before .if1 .left) (y .0 .takes)), inl (whole-bad _ (BadQuoted (c .before .before .before .before .before .before .before .args .piece .now)) y (c .before .if1 .left) (c .if2 .taken)))
+    let y = judged-at (BadQuoted (c .before .before .before .before .before .before .before .before .args .piece .now)) (c .before .before .before .before .end .given .1) (c .before .before .before .before .before .before .quoted .ensures) in
+    (left (ending (c .before .before .if1 .left) (y .0 .takes)), inl (c .first-bad .ensures .bad (whole-bad _ (BadQuoted (c .before .before .before .before .before .before .before .before .args .piece .now)) y (c .before .before .if1 .left) (c .before .if2 .taken))))
 
 returns-4 : tie.Need-returns-4
 returns-4 c =
@@ -48,5 +51,6 @@ judge-spec =
     unquoted-requires
     returns
     returns-2
+    first-bad-requires
     returns-3
     returns-4)

@@ -33,18 +33,18 @@ enum-told-2 c = search needs
 refused-requires-3 : tie.Need-refused-requires-3
 refused-requires-3 c κs = search needs
 
-enum-told-3 : tie.Need-enum-told-3
-enum-told-3 c = search needs
+enum-known-verdict : tie.Need-enum-known-verdict
+enum-known-verdict c = search needs
 
 refused-requires-4 : tie.Need-refused-requires-4
 refused-requires-4 c κs = search needs
 
-enum-known-verdict : tie.Need-enum-known-verdict
-enum-known-verdict c = search needs
+enum-known-verdict-2 : tie.Need-enum-known-verdict-2
+enum-known-verdict-2 c = search needs
 
 fitting-requires : tie.Need-fitting-requires
 fitting-requires c κs =
-    (judged-as _ (c .before .before .verdict .given .1) (c .before .before .before .before .judge .ensures), c .before .before .before .before .before .before .before .before .if1 .left, encoded-as _ (c .before .before .before .before .before .enum-told .given .1) (c .before .before .before .before .before .before .before .utf8 .ensures))
+    (judged-as _ (c .before .before .verdict2 .given .1) (c .before .before .before .before .judge .ensures), c .before .before .before .before .before .before .before .before .if1 .left, encoded-as _ (c .before .before .before .before .before .enum-told .given .1) (c .before .before .before .before .before .before .before .utf8 .ensures))
 
 returns-2 : tie.Need-returns-2
 returns-2 c =
@@ -56,8 +56,8 @@ returns-3 c =
 
 returns-4 : tie.Need-returns-4
 returns-4 c =
-    let y = judged-as _ (c .before .enum-told3 .given .1) (c .before .before .before .judge .ensures) in
-    answered _ (c .refused4 .ensures) (bad (c .before .before .before .before .before .before .before .if1 .left) (encoded-as _ (c .before .before .before .before .enum-told .given .1) (c .before .before .before .before .before .before .utf8 .ensures)) (y .0) (y .1))
+    let y = judged-as _ (c .before .before .verdict .given .1) (c .before .before .before .before .judge .ensures) in
+    answered _ (c .refused4 .ensures) (bad (c .before .before .before .before .before .before .before .before .if1 .left) (encoded-as _ (c .before .before .before .before .before .enum-told .given .1) (c .before .before .before .before .before .before .before .utf8 .ensures)) (y .0) (y .1))
 
 same-length : tie.Need-same-length
 same-length c = search needs
@@ -78,9 +78,9 @@ text-spec =
     judge-requires
     enum-told-2
     refused-requires-3
-    enum-told-3
-    refused-requires-4
     enum-known-verdict
+    refused-requires-4
+    enum-known-verdict-2
     fitting-requires
     returns-2
     returns-3
