@@ -22,6 +22,7 @@ use Rattle.grammar.specs.Nodes.{table}
 use Rattle.grammar.proofs.Frames.{Config, want}
 use Rattle.grammar.proofs.Machine.{runs}
 use Rattle.decisions.proofs.Next.{comes}
+use Rattle.decisions.proofs.First.{bad-place}
 use Rattle.decisions.proofs.Utf8.{encoded}
 use Rattle.decisions.proofs.Front.{front}
 use Rattle.reading.specs.declared.Answer.{Answer}
@@ -65,9 +66,9 @@ module _ (limits : Limits) (bytes : List ℕ) (l : Level) where
   -- one token, and then what follows it
   one-more : (ts : List Tok) (p : ℕ) (c : Config) → Passed limits l bytes ts p → runs l ts ≡ some c →
       ((t : Token.Token) (d : Config) → Comes bytes p (Next.Token t) → Passed limits l bytes (ts ++ (seen t ∷ [])) (t .end) → runs l (ts ++ (seen t ∷ [])) ≡ some d → Outcome) → Outcome
-  one-more ts p c a e again = go (decided bytes (comes bytes) limits l ts p c e)
+  one-more ts p c a e again = go (decided bytes (comes bytes) (bad-place bytes) limits l ts p c e)
     where
-      go : Decided bytes (comes bytes) limits l ts p → Outcome
+      go : Decided bytes (comes bytes) (bad-place bytes) limits l ts p → Outcome
       go (stops n q f) = stopped n q (record { before = ts; from = p; good = a; fault = f })
       go (ends q b s) = finished s (record { from = p; good = a; ends = λ w. w .none s; at-end = (refl, b .1, b .2, b .3) })
       go (goes t d b f r) = again t d b (passed a b f) r

@@ -3,7 +3,9 @@ pub mod Derived
 pub mod Exists
 pub mod Pieces
 pub mod Demands
+pub mod Fives
 pub mod Blobs
+pub mod Escapes
 pub mod Higher
 pub mod Plain
 pub mod Alike

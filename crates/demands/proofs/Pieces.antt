@@ -94,7 +94,7 @@ module _ (text : List ℕ) (i j : ℕ) where
   -- a literal of a call, and its value is not bad
   record Good (call : Call) : Type 0 where
     takes : Takes text (call .literal) i j
-    good : call .Bad text i j → ⊥
+    good : (p : ℕ) → call .Bad text i j p → ⊥
 
   -- what stands from i to j for a node of a kind that a value call takes
   abbrev Exact : NodeKind → Type 0
@@ -147,8 +147,8 @@ module _ (text : List ℕ) (i j : ℕ) where
   of-token (Kind.Boolean b) t n = tt
   of-token (Kind.Integer signed) t n = t .0 .takes
   of-token Kind.Fraction t n = tt
-  of-token Kind.Bits t n = record { takes = t .takes; good = λ b. b }
-  of-token Kind.Blob t n = record { takes = t .takes; good = n }
+  of-token Kind.Bits t n = record { takes = t .takes; good = λ p b. b }
+  of-token Kind.Blob t n = record { takes = t .takes; good = λ p b. n (b .1) }
   of-token (Kind.Text Quoted) t n = record { takes = left (t .takes); good = quoted-good text (t .takes) n }
   of-token (Kind.Text Word) t n = let x = t .0 .takes in record { takes = right (left x); good = word-good text x }
   of-token (Kind.Text (HeadWord h)) t n = let x = t .0 .takes in record { takes = right (left x); good = word-good text x }
@@ -191,7 +191,7 @@ module _ (rules : Rules) (bytes : List ℕ) (n : Node) (l : Lone rules bytes n) 
         go (Bytes.tooLong h) = absurd (omega (arith, h, l .short))
         go (Bytes.notUtf8 h b) = absurd (formed-or-bad own (l .formed) b)
         go (Bytes.notTheLiteral h w e) = absurd (e (x .takes))
-        go (Bytes.bad h w e b) = absurd (x .good b)
+        go (Bytes.bad {p} h w e b) = absurd (x .good p b)
         go (Bytes.noRoom {bs} h w e g v o) =
             subst (λ (m : ℕ). GivesBytes bytes (n .at) call lent (answer 8 m (length bs)) lent) (sym size) (GivesBytes.noRoom (bytes-there bs v) o)
         go (Bytes.accepted {bs} h w e g v o) =

@@ -46,9 +46,11 @@ use Rattle.demands.specs.Requests.{OneTest, PlainSteps, SameRefusal, Sam
 use Rattle.demands.specs.Requests.{OneJudgement, ChangedTable, OnePlain, NothingWritten, PlainRoom, WrittenReadsBack, AlsoWithoutArrow, EndsAlike, EveryRowSpelled}
 use Rattle.demands.specs.Requests.{ArrowRetired, NothingChanged, NoSuchBytes, OldOrder, NoneAccepted, NoRole3, InOrder, NothingNew, StoredAlike, OneConversion, NeitherNumber, NothingConverted, ConvertedRoom, ConvertedReadsBack, ConvertedAlike, ConvertedAsWritten}
 use Rattle.demands.specs.Requests.{RoomBySeven, SevenEach, OwnWords, LentWords, SameSkips}
+use Rattle.demands.specs.Requests.{EscapePointed, SameFive}
 use Rattle.demands.proofs.Exists.{some-reading}
 use Rattle.demands.proofs.Higher.{at-level-2}
 use Rattle.demands.proofs.Blobs.{from-reader, from-call, inside}
+use Rattle.demands.proofs.Escapes.{pointed, same-text}
 use Rattle.demands.proofs.Plain.{by-reading, reader-own, written-back}
 use Rattle.demands.proofs.Alike as Alike
 use Rattle.demands.proofs.Alike.{written-alike}
@@ -141,7 +143,7 @@ pub padding : Padding
 padding text i j is = ((λ n. no-bytes-only text (is .told .takes) n), (λ ds x b. bad-no-bytes x b))
 
 pub one-five : OneFive
-one-five rules text table buffer level l r c left kept x y a b = ((λ e. from-reader rules text table level a x b e), (λ e. from-call rules text table level a x b y e))
+one-five rules text table buffer level l r c left kept x y a b = ((λ e. from-reader rules text table level a y x b e), (λ e. from-call rules text table level a y x b e))
 
 pub five-inside : FiveInside
 five-inside rules text table buffer level j r c left kept a e is b = inside rules text table level a e is b
@@ -304,3 +306,11 @@ same-skips rules text words out lent left level r a x h y i l =
     ap (λ (t : List ℕ). wordAt t i skipWord) (one .1)
     ∙ Skips.same-skips (x .other) (x .tree) (drop (nodeWords * length (table (x .tree))) lent) words i (in-order rules text words level out a x) shown
     (subst (λ (s : Answer). i < s .count) (one .0) l)
+
+-- ---- 8. The bad escape's place
+
+pub escape-pointed : EscapePointed
+escape-pointed rules text table left level r a e = pointed rules text table level a e
+
+pub same-five : SameFive
+same-five rules text table buffer level l r c left kept x of a b = same-text rules text table level a x of b

@@ -5,16 +5,20 @@ use mathlib.Core.Logic.{_⊎_, _↔_}
 use mathlib.Core.Bool.{true, false}
 use mathlib.Core.List.{List, [], _∷_, _++_, map}
 use mathlib.Core.Option.{Option, none, some}
-use Prim.Native.Nat.{ℕ, _+_, _*_, _/_, _%_, _^_, _≤_, _<_, min}
+use Prim.Native.Nat.{ℕ, _+_, _-_, _*_, _/_, _%_, _^_, _≤_, _<_, min}
 use lib.ListN.{length, take, drop}
 use Rattle.rules.specs.Class.{codes}
 use Rattle.rules.specs.Every.{Every}
 use Rattle.rules.specs.Plain.{between}
 use Rattle.lexicon.specs.declared.Token as Token
-use Rattle.lexicon.specs.declared.Kind.the-variants.{Blob}
+use Rattle.lexicon.specs.declared.Form.{Form}
+use Rattle.lexicon.specs.declared.Form.the-variants.{Quoted}
+use Rattle.lexicon.specs.declared.Kind.{Kind}
+use Rattle.lexicon.specs.declared.Kind.the-variants.{Blob, Text}
 use Rattle.lexicon.specs.Bytes.{base64}
 use Rattle.lexicon.specs.Literals.{blob}
 use Rattle.lexicon.specs.Values.{Behind}
+use Rattle.lexicon.specs.Bad.{FirstBad}
 use Rattle.lexicon.specs.Padding.{BadBase64}
 use Rattle.lexicon.specs.Token.{Is, Bad}
 use Rattle.grammar.specs.Tokens.{Tok}
@@ -37,6 +41,7 @@ use Rattle.values.specs.declared.IntegerAnswer.{IntegerAnswer}
 use Rattle.values.specs.Integer.{IntegerAnswers}
 use Rattle.values.specs.Exactly.{Exactly}
 use Rattle.values.specs.Bytes.{Call, BytesAnswers}
+use Rattle.values.specs.Text.{textLiteral, TextAnswers}
 use Rattle.values.specs.Blob.{BlobAnswers}
 use Rattle.values.specs.Utf8.{Utf8Answers}
 use Rattle.files.specs.File.{number, row, file}
@@ -448,3 +453,39 @@ SameSkips =
     (rules : Rules) (text words out lent left : List ℕ) (level : ℕ) (r : Answer) → rules .limits .arrow ≡ false →
     (x : ReadsBack rules text words level out) → length (table (x .tree)) ≤ room rules (length lent) →
     Answers rules out lent level r left → (i : ℕ) → i < r .count → wordAt left i skipWord ≡ wordAt words i skipWord
+
+-- ---- 8. 'For a code point out of range inside quotes, 5 now gives the backslash of that escape, the first such one,
+-- and no longer the literal's first byte. Bare code points are as before. In the Text call, too, the place is counted
+-- within the piece. Both levels change alike.' The last is demand 3: where the lower level answers 5, both answer alike
+
+-- the literal for whose value a text is refused with 5, and the place that is told
+pub record BadLiteral (rules : Rules) (text : List ℕ) (place : ℕ) : Type 0 where
+  pub kind : Kind
+  pub first : ℕ
+  pub end : ℕ
+  pub is : Is text kind first end
+  pub bad : Bad text kind first end
+  -- in the literal, never before it
+  pub within : (first ≤ place) × (place < end)
+  -- 'the backslash of that escape, the first such one'
+  pub inside-quotes : kind ≡ Text Quoted → FirstBad text first end place
+  pub backslash : kind ≡ Text Quoted → between text place (place + 2) ≡ codes "\\<"
+  -- 'Bare code points are as before', and so are Fractions and Blobs
+  pub as-before : (kind ≡ Text Quoted → ⊥) → place ≡ first
+  -- 'In the Text call, too, the place is counted within the piece'
+  pub in-call : (form : Form) → kind ≡ Text form → (buffer kept : List ℕ) (c : Answer) →
+      TextAnswers rules (between text first end) buffer c kept → c ≡ answer 5 (place - first) 0
+
+-- of every text that is refused with 5: `escape-pointed`
+abbrev pub EscapePointed : Type 0
+EscapePointed =
+    (rules : Rules) (text table left : List ℕ) (level : ℕ) (r : Answer) → Answers rules text table level r left →
+    r .number ≡ 5 → BadLiteral rules text (r .place)
+
+-- and of a text that is a Text literal and nothing else the reader answers 5 just when the Text call does, with the
+-- same place: `same-five`
+abbrev pub SameFive : Type 0
+SameFive =
+    (rules : Rules) (text table buffer : List ℕ) (level : ℕ) (l : Level) (r c : Answer) (left kept : List ℕ) →
+    Exactly textLiteral text → LevelOf level l → Answers rules text table level r left →
+    TextAnswers rules text buffer c kept → (r .number ≡ 5 → c ≡ r) × (c .number ≡ 5 → r ≡ c)
