@@ -27,13 +27,13 @@ use Rattle.values.specs.Bytes.{Call, BadPiece, PieceBytes, notTheLiteral, accep
 use Rattle.values.specs.Bytes as Bytes
 use Rattle.values.specs.Blob.{blobCall}
 use Rattle.values.specs.Bits.{bitsCall}
-use Rattle.examples.specs.Contents.{Hands, Refuses, Contents}
+use Rattle.examples.specs.Contents.{Hands, RefusesAt, Refuses, Contents}
 use Rattle.examples.proofs.Readable.{readable, is-short, is-formed}
 
 -- ---- what a piece is
 
 -- short enough and UTF-8, and the rule takes all of it
-abbrev whole : Rule → List ℕ → Bool
+abbrev pub whole : Rule → List ℕ → Bool
 whole r bytes = readable bytes && reaches bytes r 0 (length bytes)
 
 -- the mark, and digits in units of n + 1 that are these
@@ -64,25 +64,25 @@ module _ (call : Call) (text : String) where
         takes bytes (call .literal) 0 (length bytes) .true-holds
         (and-right (readable bytes) (reaches bytes (call .literal) 0 (length bytes)) w)
 
-    hands : (bs : List ℕ) → (BadPiece call bytes → ⊥) → PieceBytes call bytes bs → Hands call text bs
+    hands : (bs : List ℕ) → ((p : ℕ) → BadPiece call bytes p → ⊥) → PieceBytes call bytes bs → Hands call text bs
     hands bs good b lent room = accepted (is-short bytes front) (is-formed bytes front) exact good b room
 
-    five : BadPiece call bytes → Refuses call text 5
+    pub five : {place : ℕ} → BadPiece call bytes place → RefusesAt call text 5 place
     five b lent = Bytes.bad (is-short bytes front) (is-formed bytes front) exact b
 
   -- no literal of the call
-  nine : readable bytes ≡ true → reaches bytes (call .literal) 0 (length bytes) ≡ false → Refuses call text 9
+  pub nine : readable bytes ≡ true → reaches bytes (call .literal) 0 (length bytes) ≡ false → Refuses call text 9
   nine e f lent =
       notTheLiteral (is-short bytes e) (is-formed bytes e) (refuted (takes bytes (call .literal) 0 (length bytes)) f)
 
 blob-hands : (text : String) (bs : List ℕ) → whole (blobCall .literal) (codes text) ≡ true → BlobOf (codes text) 0 (length (codes text)) bs → Hands blobCall text bs
-blob-hands text bs w b = hands blobCall text w bs (λ n. n bs b) b
+blob-hands text bs w b = hands blobCall text w bs (λ p n. n .1 bs b) b
 
 bits-hands : (text : String) (bs : List ℕ) → whole (bitsCall .literal) (codes text) ≡ true → BitsOf (codes text) 0 (length (codes text)) bs → Hands bitsCall text bs
-bits-hands text bs w b = hands bitsCall text w bs (λ n. n) b
+bits-hands text bs w b = hands bitsCall text w bs (λ p n. n) b
 
 bad-blob : (text : String) (ds : List ℕ) → whole (blobCall .literal) (codes text) ≡ true → digitsAre (codes text) "0xy" 3 base64 ds ≡ true → BadBase64 ds → Refuses blobCall text 5
-bad-blob text ds w d b = five blobCall text w (bad-no-bytes (digits-are (codes text) "0xy" 3 base64 ds d) b)
+bad-blob text ds w d b = five blobCall text w (refl, bad-no-bytes (digits-are (codes text) "0xy" 3 base64 ds d) b)
 
 -- ---- the table
 

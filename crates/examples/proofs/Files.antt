@@ -38,7 +38,7 @@ module _ (rules : Rules) (long : base .text ≤ rules .text) (text : List ℕ) (
   pub reads : (v : Value) → verdict text (rules .limits) level2 ≡ some (holds v) → length (table v) ≤ rules .nodes → Read rules text (answer 0 (length text) (length (table v))) (some v)
   reads v is h = Answers.accepted second short (is-formed text e) (subst (Sound (Right text (rules .limits) level2)) is (verdict-is text (rules .limits) level2)) h
 
-  pub fails : (n p : ℕ) → verdict text (rules .limits) level2 ≡ some (Reading.refused n p) → Read rules text (answer n p 0) none
+  pub fails : {room : ℕ} (n p : ℕ) → verdict text (rules .limits) level2 ≡ some (Reading.refused n p) → Answers.Reading rules text room 2 (answer n p 0) none
   fails n p is = faulty second short (is-formed text e) (subst (Sound (Right text (rules .limits) level2)) is (verdict-is text (rules .limits) level2))
 
 abbrev span : ℕ → ℕ → Span
@@ -91,7 +91,7 @@ marked bytes e h (inl n) = n e
 marked bytes e h (inr g) = omega (arith, h, g)
 
 -- what has the mark and the version and is not the file
-other : (rules : Rules) (text bytes : List ℕ) → take 3 bytes ≡ mark → 5 ≤ length bytes → take 2 (drop 3 bytes) ≡ number 2 version → (Stored rules text bytes → ⊥) →
+pub other : (rules : Rules) (text bytes : List ℕ) → take 3 bytes ≡ mark → 5 ≤ length bytes → take 2 (drop 3 bytes) ≡ number 2 version → (Stored rules text bytes → ⊥) →
     Checks rules text bytes (answer 14 0 0)
 other rules text bytes e h f n = refused (inr (marked bytes e h, inr ((λ x. x f), inl (refl, n))))
 

@@ -11,3 +11,4 @@ pub mod Files
 pub mod Plain
 pub mod Arrow
 pub mod Skips
+pub mod Escapes

@@ -23,6 +23,7 @@ use Rattle.grammar.proofs.Viable.{Final, final}
 use Rattle.grammar.proofs.FirstNewer.{headNext, isBeyond, isNewer, newerHolds, holdsNewer, beyondHolds, holdsBeyond}
 use Rattle.decisions.proofs.Next.{nextOf, next-is}
 use Rattle.decisions.proofs.Front.{frontOf, front-is}
+use Rattle.decisions.proofs.First.{placeOf, place-is}
 use Rattle.reading.specs.declared.Limits.{Limits}
 use Rattle.reading.specs.Tokens.{seen, Follow, nothing, next, opened}
 use Rattle.reading.specs.Faults.{NewerAt, Retired, TooDeep, FirstFault}
@@ -191,7 +192,7 @@ module _ (bytes : List ℕ) (limits : Limits) (l : Level) where
   -- a token in its place, by whether it is retired, its value is bad and it is one bracket too many; `again` goes on behind it
   abbrev valued : Token.Token → Bool → Bool → Bool → (Unit {0} → Option Verdict) → Option Verdict
   valued t true b d again = some (refused 15 (t .first))
-  valued t false true d again = some (refused 5 (t .first))
+  valued t false true d again = some (refused 5 (placeOf bytes (t .kind) (t .first) (t .end)))
   valued t false false true again = some (refused 11 (t .first))
   valued t false false false again = again tt
 
@@ -235,7 +236,8 @@ module _ (bytes : List ℕ) (limits : Limits) (l : Level) where
       valued-is : (d : Config) → (NewerAt l bytes ts t → ⊥) → step l c (seen t) ≡ some d → (r a b : Bool) → retires t ≡ r → t .bad ≡ a → deeper ts t ≡ b →
           Sound Right (valued t r a b (λ u. again t d))
       valued-is d n e true a b r x y = arrow-retired limits l bytes s k n e (is-retired t r)
-      valued-is d n e false true b r x y = bad-value limits l bytes s k n e (not-retired t r) x
+      valued-is d n e false true b r x y =
+          bad-value limits l bytes s k n e (not-retired t r) x (place-is bytes (t .kind) (k .3 .true-holds x))
       valued-is d n e false false true r x y = too-deep limits l bytes s k n e (not-retired t r) x (is-deeper ts t y)
       valued-is d n e false false false r x y = go-on t d (goes-on limits l bytes s k n e (not-retired t r) x (λ z. not-deeper ts t y z))
 

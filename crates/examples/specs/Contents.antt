@@ -17,10 +17,13 @@ Hands call text bs =
     (lent : List ℕ) → length bs ≤ length lent →
     BytesAnswers call base (codes text) lent (answer 0 (length (codes text)) (length bs)) (bs ++ drop (length bs) lent)
 
--- with every buffer: the refusal at 0, and the buffer as it was
+-- with every buffer: the refusal at its place, and the buffer as it was
+abbrev pub RefusesAt : Call → String → (number place : ℕ) → Type 0
+RefusesAt call text number place =
+    (lent : List ℕ) → BytesAnswers call base (codes text) lent (answer number place 0) lent
+
 abbrev pub Refuses : Call → String → ℕ → Type 0
-Refuses call text number =
-    (lent : List ℕ) → BytesAnswers call base (codes text) lent (answer number 0 0) lent
+Refuses call text number = RefusesAt call text number 0
 
 pub record Contents : Type 0 where
   pub one-byte : Hands blobCall "0xyAQ==" (0x01 ∷ [])

@@ -1,6 +1,6 @@
 -- The texts that document 01 marks with a star, texts with bad values, base-64 Blobs, pieces of the Blob and Bits
--- calls, texts with the steps of the UTF-8 test, stored files, plain forms, the backward arrow, and the seventh
--- word.
+-- calls, texts with the steps of the UTF-8 test, stored files, plain forms, the backward arrow, the seventh word, and
+-- bad escapes.
 pub mod Starred
 pub mod Values
 pub mod Padding
@@ -10,3 +10,4 @@ pub mod Files
 pub mod Plain
 pub mod Arrow
 pub mod Skips
+pub mod Escapes

@@ -7,6 +7,6 @@ abbrev pub values : List Example
 values =
     atBoth "1.5*1^2" (refused 5 0)
     ++ atBoth "0cx110000" (refused 5 0)
-    ++ atBoth "\"\\\\<0cxD800>\"" (refused 5 0)
-    ++ atBoth "\"a\" \"\\\\<0cxD800>\"" (refused 5 0)
+    ++ atBoth "\"\\\\<0cxD800>\"" (refused 5 2)
+    ++ atBoth "\"a\" \"\\\\<0cxD800>\"" (refused 5 6)
     ++ atBoth "\"\\\\<0cxD7FF>\"" (accepted 13 (node 7 0 13 0 0 1 1 ∷ []))
