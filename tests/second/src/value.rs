@@ -71,8 +71,8 @@ pub(crate) fn written(piece: &[u8], bytes: Result<Vec<u8>, Answer>, buffer: &mut
 
 fn text_bytes(piece: &[u8]) -> Result<Vec<u8>, Answer> {
     let token = only_token(piece, |kind| matches!(kind, Kind::Text(_)))?;
-    if token.bad {
-        return Err(Answer::refused(BAD_VALUE, 0));
+    if let Some(place) = token.bad {
+        return Err(Answer::refused(BAD_VALUE, place));
     }
     let mut bytes = Vec::new();
     // The literal is not bad, so every number is a character's.

@@ -1,7 +1,7 @@
 use super::{check, length, of, write, FILE_MAX};
 use crate::answer::{
-    Answer, NOT_THE_FILE, NOT_THE_MARK, OTHER_VERSION, RETIRED_ARROW, TEXT_MAX, TOO_LONG,
-    WRONG_PLACE,
+    Answer, BAD_VALUE, NOT_THE_FILE, NOT_THE_MARK, OTHER_VERSION, RETIRED_ARROW, TEXT_MAX,
+    TOO_LONG, WRONG_PLACE,
 };
 use crate::samples::{before, members, readings};
 use crate::tree::Rules;
@@ -97,6 +97,15 @@ fn no_room() {
     // the reader's refusals come first
     let refusal = Answer::refused(WRONG_PLACE, 2);
     assert_eq!(writes(b"(x", 0), (refusal, vec![]));
+}
+
+/// The writer hands the reader's place on; the checker has none.
+#[test]
+fn an_escape_out_of_range() {
+    let text = br#"(x:"a" "\\<0cxD800>")"#;
+    assert_eq!(writes(text, 0).0, Answer::refused(BAD_VALUE, 9));
+    assert_eq!(of(Rules::Old, text), Err(Answer::refused(BAD_VALUE, 9)));
+    refused(text, &file(br#"(x:"a" "\<<0cxD800>")"#), NOT_THE_FILE);
 }
 
 #[test]

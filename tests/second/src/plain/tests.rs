@@ -1,7 +1,7 @@
 use super::{convert, turned, write, Turned};
 use crate::answer::{
-    Answer, LEVEL, NEWER_FORM, NODES_MAX, NODE_WORDS, NOT_THE_FILE, RETIRED_ARROW, TEXT_MAX,
-    TOO_LONG, WRONG_PLACE,
+    Answer, BAD_VALUE, LEVEL, NEWER_FORM, NODES_MAX, NODE_WORDS, NOT_THE_FILE, RETIRED_ARROW,
+    TEXT_MAX, TOO_LONG, WRONG_PLACE,
 };
 use crate::file::STORED_WORDS;
 use crate::samples::{self, members, readings};
@@ -183,6 +183,24 @@ fn the_converter_s_refusals() {
     }
     let most = format!("{{{}c}}", "b<-a,".repeat(511)).into_bytes();
     assert_eq!(converted(1, &most).len(), 2 + 4 * 511 + 1);
+}
+
+/// The reader's place is handed on, and by the converter the place by the old
+/// rules.
+#[test]
+fn an_escape_out_of_range() {
+    for (text, today, old) in [
+        (&br#"(x:"a" "\\<0cxD800>")"#[..], (BAD_VALUE, 9), 9),
+        (br#"("\\<0cxD800>"<-a)"#, (BAD_VALUE, 3), 3),
+        (br#"(a<-"\\<0cxD800>")"#, (RETIRED_ARROW, 2), 6),
+    ] {
+        for (level, room) in [(1, 0), (2, 100)] {
+            let answer = Answer::refused(today.0, today.1);
+            assert_eq!(writes(level, text, &[7; 60], room), (answer, vec![]));
+            let answer = Answer::refused(BAD_VALUE, old);
+            assert_eq!(converts(level, text, room), (answer, vec![]));
+        }
+    }
 }
 
 /// The table is looked at after the text, and the buffer after the table.

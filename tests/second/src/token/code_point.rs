@@ -26,6 +26,6 @@ pub fn text(text: &[u8], at: usize) -> Option<Match> {
     Some(Match {
         kind: Kind::Text(Form::CodePoint),
         end,
-        bad: !utf8::is_scalar(code),
+        bad: (!utf8::is_scalar(code)).then_some(at),
     })
 }

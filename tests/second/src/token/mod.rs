@@ -74,8 +74,9 @@ pub struct Token {
     pub kind: Kind,
     pub first: usize,
     pub end: usize,
-    /// The literal has a bad value.
-    pub bad: bool,
+    /// Where a literal with a bad value is refused: at the backslash of its
+    /// first escape out of range, and else at its first byte.
+    pub bad: Option<usize>,
 }
 
 /// What stands at or after a place.
@@ -106,18 +107,18 @@ impl Lexed {
                 token.first as u64,
                 token.end as u64,
                 u64::from(token.kind.detail()),
-                u64::from(token.bad),
+                u64::from(token.bad.is_some()),
             ],
         }
     }
 }
 
-/// One rule's match at a place.
+/// One rule's match at a place, and where its bad value is refused.
 #[derive(Clone, Copy, Debug)]
 struct Match {
     kind: Kind,
     end: usize,
-    bad: bool,
+    bad: Option<usize>,
 }
 
 impl Match {
@@ -125,7 +126,7 @@ impl Match {
         Match {
             kind,
             end,
-            bad: false,
+            bad: None,
         }
     }
 }

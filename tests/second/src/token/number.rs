@@ -87,7 +87,7 @@ pub fn fraction(text: &[u8], at: usize) -> Option<Match> {
     Some(Match {
         kind: Kind::Fraction,
         end,
-        bad: zero_below || small_radix,
+        bad: (zero_below || small_radix).then_some(at),
     })
 }
 

@@ -17,7 +17,7 @@ pub fn blob(text: &[u8], at: usize) -> Option<Match> {
         return Some(Match {
             kind: Kind::Blob,
             end,
-            bad: !encodes(text, first, end),
+            bad: (!encodes(text, first, end)).then_some(at),
         });
     }
     let (_, end) = body(text, at, b"0xb", Alphabet::Binary, 8)

@@ -11,7 +11,7 @@ pub fn text(text: &[u8], at: usize) -> Option<Match> {
     // A further segment belongs to the literal only if it is whole.
     while let Some((further, fault)) = judged_segment(text, space::skip(text, end)) {
         end = further;
-        bad |= fault;
+        bad = bad.or(fault);
     }
     Some(Match {
         kind: Kind::Text(Form::Quoted),
@@ -20,25 +20,30 @@ pub fn text(text: &[u8], at: usize) -> Option<Match> {
     })
 }
 
-/// The end of the segment at `at` and whether one of its escapes is out of
-/// range.
-fn judged_segment(text: &[u8], at: usize) -> Option<(usize, bool)> {
-    let mut bad = false;
-    let end = segment(text, at, &mut |code| bad |= !utf8::is_scalar(code))?;
+/// The end of the segment at `at`, and the backslash of its first escape out
+/// of range.
+fn judged_segment(text: &[u8], at: usize) -> Option<(usize, Option<usize>)> {
+    let mut bad = None;
+    let end = segment(text, at, |place, code| {
+        if !utf8::is_scalar(code) {
+            bad = bad.or(Some(place));
+        }
+    })?;
     Some((end, bad))
 }
 
 /// Gives the characters' numbers of a whole quoted literal, in order.
 pub fn for_each_character(text: &[u8], first: usize, give: &mut dyn FnMut(u64)) {
     let mut place = first;
-    while let Some(end) = segment(text, place, give) {
+    while let Some(end) = segment(text, place, |_, code| give(code)) {
         place = space::skip(text, end);
     }
 }
 
-/// The place behind the segment at `at`; its characters' numbers are given
-/// while it is read, even if it then turns out not to be whole.
-fn segment(text: &[u8], at: usize, give: &mut dyn FnMut(u64)) -> Option<usize> {
+/// The place behind the segment at `at`; where each of its characters is
+/// written and the character's number are given while it is read, even if it
+/// then turns out not to be whole.
+fn segment(text: &[u8], at: usize, mut give: impl FnMut(usize, u64)) -> Option<usize> {
     if text.get(at) != Some(&QUOTE) {
         return None;
     }
@@ -50,7 +55,7 @@ fn segment(text: &[u8], at: usize, give: &mut dyn FnMut(u64)) -> Option<usize> {
             BACKSLASH if escaped => escape(text, place + 1)?,
             _ => plain(text, place)?,
         };
-        give(code);
+        give(place, code);
         place = end;
     }
 }

@@ -111,6 +111,35 @@ fn a_broken_segment_does_not_make_the_literal_bad() {
     assert_eq!(found, [[7, 0, 3, 1, 0], [10, 4, 4, 0, 0]]);
 }
 
+/// Where the bad value of the token at this place is refused.
+fn bad_at(text: &[u8], at: usize) -> Option<usize> {
+    match next(text, at) {
+        Lexed::Token(token) => token.bad,
+        Lexed::End(_) | Lexed::NoToken(_) => None,
+    }
+}
+
+/// In quotes at the backslash of the first escape out of range, counted from the
+/// text's front as all places are; else at the literal's first byte.
+#[test]
+fn where_a_bad_value_is_refused() {
+    assert_eq!(bad_at(br#""\\<0cxD800>""#, 0), Some(2));
+    assert_eq!(bad_at(br#"(x: "\\<0cxD800>""#, 3), Some(6));
+    assert_eq!(
+        bad_at(br#""a\<0cxD800>" "\\<0c65>\<0cxD800>\<0cxDFFF>""#, 0),
+        Some(23)
+    );
+    assert_eq!(bad_at(br#""\\<0cxDFFF>" "\\<0cxD800>""#, 0), Some(2));
+    assert_eq!(bad_at(br#""a\<0cxD800>""#, 0), None);
+    assert_eq!(bad_at(br#""\<0cxD800>""#, 0), None);
+    assert_eq!(bad_at(br#""a" "\\<0cxD800>\x""#, 0), None);
+    assert_eq!(bad_at(br#""\\<0cxD800>" "\\x""#, 0), Some(2));
+    for literal in ["0cxD800", "1/0", "1.0*1^2", "0xyAB=="] {
+        let text = format!("::a:: {literal}");
+        assert_eq!(bad_at(text.as_bytes(), 5), Some(6), "{literal}");
+    }
+}
+
 #[test]
 fn code_points_at_their_bounds() {
     let bad = |text: &[u8]| next(text, 0).words()[4] == 1;

@@ -186,8 +186,8 @@ impl Parser<'_> {
 
     /// The current token, a literal in its right place.
     fn literal(&mut self, token: Token) -> Read<Value> {
-        if token.bad {
-            return Err(Answer::refused(BAD_VALUE, token.first));
+        if let Some(place) = token.bad {
+            return Err(Answer::refused(BAD_VALUE, place));
         }
         self.next += 1;
         Ok(Value {

@@ -120,6 +120,11 @@ fn examples_of_the_readings() {
 }
 
 #[test]
+fn escapes_out_of_range() {
+    samples::escapes::EXAMPLES.iter().for_each(meets_both);
+}
+
+#[test]
 fn room() {
     for &(text, words, want) in readings::ROOMS {
         meets(2, text, words, want);

@@ -1,6 +1,7 @@
 use super::{bits, blob, integer, text, IntAnswer};
-use crate::answer::Answer;
-use crate::samples::readings;
+use crate::answer::{Answer, BAD_VALUE};
+use crate::samples::{self, readings};
+use crate::tree;
 
 fn integer_is(piece: &[u8], number: u32, place: usize, value: i64) {
     let want = IntAnswer {
@@ -131,6 +132,59 @@ fn texts_of_every_spelling() {
     text_is(b" a", 9, Answer::refused(9, 0), b"");
     text_is(b"\"a\"\xFF", 9, Answer::refused(3, 3), b"");
     text_is(&b"a".repeat(32_769), 9, Answer::refused(2, 0), b"");
+}
+
+/// The place is counted within the piece, and no buffer is looked at.
+#[test]
+fn texts_with_an_escape_out_of_range() {
+    for (piece, place) in [
+        (r#""\\<0cxD800>""#, 2),
+        (r#""a" "\x\<0cxD800>""#, 7),
+        (r#""a" "\b\<0c65>\<0cxD800>\<0cxDFFF>""#, 14),
+        (r#""a\<0cxD800>" "\\<0cxDFFF>""#, 16),
+        (r#""\\<0cxDFFF>" "\\<0cxD800>""#, 2),
+        ("\"\"`\\\\<0cxD800>`\"\\é\\<0cx110000>\"", 19),
+        (r#""\\<0c0065>\<0cb1101100000000000>""#, 11),
+        (r#""\\<0co4200000>\<0c1114112>""#, 2),
+        // not in quotes
+        ("0cxD800", 0),
+        ("0cb1101100000000000", 0),
+    ] {
+        for room in [0, 400] {
+            text_is(piece.as_bytes(), room, Answer::refused(5, place), b"");
+        }
+    }
+    // 9 and 3 come first
+    for piece in [
+        r#""\\<0cxD800>" "#,
+        r#" "\\<0cxD800>""#,
+        r#""\\<0cxD800>" "\\x""#,
+        r#""\\<0cxD800>" "a"#,
+        r#""\\<0cxD800>\x""#,
+        r#"::"\\<0cxD800>""#,
+    ] {
+        refused_by(text, piece.as_bytes(), 9, 0);
+    }
+    refused_by(text, b"\"\\\\<0cxD800>\xFF\"", 3, 12);
+    accepted(br#""\<0cxD800>""#, b"<0cxD800>");
+    accepted(br#""a\<0cxD800>""#, br"a\<0cxD800>");
+}
+
+/// A piece that the Text call refuses with 5 is a text that the reader refuses
+/// so, at the same place.
+#[test]
+fn texts_are_refused_as_by_the_reader() {
+    let mut refused = 0;
+    for sample in samples::all() {
+        let call = text(sample.text, &mut []);
+        if call.number == BAD_VALUE {
+            refused += 1;
+            for level in [1, 2] {
+                assert_eq!(tree::read(level, sample.text, &mut []), call);
+            }
+        }
+    }
+    assert!(refused > 20, "{refused}");
 }
 
 #[test]
