@@ -4,7 +4,7 @@
 pub mod forms;
 pub mod skips;
 
-use crate::answer::Answer;
+use crate::answer::{Answer, BAD_VALUE};
 use crate::generate::Random;
 use std::fmt::Debug;
 use std::process::ExitCode;
@@ -112,6 +112,22 @@ pub fn each_met(times: &[(&str, usize)]) -> Compared {
         Some((what, _)) => Err(Difference(format!("there was never {what}"))),
         None => Ok(()),
     }
+}
+
+/// Whether an escape out of range was refused: 5 at a backslash, which begins no
+/// literal.
+pub fn in_quotes(text: &[u8], answer: Answer) -> bool {
+    answer.number == BAD_VALUE && text.get(answer.place) == Some(&b'\\')
+}
+
+/// That bad escapes were refused often enough for the comparison to mean much.
+pub fn escapes_met(times: usize, least: usize) -> Compared {
+    if times >= least {
+        return Ok(());
+    }
+    Err(Difference(format!(
+        "bad escapes were refused {times} times only, and not {least}"
+    )))
 }
 
 /// How many calls there were, and how many of them with each of these answers.

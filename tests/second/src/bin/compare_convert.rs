@@ -8,20 +8,20 @@
 //! form.
 //!
 //! The texts are every sample, broken off at every byte and with comments,
-//! generated and damaged ones, arrows at many places, random bytes, and long
-//! ones.
+//! generated and damaged ones, arrows at many places, escapes out of range,
+//! random bytes, and long ones.
 //!
 //! Exits with 1 at the first disagreement.
 
 use second::answer::{Answer, NEWER_FORM, NODES_MAX, NODE_WORDS, RETIRED_ARROW, TEXT_MAX};
 use second::compare::forms::{end, form_lengths, no_level, read, read_again, LEVELS};
 use second::compare::{
-    accepted_bytes, all_met, each_met, finish, listed, same, same_written, Compared, Difference,
-    TURNS,
+    accepted_bytes, all_met, each_met, escapes_met, finish, in_quotes, listed, same, same_written,
+    Compared, Difference, TURNS,
 };
 use second::generate::{
-    arrow_rows, arrow_texts, commented, deep_forms, good_texts, head_forms, long_texts, old_texts,
-    random_bytes, sized_forms, texts, Random,
+    arrow_rows, arrow_texts, commented, deep_forms, escape_rows, escape_texts, good_texts,
+    head_forms, long_texts, old_texts, random_bytes, sized_forms, texts, Random,
 };
 use second::samples::readings::CONVERTED;
 use second::samples::{before, Sample, Want};
@@ -34,6 +34,9 @@ const GENERATED: usize = 12_000;
 const GOOD: usize = 3_000;
 const OLD: usize = 12_000;
 const ARROWS: usize = 12_000;
+const ESCAPES: usize = 6_000;
+/// Calls that refuse an escape at least.
+const REFUSED_ESCAPES: usize = 100_000;
 const RANDOM_BYTES: usize = 200_000;
 const COMMENT: &[u8] = b"`<-`";
 /// The answers that the call can give; 14 and 15 are not among them.
@@ -76,6 +79,8 @@ struct Counts {
     random: Random,
     texts: usize,
     answers: [usize; 16],
+    /// Calls that refused an escape in quotes.
+    escapes: usize,
     /// Forms that were read and converted again, those of texts with an arrow,
     /// and those whose nodes have another order than the text's.
     again: usize,
@@ -93,6 +98,7 @@ impl Counts {
             random: Random::new(SEED),
             texts: 0,
             answers: [0; 16],
+            escapes: 0,
             again: 0,
             arrows: 0,
             turned: 0,
@@ -111,6 +117,7 @@ impl Counts {
             |buffer| archive::convert(level, text, buffer),
         )?;
         self.answers[answer.number as usize] += TURNS.len();
+        self.escapes += TURNS.len() * usize::from(in_quotes(text, answer));
         Ok(answer)
     }
 
@@ -258,6 +265,7 @@ impl Counts {
     /// Every answer is met, and every kind of form.
     fn every_answer(&self) -> Compared {
         all_met("converter", &self.answers, &ANSWERS)?;
+        escapes_met(self.escapes, REFUSED_ESCAPES)?;
         each_met(&[
             ("a text with an arrow", self.arrows),
             ("another order", self.turned),
@@ -268,9 +276,10 @@ impl Counts {
 
     fn summary(&self) -> String {
         format!(
-            "{} texts, {}, {} with an arrow, {} forms read and converted again ({} in another order, {} values), {} too long for that",
+            "{} texts, {} ({} bad escapes), {} with an arrow, {} forms read and converted again ({} in another order, {} values), {} too long for that",
             self.texts,
             listed(&self.answers, &ANSWERS),
+            self.escapes,
             self.arrows,
             self.again,
             self.turned,
@@ -302,6 +311,8 @@ fn made() -> Vec<Vec<u8>> {
     all.extend(old_texts(SEED, OLD).into_iter().map(|made| made.text));
     all.extend(arrow_texts(SEED, ARROWS));
     all.extend(arrow_rows());
+    all.extend(escape_texts(SEED, ESCAPES));
+    all.extend(escape_rows());
     all.extend(random_bytes(SEED, RANDOM_BYTES));
     all
 }

@@ -5,21 +5,22 @@
 //! checker takes what was stored with an arrow `<-`, which its writer refuses.
 //!
 //! The texts are every sample, broken off at every byte, generated and damaged
-//! ones, ones with arrows, random bytes, and long ones.  The files are those of
-//! these texts by the old rules, whole and changed, broken off and longer, under
-//! their own and under other texts, some as they were written before, and bytes
-//! that are no file.
+//! ones, ones with arrows or with escapes out of range, random bytes, and long
+//! ones.  The files are those of these texts by the old rules, whole and changed,
+//! broken off and longer, under their own and under other texts, some as they
+//! were written before, and bytes that are no file.
 //!
 //! Exits with 1 at the first disagreement.
 
 use second::answer::{Answer, NODES_MAX, RETIRED_ARROW, TEXT_MAX};
 use second::compare::{
-    all_met, each_met, finish, lengths, listed, same, same_written, Compared, Difference, TURNS,
+    all_met, each_met, escapes_met, finish, in_quotes, lengths, listed, same, same_written,
+    Compared, Difference, TURNS,
 };
 use second::file::{self, FILE_MAX, STORED_WORDS};
 use second::generate::{
-    arrow_rows, arrow_texts, good_texts, long_texts, old_texts, random_bytes, sized_forms, texts,
-    Random,
+    arrow_rows, arrow_texts, escape_rows, escape_texts, good_texts, long_texts, old_texts,
+    random_bytes, sized_forms, texts, Random,
 };
 use second::samples;
 use second::tree::Rules;
@@ -30,6 +31,11 @@ const SEED: u64 = 20_261_119;
 const GENERATED: usize = 12_000;
 const GOOD: usize = 6_000;
 const ARROWS: usize = 4_000;
+const ESCAPES: usize = 3_000;
+/// Writings that refuse an escape at least.
+const REFUSED_ESCAPES: usize = 20_000;
+/// Of the rows with an escape, one in so many.
+const SPARSELY: usize = 5;
 const RANDOM_BYTES: usize = 200_000;
 /// Mark, version, node count and text length.
 const HEAD: usize = 9;
@@ -91,6 +97,8 @@ struct Counts {
     texts: usize,
     written: [usize; 16],
     checked: [usize; 16],
+    /// Writings that refused an escape in quotes.
+    escapes: usize,
     /// Texts whose file is what the archive's own reader wrote.
     as_read: usize,
     /// Files with an arrow, which are no more written.
@@ -108,6 +116,7 @@ impl Counts {
             texts: 0,
             written: [0; 16],
             checked: [0; 16],
+            escapes: 0,
             as_read: 0,
             before: 0,
             stored: HashMap::new(),
@@ -124,6 +133,7 @@ impl Counts {
             |buffer| archive::write(text, buffer),
         )?;
         self.written[answer.number as usize] += TURNS.len();
+        self.escapes += TURNS.len() * usize::from(in_quotes(text, answer));
         Ok(())
     }
 
@@ -318,14 +328,16 @@ impl Counts {
     fn every_answer(&self) -> Compared {
         all_met("writer", &self.written, &WRITTEN)?;
         all_met("checker", &self.checked, &CHECKED)?;
+        escapes_met(self.escapes, REFUSED_ESCAPES)?;
         each_met(&[("a file of before", self.before)])
     }
 
     fn summary(&self) -> String {
         format!(
-            "{} texts, writer ({}), checker ({}), {} as read, {} files with an arrow",
+            "{} texts, writer ({}; {} bad escapes), checker ({}), {} as read, {} files with an arrow",
             self.texts,
             listed(&self.written, &WRITTEN),
+            self.escapes,
             listed(&self.checked, &CHECKED),
             self.as_read,
             self.before
@@ -413,6 +425,12 @@ fn run(counts: &mut Counts) -> Compared {
         counts.text(&made.text, Care::Some(6))?;
     }
     for text in arrow_texts(SEED, ARROWS).iter().chain(&arrow_rows()) {
+        counts.text(text, Care::Some(2))?;
+    }
+    for text in escape_texts(SEED, ESCAPES) {
+        counts.text(&text, Care::Some(2))?;
+    }
+    for text in escape_rows().iter().step_by(SPARSELY) {
         counts.text(text, Care::Some(2))?;
     }
     for text in random_bytes(SEED, RANDOM_BYTES) {

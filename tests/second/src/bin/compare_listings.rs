@@ -1,10 +1,11 @@
 //! Compares what the proved program writes with this package's listing: every
 //! sample, once whole and once in small pieces of a pipe, generated texts, some
-//! with arrows `<-`, and texts around the size of its buffer.
+//! with arrows `<-` or with escapes out of range, and texts around the size of
+//! its buffer.
 //!
 //! `compare_listings PROGRAM`; exits with 1 at the first disagreement.
 
-use second::generate::{arrow_texts, texts};
+use second::generate::{arrow_texts, escape_texts, texts};
 use second::listing::{listing, BUFFER};
 use second::samples;
 use std::io::{self, Write};
@@ -13,6 +14,7 @@ use std::process::{Command, ExitCode, Stdio};
 const SEED: u64 = 20_261_118;
 const GENERATED: usize = 300;
 const ARROWS: usize = 60;
+const ESCAPES: usize = 60;
 const PIECE: usize = 7;
 
 /// The program's output for a text that comes in pieces of at most `piece`
@@ -43,6 +45,7 @@ fn main() -> io::Result<ExitCode> {
     );
     all.extend(texts(SEED, GENERATED));
     all.extend(arrow_texts(SEED, ARROWS));
+    all.extend(escape_texts(SEED, ESCAPES));
     for length in [BUFFER - 2, BUFFER - 1, BUFFER, BUFFER + 1, 2 * BUFFER] {
         all.push(samples::members(length));
         all.push(vec![b' '; length]);

@@ -5,22 +5,22 @@
 //! nothing; and that twice the text is room enough.
 //!
 //! The texts are every sample, broken off at every byte and with a comment put
-//! in at every byte, generated and damaged ones, random bytes, and long ones;
-//! the tables those of these texts, exact, cut off, longer and changed, and
-//! those of others.  Texts with arrows `<-` are refused here; compare_convert
-//! has what is written for them.
+//! in at every byte, generated and damaged ones, ones with escapes out of range,
+//! random bytes, and long ones; the tables those of these texts, exact, cut off,
+//! longer and changed, and those of others.  Texts with arrows `<-` are refused
+//! here; compare_convert has what is written for them.
 //!
 //! Exits with 1 at the first disagreement.
 
 use second::answer::{Answer, NODE_WORDS, NOT_THE_FILE, SKIP, TEXT_MAX};
 use second::compare::forms::{end, form_lengths, no_level, read, read_again, LEVELS};
 use second::compare::{
-    accepted_bytes, all_met, each_met, finish, listed, same, same_written, Compared, Difference,
-    TURNS,
+    accepted_bytes, all_met, each_met, escapes_met, finish, in_quotes, listed, same, same_written,
+    Compared, Difference, TURNS,
 };
 use second::generate::{
-    arrow_rows, arrow_texts, commented, deep_forms, gaps, good_texts, head_forms, long_texts,
-    random_bytes, sized_forms, texts, Random,
+    arrow_rows, arrow_texts, commented, deep_forms, escape_rows, escape_texts, gaps, good_texts,
+    head_forms, long_texts, random_bytes, sized_forms, texts, Random,
 };
 use second::samples::readings::PLAIN;
 use second::tree::{read_by, Rules};
@@ -31,7 +31,11 @@ const SEED: u64 = 20_261_123;
 const GENERATED: usize = 12_000;
 const GOOD: usize = 6_000;
 const ARROWS: usize = 1_000;
-/// Of the rows with an arrow, one in so many; all are converted elsewhere.
+const ESCAPES: usize = 2_000;
+/// Calls that refuse an escape at least.
+const REFUSED_ESCAPES: usize = 20_000;
+/// Of the rows with an arrow or an escape, one in so many; all are converted
+/// elsewhere.
 const SPARSELY: usize = 7;
 const RANDOM_BYTES: usize = 200_000;
 const COMMENT: &[u8] = b"`)_\"`";
@@ -64,6 +68,8 @@ struct Counts {
     random: Random,
     texts: usize,
     answers: [usize; 16],
+    /// Calls that refused an escape in quotes.
+    escapes: usize,
     /// Forms that were read and written again.
     again: usize,
     /// Forms longer than a text may be.
@@ -82,6 +88,7 @@ impl Counts {
             random: Random::new(SEED),
             texts: 0,
             answers: [0; 16],
+            escapes: 0,
             again: 0,
             longer: 0,
             values: 0,
@@ -111,6 +118,7 @@ impl Counts {
             |buffer| archive::write(level, text, table, buffer),
         )?;
         self.answers[answer.number as usize] += TURNS.len();
+        self.escapes += TURNS.len() * usize::from(in_quotes(text, answer));
         Ok(answer)
     }
 
@@ -302,6 +310,7 @@ impl Counts {
     /// Every answer is met, and every kind of form.
     fn every_answer(&self) -> Compared {
         all_met("call", &self.answers, &ANSWERS)?;
+        escapes_met(self.escapes, REFUSED_ESCAPES)?;
         each_met(&[
             ("a form longer than a text", self.longer),
             ("a value", self.values),
@@ -311,9 +320,10 @@ impl Counts {
 
     fn summary(&self) -> String {
         format!(
-            "{} texts, {}, {} forms read and written again ({} values), {} too long for that, {} gaps with a comment",
+            "{} texts, {} ({} bad escapes), {} forms read and written again ({} values), {} too long for that, {} gaps with a comment",
             self.texts,
             listed(&self.answers, &ANSWERS),
+            self.escapes,
             self.again,
             self.values,
             self.longer,
@@ -352,7 +362,11 @@ fn run(counts: &mut Counts) -> Compared {
     for text in arrow_texts(SEED, ARROWS) {
         counts.text(&text, Care::Some(1))?;
     }
-    for text in arrow_rows().iter().step_by(SPARSELY) {
+    for text in escape_texts(SEED, ESCAPES) {
+        counts.text(&text, Care::Some(1))?;
+    }
+    let rows = [arrow_rows(), escape_rows()].concat();
+    for text in rows.iter().step_by(SPARSELY) {
         counts.text(text, Care::Some(1))?;
     }
     for text in deep_forms("->") {

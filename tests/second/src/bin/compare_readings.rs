@@ -5,18 +5,18 @@
 //!
 //! The texts are every sample, broken off at every byte and with bits
 //! flipped, texts made by the grammar or nearly, arrows `<-` at many places,
-//! random bytes, rows of bytes that may be read at once, every two groups of
-//! some base-64 characters, every two characters before padding, and long
-//! ones.
+//! escapes out of range in quotes, random bytes, rows of bytes that may be read
+//! at once, every two groups of some base-64 characters, every two characters
+//! before padding, and long ones.
 //!
 //! Exits with 1 at the first disagreement.
 
 use muon::Branch;
 use second::answer::{Answer, DEPTH_MAX, NEWER_FORM, NODE_WORDS, NO_ROOM, TEXT_MAX};
-use second::compare::{finish, same, skips, Compared, Difference};
+use second::compare::{escapes_met, finish, in_quotes, same, skips, Compared, Difference};
 use second::generate::{
-    arrow_rows, arrow_texts, flipped, long_texts, paddings, random_bytes, row_texts, texts,
-    two_groups, Random,
+    arrow_rows, arrow_texts, escape_rows, escape_texts, flipped, long_texts, paddings,
+    random_bytes, row_texts, texts, two_groups, Random,
 };
 use second::{samples, tree};
 use std::iter::successors;
@@ -26,6 +26,9 @@ use std::time::{Duration, Instant};
 const SEED: u64 = 20_261_116;
 const GENERATED: usize = 100_000;
 const ARROWS: usize = 20_000;
+const ESCAPES: usize = 20_000;
+/// Readings that refuse an escape at least.
+const REFUSED_ESCAPES: usize = 100_000;
 const RANDOM_BYTES: usize = 4_000_000;
 /// Of the texts with rows, one in so many; the tokens of all are compared.
 const SPARSELY: usize = 11;
@@ -132,6 +135,8 @@ struct Counts {
     texts: usize,
     readings: usize,
     answers: [usize; 16],
+    /// Readings that refused an escape in quotes.
+    escapes: usize,
     /// Nodes whose skips were checked.
     nodes: usize,
     slowest: Duration,
@@ -144,6 +149,7 @@ impl Counts {
             texts: 0,
             readings: 0,
             answers: [0; 16],
+            escapes: 0,
             nodes: 0,
             slowest: Duration::ZERO,
         }
@@ -162,6 +168,7 @@ impl Counts {
             }
         }
         self.answers[ours.answer.number as usize] += 1;
+        self.escapes += usize::from(in_quotes(text, theirs.answer));
         if theirs.answer.number == 0 {
             let words = &theirs.words[..theirs.answer.count * NODE_WORDS];
             skips::follow_from_parents(text, words)?;
@@ -253,7 +260,7 @@ impl Counts {
 
     fn every_answer(&self) -> Compared {
         match NUMBERS.iter().find(|number| self.answers[**number] == 0) {
-            None => Ok(()),
+            None => escapes_met(self.escapes, REFUSED_ESCAPES),
             Some(number) => Err(Difference(format!("no reading answered {number}"))),
         }
     }
@@ -264,10 +271,11 @@ impl Counts {
             .map(|number| format!("{number}: {}", self.answers[*number]))
             .collect();
         format!(
-            "{} texts, {} readings (answers {}), {} skips, slowest long text {:?}",
+            "{} texts, {} readings (answers {}; {} bad escapes), {} skips, slowest long text {:?}",
             self.texts,
             self.readings,
             answers.join(", "),
+            self.escapes,
             self.nodes,
             self.slowest
         )
@@ -325,6 +333,9 @@ fn run(counts: &mut Counts) -> Compared {
         counts.text(&text)?;
     }
     for text in arrow_texts(SEED, ARROWS).iter().chain(&arrow_rows()) {
+        counts.text(text)?;
+    }
+    for text in escape_texts(SEED, ESCAPES).iter().chain(&escape_rows()) {
         counts.text(text)?;
     }
     for text in random_bytes(SEED, RANDOM_BYTES) {

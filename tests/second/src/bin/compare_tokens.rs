@@ -5,7 +5,7 @@
 
 use second::archive;
 use second::compare::{finish, same, Compared, Difference};
-use second::generate::{long_texts, row_texts, texts};
+use second::generate::{escape_rows, escape_texts, long_texts, row_texts, texts};
 use second::token::{self, Lexed};
 use second::{front, samples};
 use std::process::ExitCode;
@@ -13,6 +13,7 @@ use std::time::{Duration, Instant};
 
 const SEED: u64 = 20_261_115;
 const GENERATED: usize = 20_000;
+const ESCAPES: usize = 10_000;
 /// For one pass over a text of 32 KB; a quadratic scan takes far longer.
 const TIME_BOUND: Duration = Duration::from_millis(50);
 
@@ -122,6 +123,9 @@ fn run(counts: &mut Counts) -> Compared {
     }
     for text in texts(SEED, GENERATED) {
         counts.text(&text)?;
+    }
+    for text in escape_texts(SEED, ESCAPES).iter().chain(&escape_rows()) {
+        counts.text(text)?;
     }
     for text in row_texts() {
         counts.text(&text)?;

@@ -1,20 +1,24 @@
 //! Compares this package's value calls with those of the verified archive:
 //! number, place and count, the integer, and every byte of the lent buffer.
-//! Checks of both that the reader judges a Blob as the Blob call does.
+//! Checks of both that the reader judges a Blob as the Blob call does, and a Text
+//! as the Text call does, at the same place.
 //!
 //! Exits with 1 at the first disagreement.
 
 use second::answer::{Answer, BAD_VALUE, NO_ROOM};
-use second::compare::{finish, listed, same, Compared, Difference};
+use second::compare::{escapes_met, finish, in_quotes, listed, same, Compared, Difference};
 use second::generate::{
-    long_packed_pieces, long_pieces, packed_pieces, pieces, random_packed_pieces, row_texts,
-    sample_pieces, short_pieces, two_groups, Random,
+    escape_pieces, long_packed_pieces, long_pieces, packed_pieces, pieces, random_escape_pieces,
+    random_packed_pieces, row_texts, sample_pieces, short_pieces, two_groups, Random,
 };
 use second::{tree, value};
 use std::process::ExitCode;
 
 const SEED: u64 = 20_261_117;
 const GENERATED: usize = 200_000;
+const ESCAPES: usize = 40_000;
+/// Texts that are refused for an escape at least.
+const REFUSED_ESCAPES: usize = 10_000;
 /// Of the texts with rows, one in so many.
 const SPARSELY: usize = 7;
 /// Bytes behind the lent buffer, which no call may touch.
@@ -54,22 +58,22 @@ const WRITING: [Writing; 3] = [
     },
 ];
 
-/// A program's Blob call and its reader.
+/// A program's Blob call, its Text call and its reader.
 struct Program {
     name: &'static str,
-    blob: Call,
+    calls: [(&'static str, Call); 2],
     read: fn(u32, &[u8], &mut [u32]) -> Answer,
 }
 
 const PROGRAMS: [Program; 2] = [
     Program {
         name: "second",
-        blob: value::blob,
+        calls: [("Blob", value::blob), ("Text", value::text)],
         read: tree::read,
     },
     Program {
         name: "archive",
-        blob: archive::blob,
+        calls: [("Blob", archive::blob), ("Text", archive::text)],
         read: archive::read,
     },
 ];
@@ -115,13 +119,14 @@ fn written(call: Call, piece: &[u8], length: usize) -> (Answer, Vec<u8>) {
     (answer, bytes)
 }
 
-/// A Blob is refused with 5 by the reader, at both levels, exactly if it is by
-/// the Blob call; else it is a text of one node, for which no room is lent.
-/// Whether the piece is one.
-fn judged_alike(program: &Program, piece: &[u8]) -> Result<bool, Difference> {
-    let call = (program.blob)(piece, &mut []);
-    let expected = match call.number {
-        BAD_VALUE => call,
+/// A Blob or a Text is refused with 5 by the reader, at both levels and at the
+/// same place, exactly if it is by the call; else it is a text of one node, for
+/// which no room is lent.  Whether the piece is one.
+fn judged_alike(program: &Program, kind: usize, piece: &[u8]) -> Result<bool, Difference> {
+    let (name, call) = program.calls[kind];
+    let answer = call(piece, &mut []);
+    let expected = match answer.number {
+        BAD_VALUE => answer,
         0 | NO_ROOM => Answer::no_room(piece.len(), 1),
         _ => return Ok(false),
     };
@@ -129,7 +134,7 @@ fn judged_alike(program: &Program, piece: &[u8]) -> Result<bool, Difference> {
         let read = (program.read)(level, piece, &mut []);
         if read != expected {
             return Err(Difference(format!(
-                "b\"{}\" ({} bytes) in {}\n  Blob call: {call:?}\n  level {level}:   {read:?}",
+                "b\"{}\" ({} bytes) in {}\n  {name} call: {answer:?}\n  level {level}:   {read:?}",
                 piece.escape_ascii(),
                 piece.len(),
                 program.name
@@ -139,12 +144,14 @@ fn judged_alike(program: &Program, piece: &[u8]) -> Result<bool, Difference> {
     Ok(true)
 }
 
-/// What was compared: pieces, Blobs among them that were read too, and the
-/// answers of each call by their numbers.
+/// What was compared: pieces, Blobs and Texts among them that were read too,
+/// Texts with an escape that is refused, and the answers of each call by their
+/// numbers.
 struct Counts {
     random: Random,
     pieces: usize,
-    read: usize,
+    read: [usize; 2],
+    escapes: usize,
     integers: [usize; 12],
     written: [[usize; 12]; WRITING.len()],
 }
@@ -154,7 +161,8 @@ impl Counts {
         Counts {
             random: Random::new(SEED),
             pieces: 0,
-            read: 0,
+            read: [0; 2],
+            escapes: 0,
             integers: [0; 12],
             written: [[0; 12]; WRITING.len()],
         }
@@ -202,12 +210,17 @@ impl Counts {
             }
         }
         for program in &PROGRAMS {
-            self.read += usize::from(judged_alike(program, piece)?);
+            for (kind, read) in self.read.iter_mut().enumerate() {
+                *read += usize::from(judged_alike(program, kind, piece)?);
+            }
         }
+        let text = archive::text(piece, &mut []);
+        self.escapes += usize::from(in_quotes(piece, text));
         Ok(())
     }
 
     fn every_answer(&self) -> Compared {
+        escapes_met(self.escapes, REFUSED_ESCAPES)?;
         met("integer", &self.integers, INTEGER_NUMBERS)?;
         let mut written = WRITING.iter().zip(&self.written);
         written.try_for_each(|(call, answers)| met(call.name, answers, call.numbers))
@@ -222,10 +235,12 @@ impl Counts {
             .chain(calls)
             .map(|(name, answers, numbers)| format!(", {name} ({})", listed(answers, numbers)));
         format!(
-            "{} pieces{}, {} Blobs read",
+            "{} pieces{}, {} Blobs and {} Texts read, {} of these with a bad escape",
             self.pieces,
             each.collect::<String>(),
-            self.read / PROGRAMS.len()
+            self.read[0] / PROGRAMS.len(),
+            self.read[1] / PROGRAMS.len(),
+            self.escapes
         )
     }
 }
@@ -245,6 +260,8 @@ fn run(counts: &mut Counts) -> Compared {
         short_pieces(),
         long_pieces(),
         pieces(SEED, GENERATED),
+        escape_pieces(),
+        random_escape_pieces(SEED, ESCAPES),
         packed_pieces(),
         two_groups(),
         long_packed_pieces(),

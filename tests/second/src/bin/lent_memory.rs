@@ -18,9 +18,9 @@ use muon as _;
 use second::answer::{Answer, DEPTH_MAX, NODES_MAX, NODE_WORDS, TEXT_MAX};
 use second::compare::{accepted_bytes, finish, same, Compared};
 use second::generate::{
-    around, arrow_texts, deep_forms, encoded_texts, flipped, framed, long_packed_pieces,
-    long_texts, packed_pieces, pieces, random_bytes, random_packed_pieces, row, sample_pieces,
-    texts, Random, FRAMES, RUN_MAX,
+    around, arrow_texts, deep_forms, encoded_texts, escape_texts, flipped, framed,
+    long_packed_pieces, long_texts, packed_pieces, pieces, random_bytes, random_escape_pieces,
+    random_packed_pieces, row, sample_pieces, texts, Random, FRAMES, RUN_MAX,
 };
 use second::tree::Rules;
 use second::utf8::{self, Tested};
@@ -33,6 +33,7 @@ use std::slice;
 const SEED: u64 = 20_261_115;
 const GENERATED: usize = 1_500;
 const ARROWS: usize = 300;
+const ESCAPES: usize = 300;
 const RANDOM_BYTES: usize = 60_000;
 /// Of the short pieces for Blobs and Bits, one in so many.
 const SPARSELY: usize = 40;
@@ -507,6 +508,7 @@ fn all_values(values: &mut usize) -> Compared {
     let lists = [
         packed_pieces().into_iter().step_by(SPARSELY).collect(),
         pieces(SEED, GENERATED),
+        random_escape_pieces(SEED, ESCAPES),
         random_packed_pieces(SEED, GENERATED),
         long_packed_pieces()
             .into_iter()
@@ -560,6 +562,7 @@ fn written_texts() -> Vec<Vec<u8>> {
         .collect();
     all.extend(texts(SEED, GENERATED));
     all.extend(arrow_texts(SEED, ARROWS));
+    all.extend(escape_texts(SEED, ESCAPES));
     all.extend(deep_texts());
     all.extend(deep_forms("<-").into_iter().step_by(LONG_SPARSELY));
     all.extend(long_texts().into_iter().step_by(LONG_SPARSELY));
@@ -607,6 +610,9 @@ fn all_readings(readings: &mut usize) -> Compared {
     }
     for arrows in arrow_texts(SEED, ARROWS) {
         text(&arrows, readings)?;
+    }
+    for escapes in escape_texts(SEED, ESCAPES) {
+        text(&escapes, readings)?;
     }
     for bytes in random_bytes(SEED, RANDOM_BYTES) {
         text(&bytes, readings)?;

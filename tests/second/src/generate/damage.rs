@@ -15,7 +15,7 @@ pub fn arrow_text(random: &mut Random) -> Vec<u8> {
     damaged(text, random)
 }
 
-fn damaged(mut text: Vec<u8>, random: &mut Random) -> Vec<u8> {
+pub fn damaged(mut text: Vec<u8>, random: &mut Random) -> Vec<u8> {
     for _ in 0..1 + random.below(3) {
         damage(&mut text, random);
     }

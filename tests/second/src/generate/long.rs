@@ -35,7 +35,7 @@ fn commented(front: &str, rear: &str) -> Shape {
 }
 
 pub fn long_shapes() -> Vec<Shape> {
-    let all = [segments(), groups(), comments(), tokens()];
+    let all = [segments(), escapes(), groups(), comments(), tokens()];
     all.into_iter().flatten().collect()
 }
 
@@ -58,6 +58,25 @@ fn segments() -> Vec<Shape> {
         filled("\"\\", "\\<0cx", "0>\""),
         filled("\"\\\\<0cx", "0", ">\""),
         filled("::", "\"a\" ", "\""),
+    ]
+}
+
+/// With an escape out of range, or many.
+fn escapes() -> Vec<Shape> {
+    vec![
+        filled("\"\\", "a", "\\<0cxD800>\""),
+        filled("\"\\", "\\<0c65>", "\\<0cxD800>\""),
+        filled("\"\\", "\\<0cxD800>", "\""),
+        filled("\"\\\\<0cxD800>", "a", "\""),
+        filled("\"\\\\<0cx", "0", "D800>\""),
+        filled("\"\\\\<0c", "9", ">\""),
+        filled("", "\"a\" ", "\"\\\\<0cxD800>\""),
+        filled("", "\"a\\<0cxD800>\" ", "\"\\\\<0cxD800>\""),
+        filled("", "\"\\\\<0cxD800>\" ", "\"unclosed"),
+        filled("\"a\"`", "c", "`\"\\\\<0cxD800>\""),
+        filled("{", "\"\\\\<0c65>\",", "\"\\\\<0cxD800>\"}"),
+        filled("", "::\"\\\\<0c65>\"", "::\"\\\\<0cxD800>\""),
+        filled("", "(\"\\\\<0cxD800>\":", ""),
     ]
 }
 

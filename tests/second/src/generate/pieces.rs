@@ -75,7 +75,7 @@ pub fn surround(piece: &mut Vec<u8>, random: &mut Random) {
 
 /// Dividing space or none, some of it with what would be digits or quotes
 /// outside a comment.
-fn space(random: &mut Random) -> &'static str {
+pub fn space(random: &mut Random) -> &'static str {
     random.pick(&[
         "",
         "",
@@ -215,13 +215,13 @@ fn code(random: &mut Random) -> u128 {
     }
 }
 
-fn code_point_of(code: u128, random: &mut Random) -> String {
+pub fn code_point_of(code: u128, random: &mut Random) -> String {
     let (mark, base) = CODE_POINT_MARKS[random.below(5)];
     mark.to_string() + &zeros(random) + &digits(code, base)
 }
 
 /// Mostly one at the bounds of a spelling or of what quotes may hold.
-fn character(random: &mut Random) -> char {
+pub fn character(random: &mut Random) -> char {
     const EDGES: &[char] = &[
         '"',
         '`',

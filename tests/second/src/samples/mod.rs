@@ -1,6 +1,7 @@
 //! Texts with the answers the papers give for them.
 
 pub mod before;
+pub mod escapes;
 pub mod readings;
 pub mod scope;
 pub mod source;
@@ -66,11 +67,12 @@ const fn retired(text: &'static [u8], place: usize, old: Want) -> Sample {
     Sample { old, ..today }
 }
 
-/// All samples of all papers.
+/// All samples of all papers, and those of escapes out of range.
 pub fn all() -> Vec<Sample> {
     let readings = readings::EXAMPLES.iter().flat_map(|(_, samples)| *samples);
     let others = scope::EXAMPLES.iter().chain(source::EXAMPLES);
-    others.chain(readings).copied().collect()
+    let all = others.chain(readings).chain(escapes::EXAMPLES);
+    all.copied().collect()
 }
 
 /// A Lot of this even length with as many members `a` as fit.

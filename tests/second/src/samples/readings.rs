@@ -1,4 +1,4 @@
-//! The settled readings, sections A to D and R1 to R7, transcribed example by
+//! The settled readings, sections A to D and R1 to R8, transcribed example by
 //! example; where a request changes an answer of before, the new one.
 
 use super::{both, count, each, lacks, no, ok, retired, Sample, Want};
@@ -230,7 +230,7 @@ pub const EXAMPLES: &[(&str, &[Sample])] = &[
             both(b"\"a\"\"b\"", ok(&[[7, 0, 6, 0, 1]])),
             both(b"\"a\" \"b", no(4, 4)),
             both(b"\"a\" \"\\\\x\"", no(4, 4)),
-            both(b"\"\\\\<0cxD800>\" \"b", no(5, 0)),
+            both(b"\"\\\\<0cxD800>\" \"b", no(5, 2)),
             both(b"\"a\" b", no(6, 4)),
             both(b"::\"a\" \"b\"", ok(&[[8, 0, 9, 0, 0]])),
         ],
@@ -247,7 +247,7 @@ pub const EXAMPLES: &[(&str, &[Sample])] = &[
             both(b"\"\\\\<0c65>\"", ok(&[[7, 0, 10, 0, 1]])),
             both(b"\"\\\\<65>\"", no(4, 0)),
             both(b"\"\\\\< 0c65>\"", no(4, 0)),
-            both(b"\"\\\\<0cxD800>\"", no(5, 0)),
+            both(b"\"\\\\<0cxD800>\"", no(5, 2)),
             both(b"\"\\\\<0cxD800\"", no(4, 0)),
             both(b"\"\\<0cxD800>\"", ok(&[[7, 0, 12, 0, 1]])),
         ],
@@ -798,6 +798,16 @@ pub const EXAMPLES: &[(&str, &[Sample])] = &[
             ]),
         )],
     ),
+    (
+        "R8.1",
+        &[
+            both(b"\"\\\\<0cxD800>\"", no(5, 2)),
+            both(b"\"a\" \"\\b\\<0c65>\\<0cxD800>\\<0cxDFFF>\"", no(5, 14)),
+            both(b"x \"\\\\<0cxD800>\"", no(6, 2)),
+            both(b"::a::0cxD800", no(5, 5)),
+            both(b"(x:\"\\\\<0cx110000>\")", no(5, 5)),
+        ],
+    ),
 ];
 
 /// Text, words of the table, answer at level 2.
@@ -868,7 +878,8 @@ pub const TEXTS: &[BytesCall] = &[
     (b"0c0", 64, 0, 3, 1, b"\0"),
     (b"\"a\" ", 64, 9, 0, 0, b""),
     (b"\"ab\"", 0, 8, 4, 2, b""),
-    (b"\"\\\\<0cxD800>\"", 0, 5, 0, 0, b""),
+    (b"\"\\\\<0cxD800>\"", 0, 5, 2, 0, b""),
+    (b"\"a\" \"\\x\\<0cxD800>\"", 64, 5, 7, 0, b""),
 ];
 
 pub const BLOBS: &[BytesCall] = &[
@@ -910,6 +921,7 @@ pub const FILES: &[BytesCall] = &[
           \0\x07\0\x01\0\x02\0\0\0\x01\0\x02\0\x07\0\x03\0\x04\0\0\0\x02\0\x02",
     ),
     (b"(x", 64, 6, 2, 0, b""),
+    (b"(x:\"\\\\<0cx110000>\")", 64, 5, 5, 0, b""),
 ];
 
 /// Text, file and the number with which it is refused; place and count are 0.
@@ -952,7 +964,7 @@ pub const CONVERTED: &[BytesCall] = &[
     (b"{b<-a}", 64, 0, 6, 5, b"{a:b}"),
     (b"(b<-a)", 64, 0, 6, 5, b"(a:b)"),
     (b"(x:1,x:2)", 64, 0, 9, 9, b"(x:1,x:2)"),
-    (b"{a<-\"\\\\<0cxD800>\"}", 64, 5, 4, 0, b""),
+    (b"{a<-\"\\\\<0cxD800>\"}", 64, 5, 6, 0, b""),
     (b"(b<-a)", 4, 8, 6, 5, b""),
     (b"(a<-$", 0, 4, 4, 0, b""),
 ];
