@@ -44,15 +44,15 @@ extern "C" {
 
 /* The stack that a call needs at most, in bytes, whatever the input; muon_file_write, muon_file_check, muon_plain and muon_convert have
    another number.
-   Behind it: the frames of muon_read times the open brackets that there may be come to 30,208 bytes in the archive as built today, those of
-   muon_integer to 560, of muon_text to 880, of muon_blob and of muon_bits to 800 each and of muon_utf8 to 376; the most that was measured,
-   over the deepest texts and the longest ways through a literal, is 29,820, 556, 880, 796, 796 and 232 (tests/stack prints them and fails
-   if one exceeds the number here).
+   Behind it: the frames of muon_read times the open brackets that there may be come to 30,192 bytes in the archive as built today, those of
+   muon_integer to 560, of muon_text to 864, of muon_blob and of muon_bits to 800 each and of muon_utf8 to 376; the most that was
+   measured, over the deepest texts and the longest ways through a literal, is 29,804, 556, 864, 796, 796 and 232 (tests/stack prints
+   them and fails if one exceeds the number here).
    No call takes memory from anywhere else. */
 #define MUON_STACK_MAX 32768
 /* The stack that muon_file_write, muon_file_check, muon_plain and muon_convert need at most, since each reads the text into a table on its
-   stack. By the frames it comes to 58,928 bytes for each of them; 58,524 were measured for either call of stored files, 58,556 for
-   muon_plain and 58,540 for muon_convert (tests/stack, too). */
+   stack. By the frames it comes to 58,912 bytes for each of them; 58,508 were measured for either call of stored files, 58,540 for
+   muon_plain and 58,524 for muon_convert (tests/stack, too). */
 #define MUON_FILE_STACK_MAX (MUON_STACK_MAX + 4 * MUON_TABLE_MAX)
 
 /* ---- The answer ------------------------------------------------------------------------------------------------------------- */
@@ -77,7 +77,9 @@ extern "C" {
 /* No token starts here. That byte. */
 #define MUON_REFUSED_NO_TOKEN 4
 /* A bad value in a literal: a code point outside 0..D7FF and E000..10FFFF, denominator 0, radix below 2, or a base-64 Blob that RFC 4648
-   does not have (see muon_blob). The literal's first byte. */
+   does not have (see muon_blob). For a code point in quotes, the backslash of its escape, the first such one in the literal, in whichever
+   segment; else the literal's first byte, in a Nesting that of the Text. `"\\<0cxD800>"` is 5@2, `(x:"\\<0cx110000>")` is 5@5, and
+   `"a" "\b\<0c65>\<0cxD800>\<0cxDFFF>"` is 5@14, but `0cxD800` is 5@0, `::a::0cxD800` is 5@5 and `{1/0}` is 5@1. */
 #define MUON_REFUSED_BAD_VALUE 5
 /* A token in the wrong place. Its first byte; the end counts as a token at the text's length. */
 #define MUON_REFUSED_WRONG_PLACE 6
@@ -108,6 +110,7 @@ extern "C" {
    faulty one decides: at one token 4, 6, 15, 7, 5, 11 in this order, and whether an arrow `<-` is 6 is judged as if it were still allowed.
    8 comes last, so a text that gets it is accepted with a table of count * MUON_NODE_WORDS words, if the count is at most MUON_NODES_MAX.
    No other. `{a,b<-c}` is 15@4 and `(a<-$` is 15@2, but `(<-a)` is 6@1, `(,a<-b)` is 6@3, `(0L<-5)` is 7@1 and `(1/0<-b)` is 5@1.
+   The token that 5 is judged at is the literal, wherever in it the place is: `x "\\<0cxD800>"` is 6@2, and `"\\<0cxD800>" $` is 5@2.
    muon_integer: 2, 3, 9, 10 in this order, and no other.
    muon_text, muon_blob: 2, 3, 9, 5, 8 in this order, and no other. A piece that gets 8 is accepted with a buffer of count bytes
    (proved; `told-room` in `crates/values/proofs/Fits.antt`).
@@ -291,6 +294,10 @@ uint32_t muon_integer(const uint8_t *piece, size_t piece_len, int64_t *value, si
    Only a segment that begins with a backslash has escapes: `"\a\n"` is a and a line feed, `"a\n"` has the characters `a\n`, and
    `"\"` has no characters.
 
+   A code point out of range is 5, in quotes at the backslash of the first such escape, counted within the piece; bare at 0. As
+   number@place: in the Text call `"\\<0cxD800>"` is 5@2, `"a" "\x\<0cxD800>"` is 5@7 and `0cxD800` is 5@0. In a segment that has no
+   escapes it is not one either: `"a\<0cxD800>"` has the characters `a\<0cxD800>`.
+
    piece      piece_len bytes, read only; need not end in 0
    buffer     buffer_len bytes; what they held does not matter
    place      one size_t, written in every case
@@ -335,7 +342,7 @@ uint32_t muon_blob(const uint8_t *piece, size_t piece_len, uint8_t *buffer, size
 uint32_t muon_bits(const uint8_t *piece, size_t piece_len, uint8_t *buffer, size_t buffer_len, size_t *place, size_t *count);
 
 /* Reads a text at level 2, and writes its stored file from the start of a lent buffer on. Nothing is stored with an arrow any more: as a
-   text to be stored, `(b<-a)` is 15@2.
+   text to be stored, `(b<-a)` is 15@2. A refusal of the reader has the reader's place: as a text to be stored, `(x:"\\<0cxD800>")` is 5@5.
 
    text       text_len bytes, read only; need not end in 0
    buffer     buffer_len bytes; what they held does not matter
@@ -373,7 +380,8 @@ uint32_t muon_file_check(const uint8_t *text, size_t text_len, const uint8_t *fi
    a pair is this, `:` and that, however the text has it; commas stand only between members, and one behind a Tuple's single attribute.
    Everything else is as it stands in the text: signs, bases, zeros, code points, escapes, and the segments of a quoted text, side by side.
    `( , x : + 0d 1_0 , )` is written `(x:+0d10,)`, `((x):(y))` is written `(x:y)`, `{,a->b,}` is written `{a:b}`, `{,,}` is written `{}`,
-   `[ 1 <=*< 2 ]` is written `[1<=*<2]`, and `- 1 / 2 * 3 ^ - 4` is written `-1/2*3^-4`. As a text to be written plainly, `{b<-a}` is 15@2.
+   `[ 1 <=*< 2 ]` is written `[1<=*<2]`, and `- 1 / 2 * 3 ^ - 4` is written `-1/2*3^-4`. As a text to be written plainly, `{b<-a}` is 15@2
+   and `{"\\<0cxD800>"}` is 5@3.
 
    A bare word that is one of the thirteen heads, but is no head where it stands, is put in quotes: `(Array->5)` is written `("Array":5)`,
    and `::Set::a` is written `::"Set"::a`, but `(Set:{ , a : 0bTRUE , })` is written `(Set:{a:0bTRUE})`. By these quotes the plain form may
@@ -403,7 +411,7 @@ uint32_t muon_plain(uint32_t level, const uint8_t *text, size_t text_len, const 
    plain form (see muon_plain), which has no arrow, from the start of a lent buffer on. There `(b<-a)` was the pair of this a and that b.
    `(b<-a)` converts to `(a:b)`, `{a,b<-c}` converts to `{a,c:b}`, `( Mix <- 5 )` converts to `(5:"Mix")`, and `(a<-(b<-c))` converts to
    `((c:b):a)`. A text without an arrow converts to what muon_plain writes: `{,a->b,}` converts to `{a:b}`. As a text to be converted,
-   `(a<-$` is 4@4, and `(,a<-b)` is 6@3.
+   `(a<-$` is 4@4, `(,a<-b)` is 6@3, and `{a<-"\\<0cxD800>"}` is 5@6.
 
    It needs no table: the text is read as if into one of MUON_TABLE_MAX words. Read at the same level, what is written, if it has at most
    MUON_TEXT_MAX bytes, is accepted; it has the nodes that the text had by the rules of before, except that they have other places, that a

@@ -137,6 +137,15 @@ static void answers(void) {
         expect(level, "(0L<-5)", WORDS, MUON_REFUSED_NEWER_FORM, 1, 0);
         expect(level, "(1/0<-b)", WORDS, MUON_REFUSED_BAD_VALUE, 1, 0);
     }
+    /* a code point out of range: in quotes its escape, else the literal */
+    for (uint32_t level = 1; level <= 2; level++) {
+        expect(level, "\"\\\\<0cxD800>\"", WORDS, MUON_REFUSED_BAD_VALUE, 2, 0);
+        expect(level, "\"a\" \"\\b\\<0c65>\\<0cxD800>\\<0cxDFFF>\"", 0, MUON_REFUSED_BAD_VALUE, 14, 0);
+        expect(level, "(x:\"\\\\<0cx110000>\")", WORDS, MUON_REFUSED_BAD_VALUE, 5, 0);
+        expect(level, "(\"a\\<0cxD800>\"`c`\"\\\\<0cxDFFF>\":1,)", WORDS, MUON_REFUSED_BAD_VALUE, 19, 0);
+        expect(level, "x \"\\\\<0cxD800>\"", WORDS, MUON_REFUSED_WRONG_PLACE, 2, 0);
+        expect(level, "::a::0cxD800", WORDS, MUON_REFUSED_BAD_VALUE, 5, 0);
+    }
     /* nothing lent */
     size_t place = 1, count = 1;
     if (muon_read(2, NULL, 0, NULL, 0, &place, &count) != MUON_REFUSED_WRONG_PLACE || place != 0 || count != 0) exit(1);
@@ -236,6 +245,8 @@ static void texts(void) {
     expect_text("\"a\" `c` \"\\\\<0cx10FFFF>\"", BYTES, MUON_ACCEPTED, 23, 5, "a\xF4\x8F\xBF\xBF");
     expect_text("0c233", BYTES, MUON_ACCEPTED, 5, 2, "\xC3\xA9");
     expect_text("0cxD800", BYTES, MUON_REFUSED_BAD_VALUE, 0, 0, "");
+    expect_text("\"\\\\<0cxD800>\"", 0, MUON_REFUSED_BAD_VALUE, 2, 0, "");
+    expect_text("\"a\" \"\\x\\<0cxD800>\"", BYTES, MUON_REFUSED_BAD_VALUE, 7, 0, "");
     expect_text("\"a\" ", BYTES, MUON_REFUSED_NOT_THE_LITERAL, 0, 0, "");
     expect_text("\"\xFF\"", BYTES, MUON_REFUSED_NOT_UTF8, 1, 0, "");
     /* nothing lent */
@@ -377,6 +388,7 @@ static void files(void) {
     expect_written("(x", 64, MUON_REFUSED_WRONG_PLACE, 2, 0);
     expect_written("(x", 0, MUON_REFUSED_WRONG_PLACE, 2, 0);
     expect_written("1/0", 64, MUON_REFUSED_BAD_VALUE, 0, 0);
+    expect_written("(x:\"\\\\<0cxD800>\")", 64, MUON_REFUSED_BAD_VALUE, 5, 0);
     expect_written("(b<-a)", 64, MUON_REFUSED_RETIRED_ARROW, 2, 0);
     /* a form of level 2, and one beyond it */
     expect_written("[1..10]", 64, MUON_ACCEPTED, 7, MUON_FILE_BYTES(3));
@@ -494,6 +506,7 @@ static void plain_forms(void) {
         expect_plain(2, "(x", words, 0, MUON_REFUSED_WRONG_PLACE, 2, 0, "");
         expect_plain(2, "\xFF", words, BYTES, MUON_REFUSED_NOT_UTF8, 0, 0, "");
         expect_plain(2, "{b<-a}", words, BYTES, MUON_REFUSED_RETIRED_ARROW, 2, 0, "");
+        expect_plain(2, "{\"\\\\<0cxD800>\"}", words, BYTES, MUON_REFUSED_BAD_VALUE, 3, 0, "");
     }
     /* a table that is too short, one that is just long enough, and one that is another's */
     expect_plain(2, "(x:y)", 0, BYTES, MUON_REFUSED_NO_ROOM, 5, 3, "");
@@ -578,6 +591,7 @@ static void conversions(void) {
         expect_convert(2, "(,b<-a)", bytes, MUON_REFUSED_WRONG_PLACE, 3, 0, "");
         expect_convert(2, "(a<-$", bytes, MUON_REFUSED_NO_TOKEN, 4, 0, "");
         expect_convert(2, "(a<-1/0)", bytes, MUON_REFUSED_BAD_VALUE, 4, 0, "");
+        expect_convert(2, "{a<-\"\\\\<0cxD800>\"}", bytes, MUON_REFUSED_BAD_VALUE, 6, 0, "");
         expect_convert(2, "(b<-a)\xFF", bytes, MUON_REFUSED_NOT_UTF8, 6, 0, "");
     }
     /* nothing lent */
@@ -629,13 +643,14 @@ static void utf8(void) {
 static const char *const literals[] = {
     "",    "5",     "-0x F_F `c` 0", "1 2.3 4*0b1 0^- 0x F F", "-1/2_0*3 0^+4_0", "1/0*1^2", "0bx F_F", "0xyAAAA_AAAA AA==", "0xxFF FF",
     "0cx41", "word", "Relation",     "\"a\" \"\\\\<0cx10_FFFF>\\n\"", "\"\\\\<0cx10FFFF>\"", "::a::\"\\\\<0c65>\"", "0Lct", "`c", "1/2*3",
-    "\"\xF4\x8F\xBF\xBF\"", "Set:{1}", "(5)", "{5:1.5*2^3}",
+    "\"\xF4\x8F\xBF\xBF\"", "Set:{1}", "(5)", "{5:1.5*2^3}", "\"a\" `c` \"\\\\<0c65>\\<0cx0110000>\"", "::a::\"\\b\" \"\\\\<0cxD800>\"", "0cxD800",
 };
 
 /* And through the value of one. */
 static const char *const pieces[] = {
     "-`c` 0x `c` 7FFF FFFF `c` FFFF_FFFF", "-9223372036854775808", "9223372036854775808", "0b 1_0 1", "+0o 7 7", "0d 1", "99999999999999999999999",
-    "\"a\" `c` \"\\\\<0cx10FFFF>\\<0co7>\\<0cb1>\\<0cd9>\\n\" \"\xC3\xA9\"", "\"\\\\<0cxD800>\"", "0c1114111", "0c1114112", "0cb1", "\"\\\xF4\x8F\xBF\xBF\"",
+    "\"a\" `c` \"\\\\<0cx10FFFF>\\<0co7>\\<0cb1>\\<0cd9>\\n\" \"\xC3\xA9\"", "\"\\\\<0cxD800>\"", "\"a\" `c` \"\\\\<0c65>\\n\\<0cxDFFF>\"",
+    "0c1114111", "0c1114112", "0cb1", "\"\\\xF4\x8F\xBF\xBF\"",
     "\"\\", "\"a\" `c", "0cxF0\xFF",
     "0xb `c` 10101010_00000001 `1`", "0xb `c` 10101010_00000001`1` 11111111", "0xx `c` A7_05 `0` FF", "0xxA", "0xy `c` TWFu_TWE=", "0xyTWFu TQ== ",
     "0xyTWFu`=`TQ==", "0xyAB==", "0xyAAB=", "0xy====", "0xyAA==_AAAA", "0bb `c` 1_0`1` 1", "0bo `c` 7_0`1` 1", "0bx `c` F_0`1` A", "0bx", "0bb1_",

@@ -139,9 +139,11 @@ pub enum Refusal {
     NotUtf8 = 3,
     /// No token starts at the place.
     NoToken = 4,
-    /// A bad value in the literal that begins at the place: a code point
-    /// outside 0..D7FF and E000..10FFFF, denominator 0, radix below 2, or a
-    /// base-64 Blob that RFC 4648 does not have.
+    /// A bad value in a literal: a code point outside 0..D7FF and
+    /// E000..10FFFF, denominator 0, radix below 2, or a base-64 Blob that RFC
+    /// 4648 does not have; place: for a code point in quotes the backslash of
+    /// its escape, the first such one in the literal, else the literal's first
+    /// byte.
     BadValue = 5,
     /// The token that begins at the place stands where none such may; the
     /// end of the text is a token at the text's length.

@@ -38,6 +38,12 @@ pub const STACK_MAX: usize = 32_768;
 /// assert_eq!(answer.refusal(), Some(Refusal::RetiredArrow));
 /// assert_eq!(answer.place, 6);
 ///
+/// // an escape that is no character: the place is its backslash
+/// let text = br#"{site : "\\<0c67>\<0cxD800>reek"}"#;
+/// let answer = muon::read(2, text, &mut [0; 60]);
+/// assert_eq!(answer.refusal(), Some(Refusal::BadValue));
+/// assert!(text[answer.place..].starts_with(br"\<0cxD800>"));
+///
 /// // a table that is too short: the count tells what is needed
 /// let answer = muon::read(2, b"{a, b, c}", &mut []);
 /// assert_eq!(answer.refusal(), Some(Refusal::NoRoom));

@@ -53,6 +53,7 @@ pub fn integer(piece: &[u8]) -> IntegerAnswer {
 /// The literal is quoted, a word or a code point.  Accepted, exactly the first
 /// `count` bytes are written; refused, none.  What the buffer held doesn't
 /// matter.  Refusals are tested in the order 2, 3, 9, 5, 8; no other is given.
+/// The place of 5 is counted within the piece, as all places are.
 ///
 /// ```
 /// use muon::Refusal;
@@ -63,6 +64,13 @@ pub fn integer(piece: &[u8]) -> IntegerAnswer {
 /// assert_eq!(&buffer[..answer.count], b"a\n");
 /// let answer = muon::text(br#""a\n""#, &mut buffer);
 /// assert_eq!(&buffer[..answer.count], br"a\n");
+///
+/// // a code point that is no character's: the place is its escape's backslash,
+/// // or, bare, the literal's first byte
+/// let answer = muon::text(br#""a" "\x\<0cxD800>""#, &mut buffer);
+/// assert_eq!(answer.refusal(), Some(Refusal::BadValue));
+/// assert_eq!(answer.place, 7);
+/// assert_eq!(muon::text(b"0cxD800", &mut buffer).place, 0);
 ///
 /// // a buffer that is too short: the count tells what is needed
 /// let answer = muon::text(b"word", &mut buffer);

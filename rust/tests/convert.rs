@@ -84,6 +84,11 @@ fn every_refusal_of_the_reading() {
         (2, b"(b<-a)\xFF".to_vec(), refused(Refusal::NotUtf8, 6, 0)),
         (2, b"(a<-$".to_vec(), refused(Refusal::NoToken, 4, 0)),
         (2, b"(a<-1/0)".to_vec(), refused(Refusal::BadValue, 4, 0)),
+        (
+            1,
+            br#"{a<-"\\<0cxD800>"}"#.to_vec(),
+            refused(Refusal::BadValue, 6, 0),
+        ),
         (2, b"(b<-a".to_vec(), refused(Refusal::WrongPlace, 5, 0)),
         (2, b"(,b<-a)".to_vec(), refused(Refusal::WrongPlace, 3, 0)),
         (2, vec![], refused(Refusal::WrongPlace, 0, 0)),

@@ -90,6 +90,10 @@ fn every_refusal_of_a_writing() {
         (b"ab\xFF".to_vec(), refused(Refusal::NotUtf8, 2, 0)),
         (b"\"a".to_vec(), refused(Refusal::NoToken, 0, 0)),
         (b" 1/0".to_vec(), refused(Refusal::BadValue, 1, 0)),
+        (
+            br#"(x:"\\<0cx110000>")"#.to_vec(),
+            refused(Refusal::BadValue, 5, 0),
+        ),
         (b"(x".to_vec(), refused(Refusal::WrongPlace, 2, 0)),
         (vec![], refused(Refusal::WrongPlace, 0, 0)),
         (b"(Mix:{})".to_vec(), refused(Refusal::NewerForm, 0, 0)),

@@ -94,6 +94,11 @@ fn every_refusal_of_the_reader() {
         (2, b"ab\xFF".to_vec(), refused(Refusal::NotUtf8, 2, 0)),
         (2, b"\"a".to_vec(), refused(Refusal::NoToken, 0, 0)),
         (2, b" 1/0".to_vec(), refused(Refusal::BadValue, 1, 0)),
+        (
+            1,
+            br#"(x:"a" "\\<0cxD800>")"#.to_vec(),
+            refused(Refusal::BadValue, 9, 0),
+        ),
         (2, b"(x".to_vec(), refused(Refusal::WrongPlace, 2, 0)),
         (2, vec![], refused(Refusal::WrongPlace, 0, 0)),
         (1, b" [5]".to_vec(), refused(Refusal::NewerForm, 1, 0)),

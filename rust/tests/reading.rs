@@ -95,6 +95,33 @@ fn arrows_that_are_refused_otherwise() {
     }
 }
 
+/// For a code point in quotes the backslash of its escape, the first such one;
+/// the literal is judged where it begins.
+#[test]
+fn the_place_of_a_bad_value() {
+    for (text, refusal, place) in [
+        (&br#""\\<0cxD800>""#[..], Refusal::BadValue, 2),
+        (
+            br#""a" "\b\<0c65>\<0cxD800>\<0cxDFFF>""#,
+            Refusal::BadValue,
+            14,
+        ),
+        (br#"(x:"\\<0cx110000>")"#, Refusal::BadValue, 5),
+        (br#"("\\<0cxD800>":1,)"#, Refusal::BadValue, 3),
+        (br#"::a::"b" "\\<0cxD800>""#, Refusal::BadValue, 11),
+        (br#"{"a\<0cxD800>" "\\<0cxD800>"}"#, Refusal::BadValue, 17),
+        (br#""\\<0cxD800>" "unclosed"#, Refusal::BadValue, 2),
+        (br#"x "\\<0cxD800>""#, Refusal::WrongPlace, 2),
+        (b"::a::0cxD800", Refusal::BadValue, 5),
+        (b"{0xyAB==}", Refusal::BadValue, 1),
+        (b"(1/0:a)", Refusal::BadValue, 1),
+    ] {
+        for level in [1, 2] {
+            assert_eq!(refused(level, text), (Some(refusal), place), "{refusal}");
+        }
+    }
+}
+
 #[test]
 fn no_room_tells_the_need() {
     let mut table = [FILLED; 20];

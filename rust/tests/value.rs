@@ -160,7 +160,19 @@ fn refused_texts() {
         (b"\"a\xC3\"".to_vec(), Refusal::NotUtf8, 2),
         (b"0cxD800".to_vec(), Refusal::BadValue, 0),
         (b"0cx110000".to_vec(), Refusal::BadValue, 0),
-        (br#""a" "\\<0cxDFFF>""#.to_vec(), Refusal::BadValue, 0),
+        (br#""\\<0cxD800>""#.to_vec(), Refusal::BadValue, 2),
+        (br#""a" "\\<0cxDFFF>""#.to_vec(), Refusal::BadValue, 6),
+        (br#""a" "\x\<0cxD800>""#.to_vec(), Refusal::BadValue, 7),
+        (
+            br#""\\<0cxDFFF>" "\\<0cxD800>""#.to_vec(),
+            Refusal::BadValue,
+            2,
+        ),
+        (
+            br#""a\<0cxD800>" "\b\<0c1114112>""#.to_vec(),
+            Refusal::BadValue,
+            17,
+        ),
         (vec![b'a'; muon::TEXT_MAX + 1], Refusal::TooLong, 0),
     ] {
         assert_eq!(text(&piece), Err((refusal, place)), "{refusal}");
@@ -171,6 +183,24 @@ fn refused_texts() {
 fn a_bad_value_comes_before_no_room() {
     let bad = muon::text(br#""abc" "\\<0cxD800>""#, &mut []);
     assert_eq!(bad.accepted(), Err(Refusal::BadValue));
+    assert_eq!((bad.place, bad.count), (8, 0));
+}
+
+/// Every number that is no character's, by its escape and at its backslash.
+#[test]
+fn every_escape_out_of_range() {
+    for number in (0xD800..0xE000).chain([0x11_0000, u32::MAX]) {
+        for escape in [
+            format!(r"\<0c{number}>"),
+            format!(r"\<0cx{number:X}>"),
+            format!(r"\<0co{number:o}>"),
+            format!(r"\<0cb{number:b}>"),
+        ] {
+            let piece = format!(r#""\ {escape}""#);
+            let refused = Err((Refusal::BadValue, 3));
+            assert_eq!(text(piece.as_bytes()), refused, "{piece}");
+        }
+    }
 }
 
 #[test]
