@@ -1,4 +1,5 @@
-//! Accepted texts and pieces of a given length, each of one shape.
+//! Texts and pieces of a given length, each of one shape; accepted but for those with
+//! an escape out of range.
 
 use second::answer::{DEPTH_MAX, NODES_MAX};
 use std::iter;
@@ -46,6 +47,26 @@ pub const UTF8_SHAPES: [(&str, Shape); 4] = [
     ("utf8-threes", |size| filled("霜の夜", size).into_bytes()),
 ];
 
+/// One long Text, of letters or of escapes, whose last escape is a character's.
+pub const ESCAPE_SHAPES: [(&str, Shape); 2] = [
+    ("last-escape", |size| escaped(PLAIN, SOUND, size)),
+    ("escapes", |size| escaped("\\<0c65>", SOUND, size)),
+];
+/// The same with one that is out of range.
+pub const BAD_ESCAPE_SHAPES: [(&str, Shape); 2] = [
+    ("bad-last-escape", |size| escaped(PLAIN, BAD, size)),
+    ("bad-escapes", |size| escaped("\\<0c65>", BAD, size)),
+];
+/// The same for the Text call.
+pub const TEXT_SHAPES: [(&str, Shape); 2] = [
+    ("text-last-escape", ESCAPE_SHAPES[0].1),
+    ("text-escapes", ESCAPE_SHAPES[1].1),
+];
+pub const BAD_TEXT_SHAPES: [(&str, Shape); 2] = [
+    ("text-bad-last", BAD_ESCAPE_SHAPES[0].1),
+    ("text-bad-escapes", BAD_ESCAPE_SHAPES[1].1),
+];
+
 /// The settings again, for what keeps them.
 pub const WRITE_SHAPES: [(&str, Shape); 1] = [("file-written", settings)];
 pub const CHECK_SHAPES: [(&str, Shape); 1] = [("file-checked", settings)];
@@ -86,6 +107,10 @@ const PLAIN: &str = "A page of the manual, pasted whole. ";
 const ACCENTED: &str = "Une page de la notice coll\u{e9}e enti\u{e8}re. ";
 /// The same in a language with characters of one, two and three bytes.
 const FOREIGN: &str = "Một trang của sách hướng dẫn, dán nguyên vào. ";
+
+/// Escapes of the same length.
+const SOUND: &str = "\\<0cxE000>";
+const BAD: &str = "\\<0cxD800>";
 
 /// A word so long that 32 KB of them have fewer than 1,024 nodes.
 const WORD: &str = "a_setting_with_a_name_of_33_bytes";
@@ -173,6 +198,14 @@ fn short_comments(size: usize) -> Vec<u8> {
 /// One Text of one segment.
 fn quoted(words: &str, size: usize) -> Vec<u8> {
     format!("\"{}\"", filled(words, size - 2)).into_bytes()
+}
+
+/// One Text of one segment with escapes: the unit as often as fits, and this one.
+fn escaped(unit: &str, last: &str, size: usize) -> Vec<u8> {
+    let room = size - "\"\\\"".len() - last.len();
+    let units = unit.repeat(room / unit.len());
+    let space = " ".repeat(room % unit.len());
+    format!("\"\\{space}{units}{last}\"").into_bytes()
 }
 
 fn word(size: usize) -> Vec<u8> {

@@ -8,10 +8,11 @@
 mod inputs;
 
 use inputs::{
-    grouped, Shape, BITS_SHAPES, BLOB_SHAPES, CHECK_SHAPES, CONVERT_SHAPES, PLAIN_SHAPES, SHAPES,
-    SIZES, UTF8_SHAPES, WALK_SHAPES, WRITE_SHAPES,
+    grouped, Shape, BAD_ESCAPE_SHAPES, BAD_TEXT_SHAPES, BITS_SHAPES, BLOB_SHAPES, CHECK_SHAPES,
+    CONVERT_SHAPES, ESCAPE_SHAPES, PLAIN_SHAPES, SHAPES, SIZES, TEXT_SHAPES, UTF8_SHAPES,
+    WALK_SHAPES, WRITE_SHAPES,
 };
-use second::answer::DEPTH_MAX;
+use second::answer::{BAD_VALUE, DEPTH_MAX};
 use second::generate::long_shapes;
 use second::{file, plain, tree, utf8, value};
 use std::hint::black_box;
@@ -60,6 +61,14 @@ const READ: Calls = [
     }),
     ("second", |text, lent| {
         tree::read(LEVEL, text, &mut lent.table).number
+    }),
+];
+const TEXT: Calls = [
+    ("proved", |piece, lent| {
+        muon::text(piece, &mut lent.buffer).number
+    }),
+    ("second", |piece, lent| {
+        value::text(piece, &mut lent.buffer).number
     }),
 ];
 const BLOB: Calls = [
@@ -129,14 +138,32 @@ const UTF8: Calls = [
     ("second", |text, _| utf8::test(text).number),
 ];
 
-/// Every shape that is accepted, and what it is given to.
-fn shapes() -> Vec<(&'static str, Shape, Calls)> {
-    let with = |shapes: &[(&'static str, Shape)], calls: Calls| {
-        let given = |&(name, shape): &(&'static str, Shape)| (name, shape, calls);
+/// A shape, what it is given to, and the number that is answered.
+#[derive(Clone, Copy)]
+struct Case {
+    name: &'static str,
+    shape: Shape,
+    calls: Calls,
+    number: u32,
+}
+
+fn cases() -> Vec<Case> {
+    let answered = |shapes: &[(&'static str, Shape)], calls: Calls, number: u32| {
+        let given = |&(name, shape): &(&'static str, Shape)| Case {
+            name,
+            shape,
+            calls,
+            number,
+        };
         shapes.iter().map(given).collect::<Vec<_>>()
     };
+    let with = |shapes: &[(&'static str, Shape)], calls| answered(shapes, calls, 0);
     [
         with(&SHAPES, READ),
+        with(&ESCAPE_SHAPES, READ),
+        answered(&BAD_ESCAPE_SHAPES, READ, BAD_VALUE),
+        with(&TEXT_SHAPES, TEXT),
+        answered(&BAD_TEXT_SHAPES, TEXT, BAD_VALUE),
         with(&BLOB_SHAPES, BLOB),
         with(&BITS_SHAPES, BITS),
         with(&WRITE_SHAPES, WRITE),
@@ -165,11 +192,12 @@ fn bytes_per_second(call: Call, text: &[u8]) -> f64 {
 }
 
 fn times() {
-    for (name, shape, calls) in shapes() {
+    for case in cases() {
         for size in SIZES {
-            let text = shape(size);
-            let [proved, second] = calls.map(|(_, call)| bytes_per_second(call, &text) / 1e6);
-            println!("{name} {} {proved:.1} {second:.1}", text.len());
+            let text = (case.shape)(size);
+            let speed = |(_, call)| bytes_per_second(call, &text) / 1e6;
+            let [proved, second] = case.calls.map(speed);
+            println!("{} {} {proved:.1} {second:.1}", case.name, text.len());
         }
     }
 }
@@ -180,16 +208,22 @@ fn counted(call: Call, text: &[u8], lent: &mut Lent) -> u32 {
     black_box(call(black_box(text), lent))
 }
 
-/// Every shape that is accepted, by both; then the long texts, most of them
-/// refused, plain and in groups, at two sizes.
+/// Every shape of the cases, by both; then the long texts, most of them refused,
+/// plain and in groups, at two sizes.
 fn readings() {
-    for (name, shape, calls) in shapes() {
+    for Case {
+        name,
+        shape,
+        calls,
+        number,
+    } in cases()
+    {
         for size in SIZES {
             let text = shape(size);
             let mut lent = Lent::new(&text);
             for (who, call) in calls {
-                let number = counted(call, &text, &mut lent);
-                assert_eq!(number, 0, "{name} of {size} bytes");
+                let answered = counted(call, &text, &mut lent);
+                assert_eq!(answered, number, "{name} of {size} bytes");
                 println!("{name} {} {who}", text.len());
             }
         }
