@@ -1,5 +1,5 @@
 -- A quoted Text with bad escapes has a first one, so every bad value has a place; both compute. Assumes nothing.
-use mathlib.Core.Path.{_≡_, refl}
+use mathlib.Core.Path.{_≡_, refl, subst}
 use mathlib.Core.Logic.{_⊎_, inl, inr}
 use mathlib.Core.List.{List, [], _∷_, _++_}
 use Prim.Native.Nat.{ℕ}
@@ -13,7 +13,7 @@ use Rattle.lexicon.specs.Literals.{unescaped, escape, segment}
 use Rattle.lexicon.specs.Bad.{BadEscape, BadSegment, BadFurther, BadQuoted, inFirst, inFurther, backslashOf, FirstBad}
 use Rattle.lexicon.specs.Token.{Bad, BadPlace, insideQuotes, firstByte}
 use Rattle.lexicon.proofs.Segments.{further, bad-takes}
-use Rattle.lexicon.proofs.Places.{not-quoted}
+use Rattle.lexicon.proofs.Places.{quoted-or-not}
 use Rattle.decisions.proofs.Cuts.{reaches, takes}
 use Rattle.decisions.proofs.Quoted.{badEscape, bad-escape}
 use Rattle.decisions.proofs.Listed.{Lists, in-words, just-one, either-list, only-if, tested-list, behind, behind-list, in-row, row-list, leastOf, least-is}
@@ -137,37 +137,19 @@ module _ (text : List ℕ) where
 
   -- ---- every kind
 
+  abbrev placeBy : {k : Kind} → (k ≡ Kind.Text Form.Quoted) ⊎ (k ≡ Kind.Text Form.Quoted → ⊥) → ℕ → ℕ → ℕ
+  placeBy (inl e) i j = firstBad i j
+  placeBy (inr n) i j = i
+
   abbrev pub placeOf : Kind → ℕ → ℕ → ℕ
-  placeOf Kind.Ignorance i j = i
-  placeOf (Kind.Boolean b) i j = i
-  placeOf (Kind.Integer signed) i j = i
-  placeOf Kind.Fraction i j = i
-  placeOf Kind.Bits i j = i
-  placeOf Kind.Blob i j = i
-  placeOf (Kind.Text Form.Quoted) i j = firstBad i j
-  placeOf (Kind.Text Form.Word) i j = i
-  placeOf (Kind.Text (Form.HeadWord h)) i j = i
-  placeOf (Kind.Text Form.CodePoint) i j = i
-  placeOf Kind.Later i j = i
-  placeOf (Kind.Symbol s) i j = i
-  placeOf Kind.Colon i j = i
-  placeOf Kind.TwoColons i j = i
+  placeOf k i j = placeBy (quoted-or-not k) i j
 
   pub place-is : (k : Kind) {i j : ℕ} → Bad text k i j → BadPlace text k i j (placeOf k i j)
-  place-is Kind.Ignorance b = firstByte (not-quoted Kind.Ignorance refl) refl
-  place-is (Kind.Boolean o) b = firstByte (not-quoted (Kind.Boolean o) refl) refl
-  place-is (Kind.Integer signed) b = firstByte (not-quoted (Kind.Integer signed) refl) refl
-  place-is Kind.Fraction b = firstByte (not-quoted Kind.Fraction refl) refl
-  place-is Kind.Bits b = firstByte (not-quoted Kind.Bits refl) refl
-  place-is Kind.Blob b = firstByte (not-quoted Kind.Blob refl) refl
-  place-is (Kind.Text Form.Quoted) b = insideQuotes refl (first-bad b)
-  place-is (Kind.Text Form.Word) b = firstByte (not-quoted (Kind.Text Form.Word) refl) refl
-  place-is (Kind.Text (Form.HeadWord h)) b = firstByte (not-quoted (Kind.Text (Form.HeadWord h)) refl) refl
-  place-is (Kind.Text Form.CodePoint) b = firstByte (not-quoted (Kind.Text Form.CodePoint) refl) refl
-  place-is Kind.Later b = firstByte (not-quoted Kind.Later refl) refl
-  place-is (Kind.Symbol s) b = firstByte (not-quoted (Kind.Symbol s) refl) refl
-  place-is Kind.Colon b = firstByte (not-quoted Kind.Colon refl) refl
-  place-is Kind.TwoColons b = firstByte (not-quoted Kind.TwoColons refl) refl
+  place-is k {i} {j} b = by (quoted-or-not k)
+    where
+      by : (d : (k ≡ Kind.Text Form.Quoted) ⊎ (k ≡ Kind.Text Form.Quoted → ⊥)) → BadPlace text k i j (placeBy d i j)
+      by (inl e) = insideQuotes e (first-bad (subst (λ (x : Kind). Bad text x i j) e b))
+      by (inr n) = firstByte n refl
 
   pub bad-place : (k : Kind) (i j : ℕ) → Bad text k i j → (p : ℕ) × BadPlace text k i j p
   bad-place k i j b = (placeOf k i j, place-is k b)

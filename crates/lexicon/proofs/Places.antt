@@ -48,7 +48,7 @@ quotedKind TwoColons = false
 pub not-quoted : (k : Kind) → quotedKind k ≡ false → k ≡ Text Quoted → ⊥
 not-quoted k e q = clash (ap quotedKind q) e
 
-pub quoted-or-not : (k : Kind) → (k ≡ Text Quoted) ⊎ (k ≡ Text Quoted → ⊥)
+abbrev pub quoted-or-not : (k : Kind) → (k ≡ Text Quoted) ⊎ (k ≡ Text Quoted → ⊥)
 quoted-or-not Ignorance = inr (not-quoted Ignorance refl)
 quoted-or-not (Boolean b) = inr (not-quoted (Boolean b) refl)
 quoted-or-not (Integer signed) = inr (not-quoted (Integer signed) refl)

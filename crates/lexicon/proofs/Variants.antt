@@ -46,3 +46,7 @@ text-same e = cc
 -- a Text that is no head word
 pub not-head : {k : Kind} (f : Form) → k ≡ Kind.Text f → OneOf (0 ∷ 1 ∷ 3 ∷ []) (tagOf FormType.the-type f) → (h : Head) → k ≡ Kind.Text (Form.HeadWord h) → ⊥
 not-head f e x h q = no-head-word f x h (text-same (sym e ∙ q))
+
+-- a Text that is not quoted
+pub not-in-quotes : {k : Kind} (f : Form) → k ≡ Kind.Text f → OneOf (1 ∷ 2 ∷ 3 ∷ []) (tagOf FormType.the-type f) → k ≡ Kind.Text Form.Quoted → ⊥
+not-in-quotes f e x q = miss (1 ∷ 2 ∷ 3 ∷ []) 0 tt (subst (λ (y : Form). OneOf (1 ∷ 2 ∷ 3 ∷ []) (tagOf FormType.the-type y)) (text-same (sym e ∙ q)) x)

@@ -114,9 +114,9 @@ module _ (text : List ℕ) where
   Bad Colon i j = ⊥
   Bad TwoColons i j = ⊥
 
-  -- and the place that is told with it: 02, request 8, 'For a code point out of range inside quotes, 5 now gives the
-  -- backslash of that escape, the first such one, and no longer the literal's first byte. Bare code points are as
-  -- before'
+  -- and the place that is told with it: 01, 'first byte of the literal'; 02, request 8, 'For a code point out of range
+  -- inside quotes, 5 now gives the backslash of that escape, the first such one, and no longer the literal's first
+  -- byte. Bare code points are as before'
   pub data BadPlace (k : Kind) (i j place : ℕ) : Type 0 where
     insideQuotes : k ≡ Text Quoted → FirstBad text i j place → BadPlace k i j place
     firstByte : (k ≡ Text Quoted → ⊥) → place ≡ i → BadPlace k i j place

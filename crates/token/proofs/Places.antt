@@ -2,27 +2,18 @@
 use mathlib.Core.Path.{_≡_, refl, subst, sym, _∙_}
 use mathlib.Core.Logic.{_⊎_, inl, inr}
 use mathlib.Core.Bool.{true}
-use mathlib.Core.List.{List, [], _∷_}
+use mathlib.Core.List.{List}
 use Prim.Native.Nat.{ℕ}
-use types.Run.{OneOf, miss}
-use denote.Enum.Declared.{tagOf}
-use Rattle.lexicon.specs.declared.Form.{Form}
 use Rattle.lexicon.specs.declared.Form.the-variants.{Quoted}
 use Rattle.lexicon.specs.declared.Kind.{Kind}
 use Rattle.lexicon.specs.declared.Kind.the-variants.{Text}
 use Rattle.lexicon.specs.declared.Token as Token
 use Rattle.lexicon.specs.declared.Next.the-variants as Next
 use Rattle.lexicon.specs.Token.{Bad, BadPlace, insideQuotes, firstByte, Comes}
-use Rattle.lexicon.proofs.Form as FormType
-use Rattle.lexicon.proofs.Variants.{text-same}
 use Rattle.lexicon.proofs.Places.{quoted-or-not}
 use Rattle.string.specs.FirstBad.{Points}
 use Rattle.string.proofs.FirstBad.{one-point}
 use Rattle.token.specs.Places.{PointsIn}
-
--- a Text that is not quoted
-pub not-quoted : {k : Kind} (f : Form) → k ≡ Text f → OneOf (1 ∷ 2 ∷ 3 ∷ []) (tagOf FormType.the-type f) → k ≡ Text Quoted → ⊥
-not-quoted f e h q = miss (1 ∷ 2 ∷ 3 ∷ []) 0 tt (subst (λ (x : Form). OneOf (1 ∷ 2 ∷ 3 ∷ []) (tagOf FormType.the-type x)) (text-same (sym e ∙ q)) h)
 
 module _ (text : List ℕ) {t : Token.Token} where
   -- ---- the answer

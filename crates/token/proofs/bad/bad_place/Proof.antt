@@ -2,8 +2,8 @@
 use borrow.Author.Needs.{needs}
 use mathlib.Core.Path.{ap, _∙_}
 use Rattle.lexicon.specs.declared.Kind.the-variants.{Text}
-use Rattle.lexicon.proofs.Variants.{no-text}
-use Rattle.token.proofs.Places.{not-quoted, points-first, points-inside}
+use Rattle.lexicon.proofs.Variants.{no-text, not-in-quotes}
+use Rattle.token.proofs.Places.{points-first, points-inside}
 use Rattle.token.proofs.bad.bad_place.Statement.{statement}
 use Rattle.token.proofs.bad.bad_place.Tie as tie
 
@@ -17,7 +17,7 @@ enum-told : tie.Need-enum-told
 enum-told c = search needs
 
 returns-2 : tie.Need-returns-2
-returns-2 c = points-first _ (not-quoted _ (c .before .before .kind .given .1) (c .match2 .keys2))
+returns-2 c = points-first _ (not-in-quotes _ (c .before .before .kind .given .1) (c .match2 .keys2))
 
 first-bad-requires : tie.Need-first-bad-requires
 first-bad-requires c κs = search needs
