@@ -5,11 +5,9 @@ use mathlib.Core.List.{List}
 use Prim.Native.Nat.{ℕ}
 use native.Mathlib.Omega.{arith}
 use lib.ListN.{length}
-use Rattle.rules.specs.Class.{Class, just}
 use Rattle.rules.specs.Plain.{between}
 use Rattle.rules.specs.Rule.{lit, At}
 use Rattle.rules.proofs.Classes.{apart, apartSpan, includes, inSome}
-use Rattle.rules.proofs.Matches as Matches
 use Rattle.rules.proofs.Ways.{never, opens, never-takes, opens-at}
 use Rattle.rules.proofs.Windows.{piece-length}
 use Rattle.lexicon.specs.declared.Kind.{Kind}
@@ -26,10 +24,8 @@ use Rattle.reading.specs.Answers.{LevelOf, answer, Answers}
 use Rattle.values.specs.Exactly.{Exactly}
 use Rattle.values.specs.Bytes as Bytes
 use Rattle.values.specs.Blob.{blobCall, BlobAnswers}
-use Rattle.demands.proofs.Fives.{Begins, Valued, Agrees, bad-token, call-bad, five-read, five-called}
-
-abbrev pub zero : Class
-zero = just 0x30
+use Rattle.values.proofs.Shapes.{zero}
+use Rattle.demands.proofs.Fives.{whole, Begins, Valued, Agrees, bad-token, call-bad, five-read, five-called}
 
 pub zero-begins : Begins zero
 unfolding never apart apartSpan
@@ -69,7 +65,7 @@ blob-at (firstByte n e) s = e
 module _ (rules : Rules) (text table : List ℕ) (level : ℕ) {r : Answer} {left : List ℕ} (a : Answers rules text table level r left) {buffer : List ℕ} {c : Answer} {kept : List ℕ} where
   module _ {l : Level} (of : LevelOf level l) (x : Exactly blob text) (b : BlobAnswers rules text buffer c kept) where
     is : Is text Blob 0 (length text)
-    is = record { told = record { takes = x; most = λ m t. Matches.inside t (omega arith) } }
+    is = record { told = whole x }
 
     valued : Valued Blob (length text)
     valued = record { plainly = refl; value = _; steps = λ l. refl }

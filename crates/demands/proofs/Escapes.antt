@@ -8,9 +8,8 @@ use native.Mathlib.Omega.{arith}
 use lib.ListN.{length}
 use Rattle.rules.specs.Class.{Class, codes}
 use Rattle.rules.specs.Plain.{between}
-use Rattle.rules.specs.Rule.{At, Takes, left, right}
+use Rattle.rules.specs.Rule.{At, left, right}
 use Rattle.rules.proofs.Classes.{apart, apartSpan, includes, inSome}
-use Rattle.rules.proofs.Matches as Matches
 use Rattle.rules.proofs.Plain.{plain, row-matches}
 use Rattle.rules.proofs.Ways.{never, opens, opens-at}
 use Rattle.rules.proofs.Windows.{piece-length}
@@ -21,7 +20,7 @@ use Rattle.lexicon.specs.declared.Kind.the-variants.{Text}
 use Rattle.lexicon.specs.Bytes.{wordStart}
 use Rattle.lexicon.specs.Literals.{word, codePoint}
 use Rattle.lexicon.specs.Bad.{FirstBad}
-use Rattle.lexicon.specs.Token.{Lexeme, rule, aWord, Here, Is, Bad, BadPlace, insideQuotes, firstByte}
+use Rattle.lexicon.specs.Token.{aWord, Is, Bad, BadPlace, insideQuotes, firstByte}
 use Rattle.lexicon.proofs.Segments.{quote}
 use Rattle.lexicon.proofs.Unique.{token-forward}
 use Rattle.lexicon.proofs.Pieces.{token-within, token-formed, token-alone, bad-alone}
@@ -33,10 +32,10 @@ use Rattle.reading.specs.declared.Rules.{Rules}
 use Rattle.reading.specs.Answers.{LevelOf, Answers}
 use Rattle.values.specs.Exactly.{Exactly}
 use Rattle.values.specs.Text.{textLiteral, textCall, TextAnswers}
-use Rattle.values.proofs.Shapes.{quoted-first, quoted-bad, code-bad, word-good}
+use Rattle.values.proofs.Shapes.{zero, zero-code, quoted-first, quoted-bad, code-bad, word-good}
 use Rattle.demands.specs.Requests.{BadLiteral}
-use Rattle.demands.proofs.Fives.{Begins, Valued, Agrees, bad-token, call-bad, five-read, five-called}
-use Rattle.demands.proofs.Blobs.{zero, zero-begins}
+use Rattle.demands.proofs.Fives.{whole, Begins, Valued, Agrees, bad-token, call-bad, five-read, five-called}
+use Rattle.demands.proofs.Blobs.{zero-begins}
 
 -- ---- a Text literal, by how it is written
 
@@ -52,10 +51,6 @@ word-opens : opens wordStart word ≡ true
 unfolding opens includes inSome
 word-opens = refl
 
-code-opens : opens zero codePoint ≡ true
-unfolding opens includes inSome
-code-opens = refl
-
 valued : (f : Form) (end : ℕ) → Valued (Text f) end
 valued Quoted end = record { plainly = refl; value = _; steps = λ l. refl }
 valued Word end = record { plainly = refl; value = _; steps = λ l. refl }
@@ -68,7 +63,7 @@ module _ (text : List ℕ) where
   opening Quoted is = (quote, quote-begins, quoted-first text (is .told .takes))
   opening Word is = (wordStart, word-begins, opens-at text wordStart word word-opens (is .told .0 .takes))
   opening (HeadWord h) is = (wordStart, word-begins, opens-at text wordStart word word-opens (is .told .0 .takes))
-  opening CodePoint is = (zero, zero-begins, opens-at text zero codePoint code-opens (is .told .takes))
+  opening CodePoint is = (zero, zero-begins, opens-at text zero codePoint zero-code (is .told .takes))
 
   literal : (f : Form) → Is text (Text f) 0 (length text) → Exactly textLiteral text
   literal Quoted is = left (is .told .takes)
@@ -76,13 +71,10 @@ module _ (text : List ℕ) where
   literal (HeadWord h) is = right (left (is .told .0 .takes))
   literal CodePoint is = right (right (is .told .takes))
 
-  here : {l : Lexeme} → Takes text (rule l) 0 (length text) → Here text l 0 (length text)
-  here t = record { takes = t; most = λ m u. Matches.inside u (omega arith) }
-
   form-of : Exactly textLiteral text → (f : Form) × Is text (Text f) 0 (length text)
-  form-of (left t) = (Quoted, record { told = here t })
-  form-of (right (left t)) = (formOf text 0 (length text), record { told = told text aWord 0 (length text) (here t) })
-  form-of (right (right t)) = (CodePoint, record { told = here t })
+  form-of (left t) = (Quoted, record { told = whole t })
+  form-of (right (left t)) = (formOf text 0 (length text), record { told = told text aWord 0 (length text) (whole t) })
+  form-of (right (right t)) = (CodePoint, record { told = whole t })
 
   -- what is bad for the call is the token's bad value, at its place
   agrees : (f : Form) → Is text (Text f) 0 (length text) → Agrees textCall (Text f) text

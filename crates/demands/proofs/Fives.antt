@@ -10,7 +10,7 @@ use lib.ListN.{length}
 use Rattle.rules.specs.Class.{Class}
 use Rattle.rules.specs.Test.{Says}
 use Rattle.rules.specs.Rule.{Rule, opt, At, Takes, nothing, left, right}
-use Rattle.rules.proofs.Matches.{move-at}
+use Rattle.rules.proofs.Matches.{inside, move-at}
 use Rattle.rules.proofs.Tests.{says-no, says-yes}
 use Rattle.rules.proofs.Ways.{never, never-takes}
 use Rattle.lexicon.specs.declared.Token as Token
@@ -19,7 +19,7 @@ use Rattle.lexicon.specs.declared.Kind.{Kind}
 use Rattle.lexicon.specs.Utf8.{WellFormed}
 use Rattle.lexicon.specs.Space.{blank}
 use Rattle.lexicon.specs.Front.{Front, byteOrderMark, firstLine}
-use Rattle.lexicon.specs.Token.{Is, Bad, BadPlace, Comes}
+use Rattle.lexicon.specs.Token.{Lexeme, rule, Here, Is, Bad, BadPlace, Comes}
 use Rattle.lexicon.proofs.Spaces.{landed-here}
 use Rattle.lexicon.proofs.Determined.{formed-or-bad, past-end}
 use Rattle.lexicon.proofs.Places.{one-place, place-not-none}
@@ -44,6 +44,10 @@ use Rattle.values.specs.Bytes as Bytes
 use Rattle.values.specs.Bytes.{Call, BadPiece, BytesAnswers}
 
 -- ---- a text that is one literal
+
+-- no match reaches further than the text's end
+pub whole : {text : List ℕ} {l : Lexeme} → Takes text (rule l) 0 (length text) → Here text l 0 (length text)
+whole t = record { takes = t; most = λ m u. inside u (omega arith) }
 
 -- nothing that is dropped at the front begins with a byte of the class, nor does dividing space
 pub record Begins (c : Class) : Type 0 where

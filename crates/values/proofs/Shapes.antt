@@ -16,7 +16,7 @@ use Rattle.lexicon.proofs.Places.{one-first-bad}
 use Rattle.values.specs.QuotedBytes.{quote}
 use Rattle.values.specs.Text.{BadText}
 
-abbrev zero : Class
+abbrev pub zero : Class
 zero = just 0x30
 
 quote-word : never quote word ≡ true
@@ -31,7 +31,7 @@ zero-word : never zero word ≡ true
 unfolding never apart apartSpan
 zero-word = refl
 
-zero-code : opens zero codePoint ≡ true
+pub zero-code : opens zero codePoint ≡ true
 unfolding opens includes inSome
 zero-code = refl
 
