@@ -2,7 +2,7 @@
 -- two places, as a text by themselves, are the first use. Assumes nothing.
 use mathlib.Core.Path.{_≡_, sym, ap, subst, _∙_}
 use mathlib.Core.List.{List}
-use Prim.Native.Nat.{ℕ, _+_, _-_, _≤_, _<_}
+use Prim.Native.Nat.{ℕ, zero, suc, _+_, _-_, _≤_, _<_}
 use native.Mathlib.Omega.{arith}
 use lib.ListN.{length, getD, drop, List·getD-append}
 use lib.Seq.{getD-drop}
@@ -99,6 +99,31 @@ module _ (text : List ℕ) {i j : ℕ} (p : i ≤ j) (q : j ≤ length text) whe
         subst (λ (k : ℕ). F text k j) e
         (subst (λ (k : ℕ). F text (shift 0 i 0) k) f
         (m (between text i j) text 0 i (j - i) (turned piece-window) 0 (length (between text i j)) x (omega arith) (omega (arith, piece-length))))
+
+-- ---- windows made
+
+-- equal bytes between two places of each text
+pub same-window : (text other : List ℕ) (i j k l : ℕ) → i ≤ j → j ≤ length text → k ≤ l → l ≤ length other → between text i j ≡ between other k l →
+    (l ≡ k + (j - i)) × Window text other i k (j - i)
+same-window text other i j k l h g p q e =
+    let a = piece-window text h g in
+    let b = piece-window other p q in
+    let n : j - i ≡ l - k = sym (piece-length text h g) ∙ ap length e ∙ piece-length other p q in (
+      omega (arith, n, p),
+      record {
+        from-within = a .from-within;
+        to-within = omega (arith, n, p, q);
+        same = λ x m. a .same x m ∙ ap (λ (l : List ℕ). getD l (0 + x) 0) e ∙ sym (b .same x (omega (arith, m, n)));
+      },
+    )
+
+-- one byte more
+pub window-more : (a b : List ℕ) (p q n : ℕ) → getD a p 0 ≡ getD b q 0 → Window a b (p + 1) (q + 1) n → Window a b p q (1 + n)
+window-more a b p q n e w = record { from-within = omega (arith, w .from-within); to-within = omega (arith, w .to-within); same = go }
+  where
+    go : (x : ℕ) → x < 1 + n → getD a (p + x) 0 ≡ getD b (q + x) 0
+    go zero h = ap (λ (m : ℕ). getD a m 0) (omega arith) ∙ e ∙ ap (λ (m : ℕ). getD b m 0) (omega arith)
+    go (suc x) h = ap (λ (m : ℕ). getD a m 0) (omega arith) ∙ w .same x (omega (arith, h)) ∙ ap (λ (m : ℕ). getD b m 0) (omega arith)
 
 -- what a rule takes moves
 pub takes-moves : (r : Rule) → Moves (λ (text : List ℕ). Takes text r)
