@@ -4,12 +4,12 @@ use mathlib.Core.List.{List, _++_, map}
 use mathlib.Core.Option.{Option, some}
 use Prim.Native.Nat.{ℕ, _+_, _*_, _≤_, _<_}
 use native.Mathlib.Omega.{arith}
-use lib.ListN.{length, getD, drop, length-append, length-drop, List·getD-map}
+use lib.ListN.{length, drop, length-append, length-drop}
 use lib.Seq.{drop-at}
 use Rattle.grammar.specs.Tree.{Value}
 use Rattle.grammar.specs.Nodes.{Node, skipWord, wordAt, table, tableWords}
 use Rattle.grammar.specs.Stretches.{Stretches}
-use Rattle.grammar.proofs.NodeLaws.{tableWords-length, noNode, nodeAt, table-word}
+use Rattle.grammar.proofs.NodeLaws.{tableWords-length, as-many, same-at, table-word}
 use Rattle.reading.specs.declared.Answer.{Answer}
 use Rattle.reading.specs.declared.Rules.{Rules}
 use Rattle.reading.specs.Answers.{Answers, accepted}
@@ -18,7 +18,6 @@ use Rattle.reading.proofs.Numbers.{refused-number}
 use Rattle.reading.proofs.Tabled.{held-word, held-stretches}
 use Rattle.reading.proofs.Found.{found}
 use Rattle.form.specs.Turn.{unspelled}
-use Rattle.form.proofs.Tables.{long}
 
 module _ (rules : Rules) (text : List ℕ) where
   -- what an accepted reading writes, and leaves
@@ -49,14 +48,9 @@ module _ (rules : Rules) (text : List ℕ) where
   pub shown-table : (words : List ℕ) {level : ℕ} {r : Answer} {v : Value} → Tabled rules text words level r (some v) → Holds words v
   shown-table words (shown x is) = is
 
--- two rows of nodes that are the same but for their spelling
-same-stretch : (ns ms : List Node) (i : ℕ) → map unspelled ns ≡ map unspelled ms → nodeAt ns i .stretch ≡ nodeAt ms i .stretch
-same-stretch ns ms i e =
-    ap (λ (n : Node). n .stretch) (sym (List·getD-map unspelled ns i noNode) ∙ ap (λ (l : List Node). getD l i (unspelled noNode)) e ∙ List·getD-map unspelled ms i noNode)
-
 pub same-skips : (v w : Value) (rest words : List ℕ) (i : ℕ) → map unspelled (table v) ≡ map unspelled (table w) → Holds words w → i < length (table w) →
     wordAt (tableWords (table v) ++ rest) i skipWord ≡ wordAt words i skipWord
 same-skips v w rest words i e h l =
-    table-word (table v) rest i skipWord (omega (arith, long (table v) (table w) e, l)) (omega arith)
-    ∙ ap (λ (k : ℕ). i + k) (same-stretch (table v) (table w) i e)
+    table-word (table v) rest i skipWord (omega (arith, as-many unspelled (table v) (table w) e, l)) (omega arith)
+    ∙ ap (λ (n : Node). i + n .stretch) (same-at unspelled (table v) (table w) e i)
     ∙ sym (held-word words w h i skipWord l (omega arith))

@@ -11,7 +11,7 @@ use Rattle.grammar.specs.Nodes.{Role, table}
 use Rattle.form.specs.Turn.{unspelled, turn, turnPlain, turnItem, turnRow, turnListing, turnAttributes, turnBounds}
 use Rattle.grammar.proofs.Branches.{Branch, Branches, branch, none, more, flat, flats, grow, growPlain, growItem, growRow, growListing, growAttributes, growBounds}
 use Rattle.grammar.proofs.Flat.{table-flat}
-use Rattle.form.proofs.Tables.{long}
+use Rattle.grammar.proofs.NodeLaws.{as-many}
 
 abbrev mutual
   size : Branch → ℕ
@@ -116,4 +116,4 @@ turn-count v = table-size (turn v) ∙ value-size v Nodes.root Nodes.root ∙ sy
 
 -- trees with the nodes of the turned one have as many as the tree
 pub same-count : (v w : Value) → map unspelled (table w) ≡ map unspelled (table (turn v)) → length (table w) ≡ length (table v)
-same-count v w e = long (table w) (table (turn v)) e ∙ turn-count v
+same-count v w e = as-many unspelled (table w) (table (turn v)) e ∙ turn-count v

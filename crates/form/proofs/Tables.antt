@@ -2,13 +2,14 @@
 use mathlib.Core.Path.{_≡_, refl, sym, ap, _∙_}
 use mathlib.Core.List.{List, _++_, map, map-append}
 use Prim.Native.Nat.{ℕ, _+_}
-use lib.ListN.{length, length-map}
+use lib.ListN.{length}
 use Rattle.grammar.specs.Tree
 use Rattle.grammar.specs.Tree.{Value}
 use Rattle.grammar.specs.Nodes
 use Rattle.grammar.specs.Nodes.{Node, NodeKind, Role, nodes}
 use Rattle.form.specs.Turn.{otherDetail, unspelled, turn}
 use Rattle.grammar.proofs.Branches.{Branch, Branches, branch, none, more, flat, flats, grow}
+use Rattle.grammar.proofs.NodeLaws.{as-many}
 use Rattle.grammar.proofs.Flat.{flat-value}
 use Rattle.form.proofs.Normal.{norm}
 use Rattle.form.proofs.Grown.{bleach, bleaches, value-grown}
@@ -30,15 +31,11 @@ twice Nodes.aSet d = refl
 twice Nodes.aBag d = refl
 twice Nodes.anInterval d = refl
 
--- as many nodes
-pub long : (a b : List Node) → map unspelled a ≡ map unspelled b → length a ≡ length b
-long a b e = sym (length-map a unspelled) ∙ ap length e ∙ length-map b unspelled
-
 mutual
   pub flat-same : (b : Branch) (p n : ℕ) → map unspelled (flat b p n) ≡ map unspelled (flat (bleach b) p n)
   flat-same (branch k s r d bs) p n =
       let e = flats-same bs n (n + 1) in
-      cc (sym (twice k d), long (flats bs n (n + 1)) (flats (bleaches bs) n (n + 1)) e, e)
+      cc (sym (twice k d), as-many unspelled (flats bs n (n + 1)) (flats (bleaches bs) n (n + 1)) e, e)
 
   flats-same : (bs : Branches) (p n : ℕ) → map unspelled (flats bs p n) ≡ map unspelled (flats (bleaches bs) p n)
   flats-same none p n = refl
@@ -47,7 +44,7 @@ mutual
       map-append unspelled (flat b p n) (flats bs p (n + length (flat b p n))) ∙ ap (λ (l : List Node). l ++ map unspelled (flats bs p (n + length (flat b p n)))) e
       ∙ ap (λ (l : List Node). map unspelled (flat (bleach b) p n) ++ l)
       (flats-same bs p (n + length (flat b p n))
-      ∙ ap (λ (x : ℕ). map unspelled (flats (bleaches bs) p (n + x))) (long (flat b p n) (flat (bleach b) p n) e))
+      ∙ ap (λ (x : ℕ). map unspelled (flats (bleaches bs) p (n + x))) (as-many unspelled (flat b p n) (flat (bleach b) p n) e))
       ∙ sym (map-append unspelled (flat (bleach b) p n) (flats (bleaches bs) p (n + length (flat (bleach b) p n))))
 
 -- the normal tree has the nodes of the turned one

@@ -17,6 +17,7 @@ pub mod FirstNewer
 pub mod Compared
 pub mod Branches
 pub mod Flat
+pub mod Moved
 pub mod NodeLaws
 pub mod Stretches
 pub mod Forest

@@ -1,15 +1,18 @@
--- Laws of the nodes of a derivation: how many words they have, the words of two rows, and those of one node; the role is the first node's alone, and neither it nor the
+-- Laws of the nodes of a derivation: how many words they have, the words of two rows, and those of one node; a kind has a number of its own; the role is the first node's alone, and neither it nor the
 -- indices tell how many nodes there are. Assumes nothing.
 use mathlib.Core.Path.{_≡_, refl, sym, ap, ap₂, _∙_}
-use mathlib.Core.List.{List, [], _∷_, _++_, append-assoc}
+use mathlib.Core.Bool.{cond}
+use mathlib.Core.List.{List, [], _∷_, _++_, map, append-assoc}
 use Prim.Native.Nat.{ℕ, zero, suc, _+_, _*_, _≤_, _<_}
 use native.Mathlib.Nat.{not-suc-le-zero}
 use native.Mathlib.Omega.{arith}
-use lib.ListN.{length, getD, length-append, List·getD-append}
+use lib.Dec.{eqb}
+use lib.ListN.{length, getD, length-append, length-map, List·getD-append, List·getD-map}
 use lib.Seq.{getD-append-add}
 use Rattle.grammar.specs.Tree
 use Rattle.grammar.specs.Tree.{Value, Plain}
-use Rattle.grammar.specs.Nodes.{Node, anIgnorance, root, words, nodeWords, wordAt, wordsFrom, tableWords, Role, nodes, nodesPlain}
+use Rattle.grammar.specs.Nodes.{NodeKind, anIgnorance, aBoolean, anInteger, aFraction, aBits, aBlob, aText, aNesting, aPair, aTuple, aLot, anArray, aSet, aBag, anInterval, kindNumber}
+use Rattle.grammar.specs.Nodes.{Node, root, words, nodeWords, wordAt, wordsFrom, tableWords, Role, nodes, nodesPlain}
 use Rattle.grammar.proofs.Branches.{Branch, branch, Branches, none, more, flat, flats, grow}
 use Rattle.grammar.proofs.Flat.{flat-value}
 
@@ -33,6 +36,14 @@ noNode = record { kind = anIgnorance; at = record { first = 0; end = 0 }; parent
 abbrev pub nodeAt : List Node → ℕ → Node
 nodeAt ns i = getD ns i noNode
 
+-- nodes that are the same but for what a map drops are as many, and the same at each index
+module _ (f : Node → Node) (ns ms : List Node) (e : map f ns ≡ map f ms) where
+  pub as-many : length ns ≡ length ms
+  as-many = sym (length-map ns f) ∙ ap length e ∙ length-map ms f
+
+  pub same-at : (i : ℕ) → f (nodeAt ns i) ≡ f (nodeAt ms i)
+  same-at i = sym (List·getD-map f ns i noNode) ∙ ap (λ (l : List Node). getD l i (f noNode)) e ∙ List·getD-map f ms i noNode
+
 -- its word k, the first node being at index j
 pub word-of : (j : ℕ) (ns : List Node) (rest : List ℕ) (i k : ℕ) → i < length ns → k < nodeWords →
     wordAt (wordsFrom j ns ++ rest) i k ≡ getD (words (j + i) (nodeAt ns i)) k 0
@@ -55,6 +66,41 @@ word-of j (n ∷ ns) rest (suc i) k h g =
 pub table-word : (ns : List Node) (rest : List ℕ) (i k : ℕ) → i < length ns → k < nodeWords →
     wordAt (tableWords ns ++ rest) i k ≡ getD (words i (nodeAt ns i)) k 0
 table-word ns rest i k h g = word-of 0 ns rest i k h g ∙ ap (λ (j : ℕ). getD (words j (nodeAt ns i)) k 0) (omega arith)
+
+-- a kind by its number
+abbrev ofNumber : ℕ → NodeKind
+ofNumber n =
+    cond (eqb n 1) anIgnorance
+    (cond (eqb n 2) aBoolean
+    (cond (eqb n 3) anInteger
+    (cond (eqb n 4) aFraction
+    (cond (eqb n 5) aBits
+    (cond (eqb n 6) aBlob
+    (cond (eqb n 7) aText
+    (cond (eqb n 8) aNesting
+    (cond (eqb n 9) aPair
+    (cond (eqb n 10) aTuple
+    (cond (eqb n 11) aLot (cond (eqb n 12) anArray (cond (eqb n 13) aSet (cond (eqb n 14) aBag anInterval)))))))))))))
+
+of-number : (k : NodeKind) → ofNumber (kindNumber k) ≡ k
+of-number anIgnorance = refl
+of-number aBoolean = refl
+of-number anInteger = refl
+of-number aFraction = refl
+of-number aBits = refl
+of-number aBlob = refl
+of-number aText = refl
+of-number aNesting = refl
+of-number aPair = refl
+of-number aTuple = refl
+of-number aLot = refl
+of-number anArray = refl
+of-number aSet = refl
+of-number aBag = refl
+of-number anInterval = refl
+
+pub one-kind : (j k : NodeKind) → kindNumber j ≡ kindNumber k → j ≡ k
+one-kind j k e = sym (of-number j) ∙ ap ofNumber e ∙ of-number k
 
 -- the first node with another role
 abbrev pub roled : Role → List Node → List Node

@@ -69,12 +69,24 @@ words i n =
 abbrev pub nodeWords : ℕ
 nodeWords = 7
 
--- which of them, counted from 0, tells its parent's index, its role, and the index just past its last descendant
+-- which of them, counted from 0, tells what
+abbrev pub kindWord : ℕ
+kindWord = 0
+
+abbrev pub firstWord : ℕ
+firstWord = 1
+
+abbrev pub endWord : ℕ
+endWord = 2
+
 abbrev pub parentWord : ℕ
 parentWord = 3
 
 abbrev pub roleWord : ℕ
 roleWord = 4
+
+abbrev pub detailWord : ℕ
+detailWord = 5
 
 abbrev pub skipWord : ℕ
 skipWord = 6
