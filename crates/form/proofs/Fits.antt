@@ -69,7 +69,7 @@ numbers = 0x2A upto 0x2B ∷ 0x2D upto 0x39 ∷ "=" to "=" ∷ "A" to "Z" ∷ "^
 just-kept : (kept : Class) (b : ℕ) → Sub numbers kept → has numbers b ≡ true → Sub (just b) kept
 just-kept kept b n e = record { into = λ x i. subst (In kept) (sym (just-is b x i)) (n .into b e) }
 
-class-kept : (kept c : Class) → Sub numbers kept → includes c numbers ≡ true → Sub c kept
+pub class-kept : (kept c : Class) → Sub numbers kept → includes c numbers ≡ true → Sub c kept
 class-kept kept c n e = record { into = λ x i. n .into x (includes-in c numbers x e i) }
 
 -- they themselves, and digits among them
@@ -110,7 +110,7 @@ module _ (kept : Class) (n : Sub numbers kept) where
   pub nonsigned-fits : Fits kept ⊥ loose nonsigned exact
   nonsigned-fits = alt (base-fits Two) (alt (base-fits Eight) (alt (base-fits Ten) (base-fits Sixteen)))
 
-  sign-fits : Fits kept ⊥ loose sign loose
+  pub sign-fits : Fits kept ⊥ loose sign loose
   unfolding includes inSome
   sign-fits = alt (seq (one-of (class-kept kept plusMinus n refl)) space) none
 

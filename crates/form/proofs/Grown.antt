@@ -18,7 +18,7 @@ abbrev mutual
   bleaches none = none
   bleaches (more b bs) = more (bleach b) (bleaches bs)
 
-pub both : {a b : Branch} {bs cs : Branches} → a ≡ b → bs ≡ cs → more a bs ≡ more b cs
+both : {a b : Branch} {bs cs : Branches} → a ≡ b → bs ≡ cs → more a bs ≡ more b cs
 both e f = cc (e, f)
 
 plain-name-grown : (n : PlainName) (r : Role) → bleach (growPlainName (normPlainName n) r) ≡ bleach (growPlainName n r)

@@ -22,6 +22,8 @@ pub mod Plain
 pub mod Spelled
 pub mod Pieces
 pub mod Alone
+-- it is the same in another text where the tokens are spelled alike
+pub mod Respelled
 -- its tree: the normal one but for spans, of the level, with the same nodes and no more brackets open
 pub mod Reshape
 pub mod Normal
@@ -41,7 +43,6 @@ pub mod Answered
 -- every row of tokens of a level can be spelled
 pub mod Samples
 pub mod Yielded
-pub mod Kept
 pub mod Spellable
 -- the plain form as a walk over the node table finds it
 pub mod Walk

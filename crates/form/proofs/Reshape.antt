@@ -10,76 +10,47 @@ use Rattle.grammar.specs.Tokens.{Span, Tok, tok, Class}
 use Rattle.grammar.specs.Tree
 use Rattle.grammar.specs.Tree.{Names, PlainName, Name, Measure, Count, Style, Value, Plain, Item, Row, Listing, Attributes, Bounds}
 use Rattle.grammar.specs.Yield.{arrowMark, joinerMark, collectionHead, betweenMark, sideBound, yieldNames, yieldPlainName, yieldName, yieldCount, yieldValue, yieldPlain, yieldItem, yieldRow, yieldListing, yieldAttributes, yieldBounds}
+use Rattle.grammar.proofs.Moved.{moveNames, movePlainName, moveName, moveCount, move, movePlain, moveItem, moveRow, moveListing, moveAttributes, moveBounds}
 use Rattle.form.specs.Turn.{nowhere}
 use Rattle.form.specs.Spellable.{classes}
 
+-- every place moved to 0, and so every span to `nowhere`
+abbrev pub away : ℕ → ℕ
+away n = 0
+
+-- a tree without its spans, and its parts
 abbrev pub blankNames : Names → Names
-blankNames (Tree.oneName s w t) = Tree.oneName nowhere w nowhere
-blankNames (Tree.moreNames n s w t) = Tree.moreNames (blankNames n) nowhere w nowhere
+blankNames x = moveNames away x
 
 abbrev pub blankPlainName : PlainName → PlainName
-blankPlainName (Tree.textName w s) = Tree.textName w nowhere
-blankPlainName (Tree.nestingName n) = Tree.nestingName (blankNames n)
+blankPlainName x = movePlainName away x
 
 abbrev pub blankName : Name → Name
-blankName (Tree.plainName n) = Tree.plainName (blankPlainName n)
-blankName (Tree.bareName h s) = Tree.bareName h nowhere
+blankName x = moveName away x
 
 abbrev pub blankCount : {u : Measure} → Count u → Count u
-blankCount (Tree.number s) = Tree.number nowhere
-blankCount (Tree.truth b s) = Tree.truth b nowhere
+blankCount x = moveCount away x
 
-abbrev mutual
-  pub blank : Value → Value
-  blank (Tree.plain p) = Tree.plain (blankPlain p)
-  blank (Tree.bare h s) = Tree.bare h nowhere
+abbrev pub blank : Value → Value
+blank x = move away x
 
-  pub blankPlain : Plain → Plain
-  blankPlain (Tree.literal a s) = Tree.literal a nowhere
-  blankPlain (Tree.text w s) = Tree.text w nowhere
-  blankPlain (Tree.nesting n) = Tree.nesting (blankNames n)
-  blankPlain (Tree.group o v c) = Tree.group nowhere (blank v) nowhere
-  blankPlain (Tree.pair o p k v c) = Tree.pair nowhere (blankPlain p) nowhere (blank v) nowhere
-  blankPlain (Tree.arrowed o v a k w c) = Tree.arrowed nowhere (blank v) a nowhere (blank w) nowhere
-  blankPlain (Tree.tuple o l c) = Tree.tuple nowhere (blankAttributes l) nowhere
-  blankPlain (Tree.lot o l c) = Tree.lot nowhere (blankListing l) nowhere
-  blankPlain (Tree.counted o h s k b l d c) = Tree.counted nowhere h nowhere nowhere nowhere (blankListing l) nowhere nowhere
-  blankPlain (Tree.interval o b c) = Tree.interval nowhere (blankBounds b) nowhere
+abbrev pub blankPlain : Plain → Plain
+blankPlain x = movePlain away x
 
-  pub blankItem : {s : Style} → Item s → Item s
-  blankItem (Tree.alone v) = Tree.alone (blank v)
-  blankItem (Tree.openNamed n k v) = Tree.openNamed (blankPlainName n) nowhere (blank v)
-  blankItem (Tree.named n k v) = Tree.named (blankName n) nowhere (blank v)
-  blankItem (Tree.joined v j k w) = Tree.joined (blank v) j nowhere (blank w)
-  blankItem (Tree.times v k c) = Tree.times (blank v) nowhere (blankCount c)
+abbrev pub blankItem : {s : Style} → Item s → Item s
+blankItem x = moveItem away x
 
-  pub blankRow : {f s : Style} → Row f s → Row f s
-  blankRow (Tree.rowFirst i c) = Tree.rowFirst (blankItem i) nowhere
-  blankRow (Tree.rowLed b i c) = Tree.rowLed nowhere (blankItem i) nowhere
-  blankRow (Tree.rowNext o i c) = Tree.rowNext (blankRow o) (blankItem i) nowhere
+abbrev pub blankRow : {f s : Style} → Row f s → Row f s
+blankRow x = moveRow away x
 
-  pub blankListing : {s : Style} → Listing s → Listing s
-  blankListing Tree.noItem = Tree.noItem
-  blankListing (Tree.oneComma c) = Tree.oneComma nowhere
-  blankListing (Tree.twoCommas c d) = Tree.twoCommas nowhere nowhere
-  blankListing (Tree.oneItem i) = Tree.oneItem (blankItem i)
-  blankListing (Tree.ledItem c i) = Tree.ledItem nowhere (blankItem i)
-  blankListing (Tree.trailing o) = Tree.trailing (blankRow o)
-  blankListing (Tree.lastItem o i) = Tree.lastItem (blankRow o) (blankItem i)
+abbrev pub blankListing : {s : Style} → Listing s → Listing s
+blankListing x = moveListing away x
 
-  pub blankAttributes : Attributes → Attributes
-  blankAttributes Tree.noAttribute = Tree.noAttribute
-  blankAttributes (Tree.ledAttribute c i) = Tree.ledAttribute nowhere (blankItem i)
-  blankAttributes (Tree.trailingComma o) = Tree.trailingComma (blankRow o)
-  blankAttributes (Tree.lastAttribute o i) = Tree.lastAttribute (blankRow o) (blankItem i)
+abbrev pub blankAttributes : Attributes → Attributes
+blankAttributes x = moveAttributes away x
 
-  pub blankBounds : Bounds → Bounds
-  blankBounds Tree.empty = Tree.empty
-  blankBounds (Tree.single v) = Tree.single (blank v)
-  blankBounds (Tree.between v b k w) = Tree.between (blank v) b nowhere (blank w)
-  blankBounds (Tree.from v a k) = Tree.from (blank v) a nowhere
-  blankBounds (Tree.upTo a k v) = Tree.upTo a nowhere (blank v)
-  blankBounds (Tree.all k) = Tree.all nowhere
+abbrev pub blankBounds : Bounds → Bounds
+blankBounds x = moveBounds away x
 
 -- the first token, of a class that is known
 record First (c : Class) (r ts : List Tok) : Type 0 where
@@ -112,7 +83,7 @@ reshapeNames (Tree.moreNames n s w t) r ts e =
     let x0 = reshapeNames n (tok Tokens.names s ∷ (tok (Tokens.text w) t ∷ r)) ts e in
     let x1 = pop Tokens.names (tok (Tokens.text w) t ∷ r) (x0 .1) (x0 .3) in
     let x2 = pop (Tokens.text w) r (x1 .rest) (x1 .alike) in
-    (Tree.moreNames (x0 .0) (x1 .at) w (x2 .at), (x2 .rest), cc (x0 .2, x1 .begins, x2 .begins), (x2 .alike), cc (x0 .4))
+    (Tree.moreNames (x0 .0) (x1 .at) w (x2 .at), (x2 .rest), cc (x0 .2, x1 .begins, x2 .begins), (x2 .alike), λ i. Tree.moreNames (x0 .4 i) nowhere w nowhere)
 
 reshapePlainName : (x : PlainName) (r ts : List Tok) → classes ts ≡ classes (yieldPlainName x r) →
     (w : PlainName) × (q : List Tok) × (ts ≡ yieldPlainName w q) × (classes q ≡ classes r) × (blankPlainName w ≡ blankPlainName x)
@@ -121,13 +92,13 @@ reshapePlainName (Tree.textName w s) r ts e =
     (Tree.textName w (x0 .at), (x0 .rest), cc (x0 .begins), (x0 .alike), refl)
 reshapePlainName (Tree.nestingName n) r ts e =
     let x0 = reshapeNames n r ts e in
-    (Tree.nestingName (x0 .0), (x0 .1), cc (x0 .2), (x0 .3), cc (x0 .4))
+    (Tree.nestingName (x0 .0), (x0 .1), cc (x0 .2), (x0 .3), λ i. Tree.nestingName (x0 .4 i))
 
 reshapeName : (x : Name) (r ts : List Tok) → classes ts ≡ classes (yieldName x r) →
     (w : Name) × (q : List Tok) × (ts ≡ yieldName w q) × (classes q ≡ classes r) × (blankName w ≡ blankName x)
 reshapeName (Tree.plainName n) r ts e =
     let x0 = reshapePlainName n r ts e in
-    (Tree.plainName (x0 .0), (x0 .1), cc (x0 .2), (x0 .3), cc (x0 .4))
+    (Tree.plainName (x0 .0), (x0 .1), cc (x0 .2), (x0 .3), λ i. Tree.plainName (x0 .4 i))
 reshapeName (Tree.bareName h s) r ts e =
     let x0 = pop (Tokens.text (Tokens.headWord h)) r ts e in
     (Tree.bareName h (x0 .at), (x0 .rest), cc (x0 .begins), (x0 .alike), refl)
@@ -146,7 +117,7 @@ mutual
       (w : Value) × (q : List Tok) × (ts ≡ yieldValue w q) × (classes q ≡ classes r) × (blank w ≡ blank x)
   reshape (Tree.plain p) r ts e =
       let x0 = reshapePlain p r ts e in
-      (Tree.plain (x0 .0), (x0 .1), cc (x0 .2), (x0 .3), cc (x0 .4))
+      (Tree.plain (x0 .0), (x0 .1), cc (x0 .2), (x0 .3), λ i. Tree.plain (x0 .4 i))
   reshape (Tree.bare h s) r ts e =
       let x0 = pop (Tokens.text (Tokens.headWord h)) r ts e in
       (Tree.bare h (x0 .at), (x0 .rest), cc (x0 .begins), (x0 .alike), refl)
@@ -161,19 +132,19 @@ mutual
       (Tree.text w (x0 .at), (x0 .rest), cc (x0 .begins), (x0 .alike), refl)
   reshapePlain (Tree.nesting n) r ts e =
       let x0 = reshapeNames n r ts e in
-      (Tree.nesting (x0 .0), (x0 .1), cc (x0 .2), (x0 .3), cc (x0 .4))
+      (Tree.nesting (x0 .0), (x0 .1), cc (x0 .2), (x0 .3), λ i. Tree.nesting (x0 .4 i))
   reshapePlain (Tree.group o v c) r ts e =
       let x0 = pop Tokens.round (yieldValue v (tok (Tokens.mark Tokens.roundClose) c ∷ r)) ts e in
       let x1 = reshape v (tok (Tokens.mark Tokens.roundClose) c ∷ r) (x0 .rest) (x0 .alike) in
       let x2 = pop (Tokens.mark Tokens.roundClose) r (x1 .1) (x1 .3) in
-      (Tree.group (x0 .at) (x1 .0) (x2 .at), (x2 .rest), cc (x0 .begins, x1 .2, x2 .begins), (x2 .alike), cc (x1 .4))
+      (Tree.group (x0 .at) (x1 .0) (x2 .at), (x2 .rest), cc (x0 .begins, x1 .2, x2 .begins), (x2 .alike), λ i. Tree.group nowhere (x1 .4 i) nowhere)
   reshapePlain (Tree.pair o p k v c) r ts e =
       let x0 = pop Tokens.round (yieldPlain p (tok (Tokens.mark Tokens.colon) k ∷ (yieldValue v (tok (Tokens.mark Tokens.roundClose) c ∷ r)))) ts e in
       let x1 = reshapePlain p (tok (Tokens.mark Tokens.colon) k ∷ (yieldValue v (tok (Tokens.mark Tokens.roundClose) c ∷ r))) (x0 .rest) (x0 .alike) in
       let x2 = pop (Tokens.mark Tokens.colon) (yieldValue v (tok (Tokens.mark Tokens.roundClose) c ∷ r)) (x1 .1) (x1 .3) in
       let x3 = reshape v (tok (Tokens.mark Tokens.roundClose) c ∷ r) (x2 .rest) (x2 .alike) in
       let x4 = pop (Tokens.mark Tokens.roundClose) r (x3 .1) (x3 .3) in
-      (Tree.pair (x0 .at) (x1 .0) (x2 .at) (x3 .0) (x4 .at), (x4 .rest), cc (x0 .begins, x1 .2, x2 .begins, x3 .2, x4 .begins), (x4 .alike), cc (x1 .4, x3 .4))
+      (Tree.pair (x0 .at) (x1 .0) (x2 .at) (x3 .0) (x4 .at), (x4 .rest), cc (x0 .begins, x1 .2, x2 .begins, x3 .2, x4 .begins), (x4 .alike), λ i. Tree.pair nowhere (x1 .4 i) nowhere (x3 .4 i) nowhere)
   reshapePlain (Tree.arrowed o v a k w c) r ts e =
       let x0 = pop Tokens.round (yieldValue v (tok (Tokens.mark (arrowMark a)) k ∷ (yieldValue w (tok (Tokens.mark Tokens.roundClose) c ∷ r)))) ts e in
       let x1 = reshape v (tok (Tokens.mark (arrowMark a)) k ∷ (yieldValue w (tok (Tokens.mark Tokens.roundClose) c ∷ r))) (x0 .rest) (x0 .alike) in
@@ -184,19 +155,18 @@ mutual
         (x4 .rest),
         cc (x0 .begins, x1 .2, x2 .begins, x3 .2, x4 .begins),
         (x4 .alike),
-        cc
-            (x1 .4, x3 .4),
+        λ i. Tree.arrowed nowhere (x1 .4 i) a nowhere (x3 .4 i) nowhere,
       )
   reshapePlain (Tree.tuple o l c) r ts e =
       let x0 = pop Tokens.round (yieldAttributes l (tok (Tokens.mark Tokens.roundClose) c ∷ r)) ts e in
       let x1 = reshapeAttributes l (tok (Tokens.mark Tokens.roundClose) c ∷ r) (x0 .rest) (x0 .alike) in
       let x2 = pop (Tokens.mark Tokens.roundClose) r (x1 .1) (x1 .3) in
-      (Tree.tuple (x0 .at) (x1 .0) (x2 .at), (x2 .rest), cc (x0 .begins, x1 .2, x2 .begins), (x2 .alike), cc (x1 .4))
+      (Tree.tuple (x0 .at) (x1 .0) (x2 .at), (x2 .rest), cc (x0 .begins, x1 .2, x2 .begins), (x2 .alike), λ i. Tree.tuple nowhere (x1 .4 i) nowhere)
   reshapePlain (Tree.lot o l c) r ts e =
       let x0 = pop Tokens.curly (yieldListing l (tok (Tokens.mark Tokens.curlyClose) c ∷ r)) ts e in
       let x1 = reshapeListing l (tok (Tokens.mark Tokens.curlyClose) c ∷ r) (x0 .rest) (x0 .alike) in
       let x2 = pop (Tokens.mark Tokens.curlyClose) r (x1 .1) (x1 .3) in
-      (Tree.lot (x0 .at) (x1 .0) (x2 .at), (x2 .rest), cc (x0 .begins, x1 .2, x2 .begins), (x2 .alike), cc (x1 .4))
+      (Tree.lot (x0 .at) (x1 .0) (x2 .at), (x2 .rest), cc (x0 .begins, x1 .2, x2 .begins), (x2 .alike), λ i. Tree.lot nowhere (x1 .4 i) nowhere)
   reshapePlain (Tree.counted o h s k b l d c) r ts e =
       let x0 = pop Tokens.round (tok
       (Tokens.text (Tokens.headWord (collectionHead h))) s ∷ (tok
@@ -217,56 +187,56 @@ mutual
         cc
             (x0 .begins, x1 .begins, x2 .begins, x3 .begins, x4 .2, x5 .begins, x6 .begins),
         (x6 .alike),
-        cc (x4 .4),
+        λ i. Tree.counted nowhere h nowhere nowhere nowhere (x4 .4 i) nowhere nowhere,
       )
   reshapePlain (Tree.interval o b c) r ts e =
       let x0 = pop Tokens.square (yieldBounds b (tok (Tokens.mark Tokens.squareClose) c ∷ r)) ts e in
       let x1 = reshapeBounds b (tok (Tokens.mark Tokens.squareClose) c ∷ r) (x0 .rest) (x0 .alike) in
       let x2 = pop (Tokens.mark Tokens.squareClose) r (x1 .1) (x1 .3) in
-      (Tree.interval (x0 .at) (x1 .0) (x2 .at), (x2 .rest), cc (x0 .begins, x1 .2, x2 .begins), (x2 .alike), cc (x1 .4))
+      (Tree.interval (x0 .at) (x1 .0) (x2 .at), (x2 .rest), cc (x0 .begins, x1 .2, x2 .begins), (x2 .alike), λ i. Tree.interval nowhere (x1 .4 i) nowhere)
 
   reshapeItem : {s : Style} (x : Item s) (r ts : List Tok) → classes ts ≡ classes (yieldItem x r) →
       (w : Item s) × (q : List Tok) × (ts ≡ yieldItem w q) × (classes q ≡ classes r) × (blankItem w ≡ blankItem x)
   reshapeItem (Tree.alone v) r ts e =
       let x0 = reshape v r ts e in
-      (Tree.alone (x0 .0), (x0 .1), cc (x0 .2), (x0 .3), cc (x0 .4))
+      (Tree.alone (x0 .0), (x0 .1), cc (x0 .2), (x0 .3), λ i. Tree.alone (x0 .4 i))
   reshapeItem (Tree.openNamed n k v) r ts e =
       let x0 = reshapePlainName n (tok (Tokens.mark Tokens.colon) k ∷ (yieldValue v r)) ts e in
       let x1 = pop (Tokens.mark Tokens.colon) (yieldValue v r) (x0 .1) (x0 .3) in
       let x2 = reshape v r (x1 .rest) (x1 .alike) in
-      (Tree.openNamed (x0 .0) (x1 .at) (x2 .0), (x2 .1), cc (x0 .2, x1 .begins, x2 .2), (x2 .3), cc (x0 .4, x2 .4))
+      (Tree.openNamed (x0 .0) (x1 .at) (x2 .0), (x2 .1), cc (x0 .2, x1 .begins, x2 .2), (x2 .3), λ i. Tree.openNamed (x0 .4 i) nowhere (x2 .4 i))
   reshapeItem (Tree.named n k v) r ts e =
       let x0 = reshapeName n (tok (Tokens.mark Tokens.colon) k ∷ (yieldValue v r)) ts e in
       let x1 = pop (Tokens.mark Tokens.colon) (yieldValue v r) (x0 .1) (x0 .3) in
       let x2 = reshape v r (x1 .rest) (x1 .alike) in
-      (Tree.named (x0 .0) (x1 .at) (x2 .0), (x2 .1), cc (x0 .2, x1 .begins, x2 .2), (x2 .3), cc (x0 .4, x2 .4))
+      (Tree.named (x0 .0) (x1 .at) (x2 .0), (x2 .1), cc (x0 .2, x1 .begins, x2 .2), (x2 .3), λ i. Tree.named (x0 .4 i) nowhere (x2 .4 i))
   reshapeItem (Tree.joined v j k w) r ts e =
       let x0 = reshape v (tok (Tokens.mark (joinerMark j)) k ∷ (yieldValue w r)) ts e in
       let x1 = pop (Tokens.mark (joinerMark j)) (yieldValue w r) (x0 .1) (x0 .3) in
       let x2 = reshape w r (x1 .rest) (x1 .alike) in
-      (Tree.joined (x0 .0) j (x1 .at) (x2 .0), (x2 .1), cc (x0 .2, x1 .begins, x2 .2), (x2 .3), cc (x0 .4, x2 .4))
+      (Tree.joined (x0 .0) j (x1 .at) (x2 .0), (x2 .1), cc (x0 .2, x1 .begins, x2 .2), (x2 .3), λ i. Tree.joined (x0 .4 i) j nowhere (x2 .4 i))
   reshapeItem (Tree.times v k c) r ts e =
       let x0 = reshape v (tok (Tokens.mark Tokens.colon) k ∷ (yieldCount c r)) ts e in
       let x1 = pop (Tokens.mark Tokens.colon) (yieldCount c r) (x0 .1) (x0 .3) in
       let x2 = reshapeCount c r (x1 .rest) (x1 .alike) in
-      (Tree.times (x0 .0) (x1 .at) (x2 .0), (x2 .1), cc (x0 .2, x1 .begins, x2 .2), (x2 .3), cc (x0 .4, x2 .4))
+      (Tree.times (x0 .0) (x1 .at) (x2 .0), (x2 .1), cc (x0 .2, x1 .begins, x2 .2), (x2 .3), λ i. Tree.times (x0 .4 i) nowhere (x2 .4 i))
 
   reshapeRow : {f s : Style} (x : Row f s) (r ts : List Tok) → classes ts ≡ classes (yieldRow x r) →
       (w : Row f s) × (q : List Tok) × (ts ≡ yieldRow w q) × (classes q ≡ classes r) × (blankRow w ≡ blankRow x)
   reshapeRow (Tree.rowFirst i c) r ts e =
       let x0 = reshapeItem i (tok (Tokens.mark Tokens.comma) c ∷ r) ts e in
       let x1 = pop (Tokens.mark Tokens.comma) r (x0 .1) (x0 .3) in
-      (Tree.rowFirst (x0 .0) (x1 .at), (x1 .rest), cc (x0 .2, x1 .begins), (x1 .alike), cc (x0 .4))
+      (Tree.rowFirst (x0 .0) (x1 .at), (x1 .rest), cc (x0 .2, x1 .begins), (x1 .alike), λ i. Tree.rowFirst (x0 .4 i) nowhere)
   reshapeRow (Tree.rowLed b i c) r ts e =
       let x0 = pop (Tokens.mark Tokens.comma) (yieldItem i (tok (Tokens.mark Tokens.comma) c ∷ r)) ts e in
       let x1 = reshapeItem i (tok (Tokens.mark Tokens.comma) c ∷ r) (x0 .rest) (x0 .alike) in
       let x2 = pop (Tokens.mark Tokens.comma) r (x1 .1) (x1 .3) in
-      (Tree.rowLed (x0 .at) (x1 .0) (x2 .at), (x2 .rest), cc (x0 .begins, x1 .2, x2 .begins), (x2 .alike), cc (x1 .4))
+      (Tree.rowLed (x0 .at) (x1 .0) (x2 .at), (x2 .rest), cc (x0 .begins, x1 .2, x2 .begins), (x2 .alike), λ i. Tree.rowLed nowhere (x1 .4 i) nowhere)
   reshapeRow (Tree.rowNext o i c) r ts e =
       let x0 = reshapeRow o (yieldItem i (tok (Tokens.mark Tokens.comma) c ∷ r)) ts e in
       let x1 = reshapeItem i (tok (Tokens.mark Tokens.comma) c ∷ r) (x0 .1) (x0 .3) in
       let x2 = pop (Tokens.mark Tokens.comma) r (x1 .1) (x1 .3) in
-      (Tree.rowNext (x0 .0) (x1 .0) (x2 .at), (x2 .rest), cc (x0 .2, x1 .2, x2 .begins), (x2 .alike), cc (x0 .4, x1 .4))
+      (Tree.rowNext (x0 .0) (x1 .0) (x2 .at), (x2 .rest), cc (x0 .2, x1 .2, x2 .begins), (x2 .alike), λ i. Tree.rowNext (x0 .4 i) (x1 .4 i) nowhere)
 
   reshapeListing : {s : Style} (x : Listing s) (r ts : List Tok) → classes ts ≡ classes (yieldListing x r) →
       (w : Listing s) × (q : List Tok) × (ts ≡ yieldListing w q) × (classes q ≡ classes r) × (blankListing w ≡ blankListing x)
@@ -280,18 +250,18 @@ mutual
       (Tree.twoCommas (x0 .at) (x1 .at), (x1 .rest), cc (x0 .begins, x1 .begins), (x1 .alike), refl)
   reshapeListing (Tree.oneItem i) r ts e =
       let x0 = reshapeItem i r ts e in
-      (Tree.oneItem (x0 .0), (x0 .1), cc (x0 .2), (x0 .3), cc (x0 .4))
+      (Tree.oneItem (x0 .0), (x0 .1), cc (x0 .2), (x0 .3), λ i. Tree.oneItem (x0 .4 i))
   reshapeListing (Tree.ledItem c i) r ts e =
       let x0 = pop (Tokens.mark Tokens.comma) (yieldItem i r) ts e in
       let x1 = reshapeItem i r (x0 .rest) (x0 .alike) in
-      (Tree.ledItem (x0 .at) (x1 .0), (x1 .1), cc (x0 .begins, x1 .2), (x1 .3), cc (x1 .4))
+      (Tree.ledItem (x0 .at) (x1 .0), (x1 .1), cc (x0 .begins, x1 .2), (x1 .3), λ i. Tree.ledItem nowhere (x1 .4 i))
   reshapeListing (Tree.trailing o) r ts e =
       let x0 = reshapeRow o r ts e in
-      (Tree.trailing (x0 .0), (x0 .1), cc (x0 .2), (x0 .3), cc (x0 .4))
+      (Tree.trailing (x0 .0), (x0 .1), cc (x0 .2), (x0 .3), λ i. Tree.trailing (x0 .4 i))
   reshapeListing (Tree.lastItem o i) r ts e =
       let x0 = reshapeRow o (yieldItem i r) ts e in
       let x1 = reshapeItem i r (x0 .1) (x0 .3) in
-      (Tree.lastItem (x0 .0) (x1 .0), (x1 .1), cc (x0 .2, x1 .2), (x1 .3), cc (x0 .4, x1 .4))
+      (Tree.lastItem (x0 .0) (x1 .0), (x1 .1), cc (x0 .2, x1 .2), (x1 .3), λ i. Tree.lastItem (x0 .4 i) (x1 .4 i))
 
   reshapeAttributes : (x : Attributes) (r ts : List Tok) → classes ts ≡ classes (yieldAttributes x r) →
       (w : Attributes) × (q : List Tok) × (ts ≡ yieldAttributes w q) × (classes q ≡ classes r) × (blankAttributes w ≡ blankAttributes x)
@@ -299,34 +269,34 @@ mutual
   reshapeAttributes (Tree.ledAttribute c i) r ts e =
       let x0 = pop (Tokens.mark Tokens.comma) (yieldItem i r) ts e in
       let x1 = reshapeItem i r (x0 .rest) (x0 .alike) in
-      (Tree.ledAttribute (x0 .at) (x1 .0), (x1 .1), cc (x0 .begins, x1 .2), (x1 .3), cc (x1 .4))
+      (Tree.ledAttribute (x0 .at) (x1 .0), (x1 .1), cc (x0 .begins, x1 .2), (x1 .3), λ i. Tree.ledAttribute nowhere (x1 .4 i))
   reshapeAttributes (Tree.trailingComma o) r ts e =
       let x0 = reshapeRow o r ts e in
-      (Tree.trailingComma (x0 .0), (x0 .1), cc (x0 .2), (x0 .3), cc (x0 .4))
+      (Tree.trailingComma (x0 .0), (x0 .1), cc (x0 .2), (x0 .3), λ i. Tree.trailingComma (x0 .4 i))
   reshapeAttributes (Tree.lastAttribute o i) r ts e =
       let x0 = reshapeRow o (yieldItem i r) ts e in
       let x1 = reshapeItem i r (x0 .1) (x0 .3) in
-      (Tree.lastAttribute (x0 .0) (x1 .0), (x1 .1), cc (x0 .2, x1 .2), (x1 .3), cc (x0 .4, x1 .4))
+      (Tree.lastAttribute (x0 .0) (x1 .0), (x1 .1), cc (x0 .2, x1 .2), (x1 .3), λ i. Tree.lastAttribute (x0 .4 i) (x1 .4 i))
 
   reshapeBounds : (x : Bounds) (r ts : List Tok) → classes ts ≡ classes (yieldBounds x r) →
       (w : Bounds) × (q : List Tok) × (ts ≡ yieldBounds w q) × (classes q ≡ classes r) × (blankBounds w ≡ blankBounds x)
   reshapeBounds Tree.empty r ts e = (Tree.empty, ts, refl, e, refl)
   reshapeBounds (Tree.single v) r ts e =
       let x0 = reshape v r ts e in
-      (Tree.single (x0 .0), (x0 .1), cc (x0 .2), (x0 .3), cc (x0 .4))
+      (Tree.single (x0 .0), (x0 .1), cc (x0 .2), (x0 .3), λ i. Tree.single (x0 .4 i))
   reshapeBounds (Tree.between v b k w) r ts e =
       let x0 = reshape v (tok (Tokens.mark (betweenMark b)) k ∷ (yieldValue w r)) ts e in
       let x1 = pop (Tokens.mark (betweenMark b)) (yieldValue w r) (x0 .1) (x0 .3) in
       let x2 = reshape w r (x1 .rest) (x1 .alike) in
-      (Tree.between (x0 .0) b (x1 .at) (x2 .0), (x2 .1), cc (x0 .2, x1 .begins, x2 .2), (x2 .3), cc (x0 .4, x2 .4))
+      (Tree.between (x0 .0) b (x1 .at) (x2 .0), (x2 .1), cc (x0 .2, x1 .begins, x2 .2), (x2 .3), λ i. Tree.between (x0 .4 i) b nowhere (x2 .4 i))
   reshapeBounds (Tree.from v a k) r ts e =
       let x0 = reshape v (tok (Tokens.mark (Tokens.star (sideBound a) Open)) k ∷ r) ts e in
       let x1 = pop (Tokens.mark (Tokens.star (sideBound a) Open)) r (x0 .1) (x0 .3) in
-      (Tree.from (x0 .0) a (x1 .at), (x1 .rest), cc (x0 .2, x1 .begins), (x1 .alike), cc (x0 .4))
+      (Tree.from (x0 .0) a (x1 .at), (x1 .rest), cc (x0 .2, x1 .begins), (x1 .alike), λ i. Tree.from (x0 .4 i) a nowhere)
   reshapeBounds (Tree.upTo a k v) r ts e =
       let x0 = pop (Tokens.mark (Tokens.star Open (sideBound a))) (yieldValue v r) ts e in
       let x1 = reshape v r (x0 .rest) (x0 .alike) in
-      (Tree.upTo a (x0 .at) (x1 .0), (x1 .1), cc (x0 .begins, x1 .2), (x1 .3), cc (x1 .4))
+      (Tree.upTo a (x0 .at) (x1 .0), (x1 .1), cc (x0 .begins, x1 .2), (x1 .3), λ i. Tree.upTo a nowhere (x1 .4 i))
   reshapeBounds (Tree.all k) r ts e =
       let x0 = pop (Tokens.mark (Tokens.star Open Open)) r ts e in
       (Tree.all (x0 .at), (x0 .rest), cc (x0 .begins), (x0 .alike), refl)

@@ -11,6 +11,7 @@ use Rattle.grammar.specs.Tree
 use Rattle.grammar.specs.Tree.{plainName, bareName, Arrow, rightward, leftward, Joiner, Style, Value, Plain, Item, Row, Listing, Attributes, Bounds}
 use Rattle.grammar.specs.Level.{Level, intervals, leftArrows, hasCollection, hasArrow, hasJoiner, keeps, keepsPlain, keepsItem, keepsRow, keepsListing, keepsAttributes, keepsBounds}
 use Rattle.grammar.proofs.OneTree.{oneTree}
+use Rattle.grammar.proofs.Moved.{keeps-moved}
 use Rattle.reading.specs.declared.Limits.{Limits}
 use Rattle.reading.specs.Tokens.{Follow, nothing, next, seen}
 use Rattle.reading.specs.Answers.{Accepted}
@@ -18,7 +19,7 @@ use Rattle.reading.proofs.Rows.{pick, no-end}
 use Rattle.reading.proofs.First.{follows}
 use Rattle.reading.proofs.Derived.{accepted-derived}
 use Rattle.form.specs.Spell.{plainForm}
-use Rattle.form.proofs.Reshape.{blank, blankPlain, blankItem, blankRow, blankListing, blankAttributes, blankBounds}
+use Rattle.form.proofs.Reshape.{away, blank}
 use Rattle.form.proofs.Normal.{pairUp, joinUp, opened, closed, closedTuple, norm, normPlain, normItem, normRow, normListing, normAttributes, normBounds}
 use Rattle.form.proofs.Classes.{plain-tree}
 use Rattle.form.proofs.Alone.{derived-pieces, spelled-reads, spelled-ends}
@@ -39,62 +40,6 @@ swapped false false true e = refl
 swapped a b false e = absurd (false≢true e)
 
 module _ (l : Level) where
-  -- ---- spans
-
-  mutual
-    value-blank : (v : Value) → keeps l (blank v) ≡ keeps l v
-    value-blank (Tree.plain p) = plain-blank p
-    value-blank (Tree.bare h s) = refl
-
-    plain-blank : (p : Plain) → keepsPlain l (blankPlain p) ≡ keepsPlain l p
-    plain-blank (Tree.literal a s) = refl
-    plain-blank (Tree.text w s) = refl
-    plain-blank (Tree.nesting n) = refl
-    plain-blank (Tree.group o v c) = value-blank v
-    plain-blank (Tree.pair o p k v c) = both (plain-blank p) (value-blank v)
-    plain-blank (Tree.arrowed o v a k w c) = both (both (value-blank v) refl) (value-blank w)
-    plain-blank (Tree.tuple o i c) = attributes-blank i
-    plain-blank (Tree.lot o i c) = listing-blank i
-    plain-blank (Tree.counted o h s k b i e c) = ap (λ (x : Bool). hasCollection l h && x) (listing-blank i)
-    plain-blank (Tree.interval o b c) = ap (λ (x : Bool). l intervals && x) (bounds-blank b)
-
-    item-blank : {s : Style} (i : Item s) → keepsItem l (blankItem i) ≡ keepsItem l i
-    item-blank (Tree.alone v) = value-blank v
-    item-blank (Tree.openNamed n k v) = value-blank v
-    item-blank (Tree.named n k v) = value-blank v
-    item-blank (Tree.joined v j k w) = both (both (value-blank v) refl) (value-blank w)
-    item-blank (Tree.times v k c) = value-blank v
-
-    row-blank : {f s : Style} (o : Row f s) → keepsRow l (blankRow o) ≡ keepsRow l o
-    row-blank (Tree.rowFirst i c) = item-blank i
-    row-blank (Tree.rowLed b i c) = item-blank i
-    row-blank (Tree.rowNext o i c) = both (row-blank o) (item-blank i)
-
-    listing-blank : {s : Style} (i : Listing s) → keepsListing l (blankListing i) ≡ keepsListing l i
-    listing-blank Tree.noItem = refl
-    listing-blank (Tree.oneComma c) = refl
-    listing-blank (Tree.twoCommas c d) = refl
-    listing-blank (Tree.oneItem i) = item-blank i
-    listing-blank (Tree.ledItem c i) = item-blank i
-    listing-blank (Tree.trailing o) = row-blank o
-    listing-blank (Tree.lastItem o i) = both (row-blank o) (item-blank i)
-
-    attributes-blank : (i : Attributes) → keepsAttributes l (blankAttributes i) ≡ keepsAttributes l i
-    attributes-blank Tree.noAttribute = refl
-    attributes-blank (Tree.ledAttribute c i) = item-blank i
-    attributes-blank (Tree.trailingComma o) = row-blank o
-    attributes-blank (Tree.lastAttribute o i) = both (row-blank o) (item-blank i)
-
-    bounds-blank : (b : Bounds) → keepsBounds l (blankBounds b) ≡ keepsBounds l b
-    bounds-blank Tree.empty = refl
-    bounds-blank (Tree.single v) = value-blank v
-    bounds-blank (Tree.between v b k w) = both (value-blank v) (value-blank w)
-    bounds-blank (Tree.from v a k) = value-blank v
-    bounds-blank (Tree.upTo a k v) = value-blank v
-    bounds-blank (Tree.all k) = refl
-
-  -- ---- groups, commas and arrows
-
   opened-forms : (i : Item Tree.attribute) → keepsItem l (opened i) ≡ keepsItem l i
   opened-forms (Tree.alone v) = refl
   opened-forms (Tree.named (plainName n) k v) = refl
@@ -174,7 +119,7 @@ module _ (l : Level) where
       bounds-forms (Tree.all k) = refl
 
     tree-forms : (v w : Value) → blank w ≡ blank (Tree.plain (norm v)) → keeps l w ≡ keeps l v
-    tree-forms v w e = sym (value-blank w) ∙ ap (keeps l) e ∙ plain-blank (norm v) ∙ value-forms v
+    tree-forms v w e = sym (keeps-moved away l w) ∙ ap (keeps l) e ∙ keeps-moved away l (Tree.plain (norm v)) ∙ value-forms v
 
 -- ---- the tree of the plain form
 

@@ -12,15 +12,15 @@ use Rattle.grammar.specs.Tokens.{Class, Tok}
 use Rattle.grammar.specs.Tree.{Value}
 use Rattle.grammar.specs.Yield.{yieldValue}
 use Rattle.grammar.specs.Level.{Level, keeps}
+use Rattle.grammar.proofs.Moved.{keeps-moved}
 use Rattle.reading.specs.Tokens.{Follow}
 use Rattle.form.specs.Spell.{Spelt, bytesOf}
 use Rattle.form.specs.Spellable.{classes, Spellable}
 use Rattle.form.proofs.Spelts.{toks, endOf, end-is, Standing, sound-all}
 use Rattle.form.proofs.Neighbours.{standing, after-nothing, separate-all}
 use Rattle.form.proofs.Plain.{spelts-front, spelts-formed}
-use Rattle.form.proofs.Reshape.{blank, reshape-all}
+use Rattle.form.proofs.Reshape.{away, blank, reshape-all}
 use Rattle.form.proofs.Classes.{speltClasses, tok-classes}
-use Rattle.form.proofs.Kept.{blank-keeps}
 use Rattle.form.proofs.Samples.{samples, samples-lone}
 use Rattle.form.proofs.Yielded.{yielded-neighbours}
 
@@ -49,7 +49,7 @@ module _ (l : Level) (v : Value) (of-level : keeps l v ≡ true) where
         formed = takes-whole (many sequence) (bytesOf ws) .1 (spelts-formed ws (samples-lone (yieldValue v [])));
         front = spelts-front ws (samples-lone (yieldValue v []));
         tree = found .0;
-        of-level = sym (blank-keeps l (found .0)) ∙ ap (keeps l) (found .2) ∙ blank-keeps l v ∙ of-level;
+        of-level = sym (keeps-moved away l (found .0)) ∙ ap (keeps l) (found .2) ∙ keeps-moved away l v ∙ of-level;
         end = endOf 0 ws;
         row = subst (λ (ts : List Tok). Follow (bytesOf ws) 0 ts (endOf 0 ws)) (found .1)
             (separate-all ws (samples-lone (yieldValue v [])) (yielded-neighbours v));

@@ -18,7 +18,7 @@ use Rattle.rules.proofs.Every.{every-append}
 use Rattle.lexicon.specs.Space.{blank, sp, grave, notGrave}
 use Rattle.lexicon.specs.Bytes.{dividing}
 use Rattle.lexicon.specs.Literals.{joint, unit, groups, segment, content}
-use Rattle.lexicon.proofs.Segments.{notQuote, content-bytes as content-allowed}
+use Rattle.lexicon.proofs.Segments.{quote, notQuote, content-bytes as content-allowed}
 use Rattle.form.specs.Bare.{outside, quotes, comment, kept, dropped, bareFrom, bare}
 use Rattle.form.proofs.Fits.{Sub, Mode, Fits, none, one-of, seq, alt, star, space, units, segments, wide, narrow}
 
@@ -103,12 +103,16 @@ quote-run b (oneMore (oneByte {b = x} i) m) = rw (not-quote x i) (ap (λ (l : Li
 content-bytes : {a : List ℕ} → Matches content a → Matches (many (one notQuote)) a
 content-bytes {a} m = takes-whole (many (one notQuote)) a .0 (all-of notQuote (takes-whole content a .1 m) content-allowed)
 
-pub segment-same : {a : List ℕ} (b : List ℕ) → Matches segment a → bare (a ++ b) ≡ a ++ bare b
+-- quotes stay, whatever stands between them
+pub quotes-stay : {a : List ℕ} (b : List ℕ) → Matches (one quote then many (one notQuote) then one quote) a → bare (a ++ b) ≡ a ++ bare b
 unfolding bareFrom has
-segment-same b (joined (oneByte {b = x} i) (joined {a = c} m (oneByte {b = y} j))) =
+quotes-stay b (joined (oneByte {b = x} i) (joined {a = c} m (oneByte {b = y} j))) =
     rw (just-is 0x22 x i, just-is 0x22 y j)
     (ap (λ (l : List ℕ). 0x22 ∷ l)
-    (ap (bareFrom quotes) (append-assoc c (0x22 ∷ []) b) ∙ quote-run (0x22 ∷ b) (content-bytes m) ∙ sym (append-assoc c (0x22 ∷ []) (bareFrom outside b))))
+    (ap (bareFrom quotes) (append-assoc c (0x22 ∷ []) b) ∙ quote-run (0x22 ∷ b) m ∙ sym (append-assoc c (0x22 ∷ []) (bareFrom outside b))))
+
+pub segment-same : {a : List ℕ} (b : List ℕ) → Matches segment a → bare (a ++ b) ≡ a ++ bare b
+segment-same b (joined i (joined m j)) = quotes-stay b (joined i (joined (content-bytes m) j))
 
 -- ---- any rule
 
