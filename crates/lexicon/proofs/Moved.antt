@@ -146,7 +146,7 @@ module _ (a b : List ℕ) (p q n : ℕ) (w : Window a b p q n) where
       let y = f _ _ _ x in let z = row-forward a f r in
       Values.next (g _ _ _ x h (omega (arith, z, k))) (row-moved P Q f g r (omega (arith, y, h)) k)
 
-  segment-moved : {i j : ℕ} {cs : List ℕ} → Segment a i j cs → p ≤ i → j ≤ p + n → Segment b (shift p q i) (shift p q j) cs
+  pub segment-moved : {i j : ℕ} {cs : List ℕ} → Segment a i j cs → p ≤ i → j ≤ p + n → Segment b (shift p q i) (shift p q j) cs
   segment-moved (Segment.plain {m = m} {e = e} t o r u) h k =
       let f = forward t in let g = row-forward a (λ i j c x. plain-forward a x) r in let v = byte-end u in
       Segment.plain (on t h (omega (arith, g, v, k)))

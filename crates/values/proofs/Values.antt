@@ -140,7 +140,7 @@ module _ (piece : List ℕ) where
   escaped-takes done = stop refl
   escaped-takes (Values.next x r) = more (item-takes x) (escaped-takes r)
 
-  segment-takes : {i j : ℕ} {cs : List ℕ} → Segment piece i j cs → Takes piece segment i j
+  pub segment-takes : {i j : ℕ} {cs : List ℕ} → Segment piece i j cs → Takes piece segment i j
   segment-takes (Segment.plain a n done z) = both a (both (left (right (nothing refl))) z)
   segment-takes (Segment.plain a n (Values.next (Plain.itself (left t)) r) z) = both a (both (left (left (both t (plain-takes r)))) z)
   segment-takes (Segment.plain a n (Values.next (Plain.itself (right (byte b e))) r) z) = absurd (n (b .1))
