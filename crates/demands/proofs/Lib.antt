@@ -11,4 +11,6 @@ pub mod Plain
 pub mod Alike
 pub mod Arrow
 pub mod Skips
+pub mod Relaid
+pub mod SameValues
 pub mod Requests

@@ -1,5 +1,5 @@
 -- What the customer's requests promise, proved in their order. Assumes nothing.
-use mathlib.Core.Path.{_≡_, refl, ap, subst, _∙_}
+use mathlib.Core.Path.{_≡_, refl, sym, ap, subst, _∙_}
 use mathlib.Core.Logic.{_⊎_, inl, inr}
 use mathlib.Core.List.{List, map}
 use mathlib.Core.Option.{Option}
@@ -35,6 +35,7 @@ use Rattle.files.proofs.ReadBack.{one-row}
 use Rattle.files.proofs.AsRead.{stored-as-read}
 use Rattle.reading.proofs.Tabled.{one-tabled}
 use Rattle.reading.proofs.Unique.{one-answer}
+use Rattle.reading.proofs.Found.{found}
 use Rattle.reading.proofs.Arrow as Arrow
 use Rattle.reading.proofs.Arrow.{retirement, never-fifteen}
 use Rattle.form.specs.Turn.{unspelled}
@@ -42,11 +43,15 @@ use Rattle.form.proofs.Answers as Plain
 use Rattle.form.proofs.Converted as Converted
 use Rattle.form.proofs.Rereads.{reread-at}
 use Rattle.form.proofs.Spellable as Spellable
+use Rattle.layout.proofs.Back.{relaid-back}
+use Rattle.layout.proofs.Twice.{relaid-joined}
+use Rattle.layout.proofs.Laid.{kept}
 use Rattle.demands.specs.Requests.{OneTest, PlainSteps, SameRefusal, SameRefusals, Padding, OneFive, FiveInside, OneWrite, OneCheck, TextUnseen, AcceptsExactly, WrittenAccepted, RoomEnough, OneFile, SixteenBits, SameNumbers, AsRead}
 use Rattle.demands.specs.Requests.{OneJudgement, ChangedTable, OnePlain, NothingWritten, PlainRoom, WrittenReadsBack, AlsoWithoutArrow, EndsAlike, EveryRowSpelled}
 use Rattle.demands.specs.Requests.{ArrowRetired, NothingChanged, NoSuchBytes, OldOrder, NoneAccepted, NoRole3, InOrder, NothingNew, StoredAlike, OneConversion, NeitherNumber, NothingConverted, ConvertedRoom, ConvertedReadsBack, ConvertedAlike, ConvertedAsWritten}
 use Rattle.demands.specs.Requests.{RoomBySeven, SevenEach, OwnWords, LentWords, SameSkips}
 use Rattle.demands.specs.Requests.{EscapePointed, SameFive}
+use Rattle.demands.specs.Requests.{AsItStands, LaidBack, LaidTwice, LayoutKept, LayoutWords, AcceptedAlike, SamePlainForms, LayoutValues}
 use Rattle.demands.proofs.Exists.{some-reading}
 use Rattle.demands.proofs.Higher.{at-level-2}
 use Rattle.demands.proofs.Blobs.{from-reader, from-call, inside}
@@ -54,6 +59,8 @@ use Rattle.demands.proofs.Escapes.{pointed, same-text}
 use Rattle.demands.proofs.Plain.{by-reading, reader-own, written-back}
 use Rattle.demands.proofs.Alike as Alike
 use Rattle.demands.proofs.Alike.{written-alike}
+use Rattle.demands.proofs.Relaid.{read, itself, read-again, same-plain-form}
+use Rattle.demands.proofs.SameValues.{node-values}
 use Rattle.demands.proofs.Skips as Skips
 use Rattle.demands.proofs.Skips.{shown-table}
 use Rattle.demands.proofs.Arrow as Retired
@@ -314,3 +321,35 @@ escape-pointed rules text table left level r a e = pointed rules text table leve
 
 pub same-five : SameFive
 same-five rules text table buffer level l r c left kept x of a b = same-text rules text table level a x of b
+
+-- ---- 9. Layout
+
+pub as-it-stands : AsItStands
+as-it-stands rules text lent left level r a e = itself rules text lent left a e
+
+pub laid-back : LaidBack
+laid-back text other x = relaid-back x
+
+pub laid-twice : LaidTwice
+laid-twice a b c x y = relaid-joined x y
+
+pub layout-kept : LayoutKept
+layout-kept limits text other l v x a = kept x limits l v a
+
+pub same-words : LayoutWords
+same-words rules text other lent space left filled level r s x w h e a z b = read-again rules x lent space left filled w h e a z b
+
+pub accepted-alike : AcceptedAlike
+accepted-alike rules text other lent space left filled level r s x w v h g e a b = (
+  λ z. ap (λ (t : Answer). t .number) (read-again rules x lent space left filled v g e a z b .0),
+  λ z. ap (λ (t : Answer). t .number) (read-again rules (relaid-back x) space lent filled left w h (sym e) b z a .0),
+)
+
+pub same-plain-forms : SamePlainForms
+same-plain-forms rules text other words own lent buffer left filled level r s x a e b f = same-plain-form rules x words own a e b f
+
+pub same-values : LayoutValues
+same-values rules text other lent space left filled level r s x a e b z i h =
+    let f = found rules text lent left level a e in
+    let g = found rules other space filled level b z in
+    node-values rules x (read rules text (f .read)) (read rules other (g .read)) i (subst (λ (n : ℕ). i < n) (f .count-is) h) left filled (f .holds) (g .holds)

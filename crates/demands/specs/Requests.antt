@@ -16,6 +16,7 @@ use Rattle.lexicon.specs.declared.Form.the-variants.{Quoted}
 use Rattle.lexicon.specs.declared.Kind.{Kind}
 use Rattle.lexicon.specs.declared.Kind.the-variants.{Blob, Text}
 use Rattle.lexicon.specs.Bytes.{base64}
+use Rattle.lexicon.specs.Utf8.{WellFormed}
 use Rattle.lexicon.specs.Literals.{blob}
 use Rattle.lexicon.specs.Values.{Behind}
 use Rattle.lexicon.specs.Bad.{FirstBad}
@@ -25,7 +26,8 @@ use Rattle.grammar.specs.Tokens.{Tok}
 use Rattle.grammar.specs.Tree.{Value}
 use Rattle.grammar.specs.Level.{Level, _Within_, arrowless, keeps}
 use Rattle.grammar.specs.Place.{Wrong}
-use Rattle.grammar.specs.Nodes.{nodeWords, roleWord, skipWord, wordAt, table, tableWords}
+use Rattle.grammar.specs.Nodes.{anInteger, aText, aBits, aBlob, kindNumber, nodeWords, kindWord, firstWord, endWord}
+use Rattle.grammar.specs.Nodes.{roleWord, skipWord, wordAt, table, tableWords}
 use Rattle.grammar.specs.Stretches.{Stretches}
 use Rattle.reading.specs.declared.Answer.{Answer}
 use Rattle.reading.specs.declared.Limits.{Limits}
@@ -41,8 +43,9 @@ use Rattle.values.specs.declared.IntegerAnswer.{IntegerAnswer}
 use Rattle.values.specs.Integer.{IntegerAnswers}
 use Rattle.values.specs.Exactly.{Exactly}
 use Rattle.values.specs.Bytes.{Call, BytesAnswers}
-use Rattle.values.specs.Text.{textLiteral, TextAnswers}
-use Rattle.values.specs.Blob.{BlobAnswers}
+use Rattle.values.specs.Text.{textLiteral, textCall, TextAnswers}
+use Rattle.values.specs.Bits.{bitsCall}
+use Rattle.values.specs.Blob.{blobCall, BlobAnswers}
 use Rattle.values.specs.Utf8.{Utf8Answers}
 use Rattle.files.specs.File.{number, row, file}
 use Rattle.files.specs.Writes.{Read, Writes}
@@ -52,6 +55,8 @@ use Rattle.form.specs.Writes as Plain
 use Rattle.form.specs.Reread.{Reread}
 use Rattle.form.specs.Converted.{Converted}
 use Rattle.form.specs.Spellable.{Spellable}
+use Rattle.layout.specs.Relaid.{Relaid}
+use Rattle.layout.specs.Kept.{Kept, SameWords}
 
 -- ---- 2. 'The UTF-8 test takes eight plain ASCII bytes in one step wherever eight come next, else one sequence, and
 -- also hands back the steps taken up to its place: for n bytes, all plain ASCII, n / 8 rounded down plus the remainder.
@@ -489,3 +494,82 @@ SameFive =
     (rules : Rules) (text table buffer : List ℕ) (level : ℕ) (l : Level) (r c : Answer) (left kept : List ℕ) →
     Exactly textLiteral text → LevelOf level l → Answers rules text table level r left →
     TextAnswers rules text buffer c kept → (r .number ≡ 5 → c ≡ r) × (c .number ≡ 5 → r ≡ c)
+
+-- ---- 9. 'Take any accepted text, replace stretches of dividing space outside quotes and outside the dropped first
+-- line, each stretch taken at its full length and not empty, by other non-empty dividing space. If the result is valid
+-- UTF-8 and keeps the size, it is accepted at the same level with the same kinds, parents, roles, details and skip
+-- words.' The replacement is `Relaid` (layout/specs/Relaid.antt)
+
+-- 'Take any accepted text': every one is so related to itself, with nothing replaced: `as-it-stands`
+abbrev pub AsItStands : Type 0
+AsItStands =
+    (rules : Rules) (text lent left : List ℕ) (level : ℕ) (r : Answer) → Answers rules text lent level r left →
+    r .number ≡ 0 → Relaid text text
+
+-- a replacement can be undone: `laid-back`; and two, one after the other, are one: `laid-twice`
+abbrev pub LaidBack : Type 0
+LaidBack = (text other : List ℕ) → Relaid text other → Relaid other text
+
+abbrev pub LaidTwice : Type 0
+LaidTwice = (a b c : List ℕ) → Relaid a b → Relaid b c → Relaid a c
+
+-- on derivations, at every level and by any limits: the other text has a derivation of the level with the same nodes
+-- but for their places, and the same plain form: `layout-kept`
+abbrev pub LayoutKept : Type 0
+LayoutKept =
+    (limits : Limits) (text other : List ℕ) (l : Level) (v : Value) → Relaid text other → Accepted limits text l v →
+    Kept limits text other l v
+
+-- on the words of two tables of the same length, whatever stood in them, 'If the result is valid UTF-8 and keeps the
+-- size': `same-words`
+abbrev pub LayoutWords : Type 0
+LayoutWords =
+    (rules : Rules) (text other lent space left filled : List ℕ) (level : ℕ) (r s : Answer) → Relaid text other →
+    WellFormed other → length other ≤ rules .text → length space ≡ length lent →
+    Answers rules text lent level r left → r .number ≡ 0 → Answers rules other space level s filled →
+    (s ≡ answer 0 (length other) (r .count)) × SameWords left filled (r .count)
+
+-- so of two such texts, both UTF-8 and not too long, none is refused where the other is accepted: `accepted-alike`
+abbrev pub AcceptedAlike : Type 0
+AcceptedAlike =
+    (rules : Rules) (text other lent space left filled : List ℕ) (level : ℕ) (r s : Answer) → Relaid text other →
+    WellFormed text → WellFormed other → length text ≤ rules .text → length other ≤ rules .text →
+    length space ≡ length lent → Answers rules text lent level r left → Answers rules other space level s filled →
+    (r .number ≡ 0 → s .number ≡ 0) × (s .number ≡ 0 → r .number ≡ 0)
+
+-- beyond the request: calls that write the plain form of both texts write the same bytes: `same-plain-forms`
+abbrev pub SamePlainForms : Type 0
+SamePlainForms =
+    (rules : Rules) (text other words shown lent buffer left filled : List ℕ) (level : ℕ) (r s : Answer) →
+    Relaid text other → Plain.Writes rules text words lent level r left → r .number ≡ 0 →
+    Plain.Writes rules other shown buffer level s filled → s .number ≡ 0 →
+    take (r .count) left ≡ take (s .count) filled
+
+-- the piece of the node at index i, by the words of a table
+abbrev pub pieceAt : (text table : List ℕ) → ℕ → List ℕ
+pieceAt text t i = between text (wordAt t i firstWord) (wordAt t i endWord)
+
+-- a call that hands back bytes gives the same for both pieces, with the same buffer: number, count and every byte
+abbrev pub SameBytes : Call → Rules → List ℕ → List ℕ → Type 0
+SameBytes call rules piece other =
+    (lent left filled : List ℕ) (a b : Answer) → BytesAnswers call rules piece lent a left →
+    BytesAnswers call rules other lent b filled → EndAlike a b × (left ≡ filled)
+
+-- the values of the node at index i of both tables, by its kind
+pub record SameValues (rules : Rules) (text left other filled : List ℕ) (i : ℕ) : Type 0 where
+  pub integer : wordAt left i kindWord ≡ kindNumber anInteger → (a b : IntegerAnswer) →
+      IntegerAnswers rules (pieceAt text left i) a → IntegerAnswers rules (pieceAt other filled i) b →
+      (a .number ≡ b .number) × (a .value ≡ b .value)
+  pub text-bytes : wordAt left i kindWord ≡ kindNumber aText →
+      SameBytes textCall rules (pieceAt text left i) (pieceAt other filled i)
+  pub bits : wordAt left i kindWord ≡ kindNumber aBits →
+      SameBytes bitsCall rules (pieceAt text left i) (pieceAt other filled i)
+  pub blob-bytes : wordAt left i kindWord ≡ kindNumber aBlob →
+      SameBytes blobCall rules (pieceAt text left i) (pieceAt other filled i)
+
+-- and the value calls give the same values for every node: `same-values`
+abbrev pub LayoutValues : Type 0
+LayoutValues =
+    (rules : Rules) (text other lent space left filled : List ℕ) (level : ℕ) (r s : Answer) → Relaid text other →
+    Answers rules text lent level r left → r .number ≡ 0 → Answers rules other space level s filled → s .number ≡ 0 →
+    (i : ℕ) → i < r .count → SameValues rules text left other filled i
