@@ -12,3 +12,4 @@ pub mod Plain
 pub mod Arrow
 pub mod Skips
 pub mod Escapes
+pub mod Anew

@@ -1,6 +1,6 @@
 -- The texts that document 01 marks with a star, texts with bad values, base-64 Blobs, pieces of the Blob and Bits
--- calls, texts with the steps of the UTF-8 test, stored files, plain forms, the backward arrow, the seventh word, and
--- bad escapes.
+-- calls, texts with the steps of the UTF-8 test, stored files, plain forms, the backward arrow, the seventh word, bad
+-- escapes, and texts laid out anew.
 pub mod Starred
 pub mod Values
 pub mod Padding
@@ -11,3 +11,4 @@ pub mod Plain
 pub mod Arrow
 pub mod Skips
 pub mod Escapes
+pub mod Anew
