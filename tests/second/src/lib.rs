@@ -19,6 +19,7 @@ pub mod docs;
 pub mod file;
 pub mod front;
 pub mod generate;
+pub mod layout;
 pub mod listing;
 pub mod plain;
 pub mod samples;

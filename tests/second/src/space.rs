@@ -9,7 +9,7 @@ pub fn skip(text: &[u8], at: usize) -> usize {
     while let Some(&byte) = text.get(place) {
         place = match byte {
             b'\t' | b'\n' | b'\r' | b' ' => place + 1,
-            GRAVE => match comment_end(text, place) {
+            GRAVE => match behind_partner(text, place) {
                 Some(end) => end,
                 None => return place,
             },
@@ -19,10 +19,11 @@ pub fn skip(text: &[u8], at: usize) -> usize {
     place
 }
 
-/// The place behind the comment whose opening grave accent is at `at`.
-fn comment_end(text: &[u8], at: usize) -> Option<usize> {
+/// The place behind the next byte that is the one at `at`: the end of a comment
+/// that a grave accent opens, or of quotes.
+pub(crate) fn behind_partner(text: &[u8], at: usize) -> Option<usize> {
     let inside = at + 1;
-    let length = text[inside..].iter().position(|&byte| byte == GRAVE)?;
+    let length = text[inside..].iter().position(|&byte| byte == text[at])?;
     Some(inside + length + 1)
 }
 

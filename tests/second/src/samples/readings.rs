@@ -1,4 +1,4 @@
-//! The settled readings, sections A to D and R1 to R8, transcribed example by
+//! The settled readings, sections A to D and R1 to R9, transcribed example by
 //! example; where a request changes an answer of before, the new one.
 
 use super::{both, count, each, lacks, no, ok, retired, Sample, Want};
@@ -806,6 +806,14 @@ pub const EXAMPLES: &[(&str, &[Sample])] = &[
             both(b"x \"\\\\<0cxD800>\"", no(6, 2)),
             both(b"::a::0cxD800", no(5, 5)),
             both(b"(x:\"\\\\<0cx110000>\")", no(5, 5)),
+        ],
+    ),
+    (
+        "R9.1",
+        &[
+            both(b"1 2", ok(&[[3, 0, 3, 0, 0]])),
+            both(b"1`c`2", ok(&[[3, 0, 5, 0, 0]])),
+            both(b"#!x\n 5", ok(&[[3, 5, 6, 0, 0]])),
         ],
     ),
 ];
