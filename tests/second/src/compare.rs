@@ -2,6 +2,10 @@
 
 #[cfg(feature = "muon")]
 pub mod forms;
+#[cfg(feature = "muon")]
+pub mod layouts;
+#[cfg(feature = "muon")]
+pub mod readings;
 pub mod skips;
 
 use crate::answer::{Answer, BAD_VALUE};
@@ -122,12 +126,15 @@ pub fn in_quotes(text: &[u8], answer: Answer) -> bool {
 
 /// That bad escapes were refused often enough for the comparison to mean much.
 pub fn escapes_met(times: usize, least: usize) -> Compared {
+    enough("bad escapes refused", times, least)
+}
+
+/// That something was met often enough for the comparison to mean much.
+pub fn enough(what: &str, times: usize, least: usize) -> Compared {
     if times >= least {
         return Ok(());
     }
-    Err(Difference(format!(
-        "bad escapes were refused {times} times only, and not {least}"
-    )))
+    Err(Difference(format!("{what}: {times} only, and not {least}")))
 }
 
 /// How many calls there were, and how many of them with each of these answers.

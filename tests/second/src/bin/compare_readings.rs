@@ -12,7 +12,8 @@
 //! Exits with 1 at the first disagreement.
 
 use muon::Branch;
-use second::answer::{Answer, DEPTH_MAX, NEWER_FORM, NODE_WORDS, NO_ROOM, TEXT_MAX};
+use second::answer::{DEPTH_MAX, NEWER_FORM, NODE_WORDS, NO_ROOM, TEXT_MAX};
+use second::compare::readings::{proved, same_reading, Reading};
 use second::compare::{escapes_met, finish, in_quotes, same, skips, Compared, Difference};
 use second::generate::{
     arrow_rows, arrow_texts, escape_rows, escape_texts, flipped, long_texts, paddings,
@@ -36,43 +37,14 @@ const SPARSELY: usize = 11;
 const WORDS_MAX: usize = 7_200;
 /// Around those of one node, of two and of 1,024.
 const ROOMS: [usize; 7] = [6, 7, 13, 14, 7_167, 7_168, 7_169];
-/// Words behind the lent table, which no call may touch.
-const GUARD: usize = 8;
+/// The first of the words lent, none of which looks like a word of a node.
+const LENT: u32 = 0xA5A5_0000;
 const NO_LEVELS: [u32; 4] = [0, 3, 257, u32::MAX];
 /// The answers a reading can give.
 const NUMBERS: [usize; 11] = [0, 1, 2, 3, 4, 5, 6, 7, 8, 11, 15];
 /// For one reading of a text of 32 KB, groups included, which are read once
 /// more for each bracket around them; a quadratic scan takes far longer.
 const TIME_BOUND: Duration = Duration::from_millis(250);
-
-/// The archive's reading, through the package that users link.
-fn proved(level: u32, text: &[u8], table: &mut [u32]) -> Answer {
-    let answer = muon::read(level, text, table);
-    Answer {
-        number: answer.number,
-        place: answer.place,
-        count: answer.count,
-    }
-}
-
-/// An answer, and the table with its guard as they are then.
-#[derive(PartialEq)]
-struct Reading {
-    answer: Answer,
-    words: Vec<u32>,
-}
-
-/// Lends `length` words, none of which looks like a word of a node.
-fn reading(
-    read: fn(u32, &[u8], &mut [u32]) -> Answer,
-    level: u32,
-    text: &[u8],
-    length: usize,
-) -> Reading {
-    let mut words: Vec<u32> = (0xA5A5_0000..).take(length + GUARD).collect();
-    let answer = read(level, text, &mut words[..length]);
-    Reading { answer, words }
-}
 
 /// Demand 3, for the readings of one text into equal tables.
 fn old_and_new(text: &[u8], length: usize, old: &Reading, new: &Reading) -> Compared {
@@ -158,16 +130,8 @@ impl Counts {
     /// The archive's reading, if it is ours too.
     fn compare(&mut self, level: u32, text: &[u8], length: usize) -> Result<Reading, Difference> {
         self.readings += 1;
-        let ours = reading(tree::read, level, text, length);
-        let theirs = reading(proved, level, text, length);
-        let what = format!("reading at level {level} with {length} words");
-        same(&what, text, ours.answer, theirs.answer)?;
-        for (index, (ours, theirs)) in ours.words.iter().zip(&theirs.words).enumerate() {
-            if ours != theirs {
-                same(&format!("{what}: word {index}"), text, ours, theirs)?;
-            }
-        }
-        self.answers[ours.answer.number as usize] += 1;
+        let theirs = same_reading(level, text, length, LENT)?;
+        self.answers[theirs.answer.number as usize] += 1;
         self.escapes += usize::from(in_quotes(text, theirs.answer));
         if theirs.answer.number == 0 {
             let words = &theirs.words[..theirs.answer.count * NODE_WORDS];

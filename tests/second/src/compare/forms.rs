@@ -68,7 +68,10 @@ pub fn read_again(
     same("order of the form's nodes", form, in_order(&order), true)?;
     let mut values = 0;
     for (at, node) in nodes.iter().enumerate() {
-        let of = |text, words, index| value(node.kind, piece(text, words, index));
+        let of = |text, words, index| {
+            let found = value(node.kind, piece(text, words, index));
+            found.map(|(answer, value)| (answer.number, value))
+        };
         let (before, behind) = (of(text, words, from[at]), of(form, &after, order[at]));
         values += usize::from(before.is_some());
         same("value in the form", text, before, behind)?;
@@ -80,13 +83,18 @@ pub fn read_again(
     })
 }
 
-/// What a literal of this kind stands for, if there is a call that tells: the
-/// answer's number, and the value as bytes.
-fn value(kind: u32, piece: &[u8]) -> Option<(u32, Vec<u8>)> {
+/// What a literal of this kind stands for, if there is a call that tells: its
+/// answer, and the value as bytes.
+pub(super) fn value(kind: u32, piece: &[u8]) -> Option<(Answer, Vec<u8>)> {
     let call = match kind {
         muon::kind::INTEGER => {
-            let answer = muon::integer(piece);
-            return Some((answer.number, answer.value.to_be_bytes().to_vec()));
+            let found = muon::integer(piece);
+            let answer = Answer {
+                number: found.number,
+                place: found.place,
+                count: found.count,
+            };
+            return Some((answer, found.value.to_be_bytes().to_vec()));
         }
         muon::kind::BITS => muon::bits,
         muon::kind::BLOB => muon::blob,
@@ -96,7 +104,7 @@ fn value(kind: u32, piece: &[u8]) -> Option<(u32, Vec<u8>)> {
     let mut buffer = vec![0; 4 * piece.len()];
     let answer = call(piece, &mut buffer);
     buffer.truncate(answer.count);
-    Some((answer.number, buffer))
+    Some((answer.into(), buffer))
 }
 
 fn in_order(indices: &[usize]) -> bool {
@@ -104,7 +112,7 @@ fn in_order(indices: &[usize]) -> bool {
 }
 
 /// The bytes of a node.
-fn piece<'a>(text: &'a [u8], words: &[u32], index: usize) -> &'a [u8] {
+pub(super) fn piece<'a>(text: &'a [u8], words: &[u32], index: usize) -> &'a [u8] {
     let node = &words[index * NODE_WORDS..];
     &text[node[1] as usize..node[2] as usize]
 }

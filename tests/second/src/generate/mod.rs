@@ -8,12 +8,16 @@ mod escapes;
 mod flip;
 mod forms;
 mod grammar;
+mod layouts;
 mod long;
+mod misses;
 mod noise;
 mod packed;
 mod pieces;
 mod random;
+mod roomy;
 mod rows;
+mod space;
 
 pub use arrows::{arrow_rows, arrow_texts};
 pub use bytes::random_bytes;
@@ -23,11 +27,15 @@ pub use flip::flipped;
 pub use forms::{commented, deep_forms, gaps, head_forms, sized_forms};
 pub use grammar::Made;
 use grammar::Mischief;
+pub use layouts::{laid, laid_short, spoiled_one, stretched_to, Choice};
 pub use long::{long_shapes, long_texts, Shape};
+pub use misses::MISSES;
 pub use packed::{long_packed_pieces, packed_pieces, paddings, random_packed_pieces, two_groups};
-pub use pieces::{long_pieces, pieces, sample_pieces, short_pieces};
+pub use pieces::{every, long_pieces, pieces, sample_pieces, short_pieces};
 pub use random::Random;
+pub use roomy::{roomy_texts, spread};
 pub use rows::{framed, row, row_texts, FRAMES};
+pub use space::space;
 
 /// A few arrows, so that most texts are read beyond them.
 const MISCHIEF: Mischief = Mischief {
