@@ -9,7 +9,7 @@ use lib.Seq.{take-append-seam}
 use Rattle.lexicon.specs.Utf8.{WellFormed}
 use Rattle.grammar.specs.Tree.{Value}
 use Rattle.grammar.specs.Level.{Level}
-use Rattle.grammar.specs.Nodes.{Node, words, nodeWords, wordAt, table}
+use Rattle.grammar.specs.Nodes.{Node, words, nodeWords, wordAt, table, kindWord, parentWord, roleWord, detailWord, skipWord}
 use Rattle.grammar.proofs.NodeLaws.{nodeAt, as-many, same-at}
 use Rattle.reading.specs.declared.Answer.{Answer}
 use Rattle.reading.specs.declared.Rules.{Rules}
@@ -54,7 +54,13 @@ itself rules text lent left {level} a e =
 
 held-alike : (t u : List ℕ) (v w : Value) → Holds t v → Holds u w → map unplaced (table v) ≡ map unplaced (table w) → SameWords t u (length (table v))
 held-alike t u v w h g e =
-    record { kinds = at 0 (omega arith) (λ i n. refl); parents = at 3 (omega arith) (λ i n. refl); roles = at 4 (omega arith) (λ i n. refl); details = at 5 (omega arith) (λ i n. refl); skip-words = at 6 (omega arith) (λ i n. refl) }
+    record {
+      kinds = at kindWord (omega arith) (λ i n. refl);
+      parents = at parentWord (omega arith) (λ i n. refl);
+      roles = at roleWord (omega arith) (λ i n. refl);
+      details = at detailWord (omega arith) (λ i n. refl);
+      skip-words = at skipWord (omega arith) (λ i n. refl);
+    }
   where
     -- a word that tells no place
     at : (k : ℕ) → k < nodeWords → ((i : ℕ) (n : Node) → getD (words i n) k 0 ≡ getD (words i (unplaced n)) k 0) → (i : ℕ) → i < length (table v) → wordAt t i k ≡ wordAt u i k

@@ -7,7 +7,7 @@ use Prim.Native.Nat.{ℕ, _*_, _<_}
 use native.Mathlib.Omega.{arith}
 use lib.ListN.{length, drop}
 use Rattle.lexicon.specs.Utf8.{BadAt}
-use Rattle.lexicon.proofs.Determined.{formed-or-bad, one-bad}
+use Rattle.lexicon.proofs.Determined.{formed-or-bad, one-bad, one-front}
 use Rattle.lexicon.proofs.Steps as Steps
 use Rattle.lexicon.proofs.Unfit.{bad-no-bytes, no-bytes-only}
 use Rattle.grammar.specs.Tree.{Value}
@@ -15,6 +15,7 @@ use Rattle.grammar.specs.Nodes.{nodeWords, skipWord, wordAt, table}
 use Rattle.reading.specs.declared.Answer.{Answer}
 use Rattle.reading.specs.declared.Rules.{Rules}
 use Rattle.reading.specs.Sizes.{room, withArrow}
+use Rattle.reading.specs.Tokens.{Follow}
 use Rattle.reading.specs.Tabled.{Tabled}
 use Rattle.reading.specs.Answers.{Reading, noLevel, tooLong, notUtf8, faulty, noRoom, accepted}
 use Rattle.reading.proofs.Numbers.{fault-number}
@@ -46,12 +47,13 @@ use Rattle.form.proofs.Spellable as Spellable
 use Rattle.layout.proofs.Back.{relaid-back}
 use Rattle.layout.proofs.Twice.{relaid-joined}
 use Rattle.layout.proofs.Laid.{kept}
+use Rattle.layout.proofs.Replaced.{replaced}
 use Rattle.demands.specs.Requests.{OneTest, PlainSteps, SameRefusal, SameRefusals, Padding, OneFive, FiveInside, OneWrite, OneCheck, TextUnseen, AcceptsExactly, WrittenAccepted, RoomEnough, OneFile, SixteenBits, SameNumbers, AsRead}
 use Rattle.demands.specs.Requests.{OneJudgement, ChangedTable, OnePlain, NothingWritten, PlainRoom, WrittenReadsBack, AlsoWithoutArrow, EndsAlike, EveryRowSpelled}
 use Rattle.demands.specs.Requests.{ArrowRetired, NothingChanged, NoSuchBytes, OldOrder, NoneAccepted, NoRole3, InOrder, NothingNew, StoredAlike, OneConversion, NeitherNumber, NothingConverted, ConvertedRoom, ConvertedReadsBack, ConvertedAlike, ConvertedAsWritten}
 use Rattle.demands.specs.Requests.{RoomBySeven, SevenEach, OwnWords, LentWords, SameSkips}
 use Rattle.demands.specs.Requests.{EscapePointed, SameFive}
-use Rattle.demands.specs.Requests.{AsItStands, LaidBack, LaidTwice, LayoutKept, LayoutWords, AcceptedAlike, SamePlainForms, LayoutValues}
+use Rattle.demands.specs.Requests.{AsItStands, AnySpace, LaidBack, LaidTwice, LayoutKept, LayoutWords, AcceptedAlike, SamePlainForms, LayoutValues}
 use Rattle.demands.proofs.Exists.{some-reading}
 use Rattle.demands.proofs.Higher.{at-level-2}
 use Rattle.demands.proofs.Blobs.{from-reader, from-call, inside}
@@ -326,6 +328,11 @@ same-five rules text table buffer level l r c left kept x of a b = same-text rul
 
 pub as-it-stands : AsItStands
 as-it-stands rules text lent left level r a e = itself rules text lent left a e
+
+pub any-space : AnySpace
+any-space rules text lent left space level start from end r ts a e f row l m =
+    let x = itself rules text lent left a e in
+    replaced x space (subst (λ (n : ℕ). Follow text n ts from) (one-front text f (x .front)) row) l m
 
 pub laid-back : LaidBack
 laid-back text other x = relaid-back x

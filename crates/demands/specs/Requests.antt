@@ -9,7 +9,8 @@ use Prim.Native.Nat.{ℕ, _+_, _-_, _*_, _/_, _%_, _^_, _≤_, _<_, min}
 use lib.ListN.{length, take, drop}
 use Rattle.rules.specs.Class.{codes}
 use Rattle.rules.specs.Every.{Every}
-use Rattle.rules.specs.Plain.{between}
+use Rattle.rules.specs.Rule.{Longest}
+use Rattle.rules.specs.Plain.{Matches, between}
 use Rattle.lexicon.specs.declared.Token as Token
 use Rattle.lexicon.specs.declared.Form.{Form}
 use Rattle.lexicon.specs.declared.Form.the-variants.{Quoted}
@@ -17,6 +18,8 @@ use Rattle.lexicon.specs.declared.Kind.{Kind}
 use Rattle.lexicon.specs.declared.Kind.the-variants.{Blob, Text}
 use Rattle.lexicon.specs.Bytes.{base64}
 use Rattle.lexicon.specs.Utf8.{WellFormed}
+use Rattle.lexicon.specs.Space.{sp}
+use Rattle.lexicon.specs.Front.{Front}
 use Rattle.lexicon.specs.Literals.{blob}
 use Rattle.lexicon.specs.Values.{Behind}
 use Rattle.lexicon.specs.Bad.{FirstBad}
@@ -33,7 +36,7 @@ use Rattle.reading.specs.declared.Answer.{Answer}
 use Rattle.reading.specs.declared.Limits.{Limits}
 use Rattle.reading.specs.declared.Rules.{Rules}
 use Rattle.reading.specs.Sizes.{base, room, withArrow}
-use Rattle.reading.specs.Tokens.{seen}
+use Rattle.reading.specs.Tokens.{seen, Follow}
 use Rattle.reading.specs.Tests.{test, First}
 use Rattle.reading.specs.Faults.{NewerAt, TooDeep, tests}
 use Rattle.reading.specs.Answers.{LevelOf, answer, Accepted, Reading, Answers}
@@ -505,6 +508,14 @@ abbrev pub AsItStands : Type 0
 AsItStands =
     (rules : Rules) (text lent left : List ℕ) (level : ℕ) (r : Answer) → Answers rules text lent level r left →
     r .number ≡ 0 → Relaid text text
+
+-- and the dividing space before any token of it, or behind the last one, 'taken at its full length and not empty', may
+-- be any other 'non-empty dividing space': `any-space`
+abbrev pub AnySpace : Type 0
+AnySpace =
+    (rules : Rules) (text lent left space : List ℕ) (level start from end : ℕ) (r : Answer) (ts : List Tok) →
+    Answers rules text lent level r left → r .number ≡ 0 → Front text start → Follow text start ts from →
+    Longest text sp from end → Matches sp space → Relaid text (take from text ++ (space ++ drop end text))
 
 -- a replacement can be undone: `laid-back`; and two, one after the other, are one: `laid-twice`
 abbrev pub LaidBack : Type 0

@@ -13,7 +13,7 @@ use Rattle.rules.specs.Plain.{Matches}
 use Rattle.rules.specs.Every.{Every, none, also}
 use Rattle.rules.proofs.Classes.{apart, apartSpan}
 use Rattle.rules.proofs.Matches.{inside, starting, ending, longest-same}
-use Rattle.rules.proofs.Plain.{placed}
+use Rattle.rules.proofs.Plain.{plain, placed, between-stands}
 use Rattle.rules.proofs.Bounds.{all-of}
 use Rattle.rules.proofs.Windows.{Window, moved}
 use Rattle.rules.proofs.Chains.{Single, longest}
@@ -43,6 +43,10 @@ pub quote-sp : never quote sp ≡ true
 unfolding never apart apartSpan
 quote-sp = refl
 
+-- the same of two texts that are given in another way
+pub other-way : {a b s t : List ℕ} → a ≡ s → b ≡ t → Alike a b → Alike s t
+other-way {b = b} {s = s} e f x = subst (Alike s) f (subst (λ (l : List ℕ). Alike l b) e x)
+
 -- ---- a text from its front, and from a place on
 
 -- what matches at the front of a text is taken of it
@@ -67,6 +71,10 @@ module _ (text : List ℕ) (i : ℕ) (h : i ≤ length text) where
 
   pub fails-there : {r : Rule} → Fails (drop i text) r 0 → Fails text r i
   fails-there f = record { none = λ t. f .none (rest-takes t) }
+
+-- and the other way round
+pub fails-rest : (text : List ℕ) (i : ℕ) {r : Rule} → Fails text r i → Fails (drop i text) r 0
+fails-rest text i f = record { none = λ {k} t. f .none (placed text (plain (drop i text) t) i _ (between-stands (drop i text) 0 k)) }
 
 -- two cuts of one text behind as many bytes
 same-cut : (a b : List ℕ) {s t : List ℕ} → a ++ s ≡ b ++ t → length a ≡ length b → (a ≡ b) × (s ≡ t)

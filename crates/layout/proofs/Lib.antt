@@ -19,3 +19,5 @@ pub mod Derivations
 pub mod Stands
 pub mod Spelt
 pub mod Laid
+-- other space before any token
+pub mod Replaced

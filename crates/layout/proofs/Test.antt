@@ -15,7 +15,7 @@ use Rattle.rules.specs.Plain.{Matches, between}
 use Rattle.rules.specs.Test.{Says}
 use Rattle.rules.proofs.Tests.{says-no}
 use Rattle.rules.proofs.Matches.{longest-same}
-use Rattle.rules.proofs.Plain.{plain, placed, between-stands, takes-whole}
+use Rattle.rules.proofs.Plain.{plain, takes-whole}
 use Rattle.rules.proofs.Ways.{nullable, grows}
 use Rattle.lexicon.specs.Space.{blank, sp}
 use Rattle.lexicon.proofs.Spaces.{skips, skips-fails}
@@ -24,7 +24,7 @@ use Rattle.decisions.proofs.Tests.{by, and, either, below, equal, sameAs, same-
 use Rattle.decisions.proofs.Ends.{furthest, furthest-longest}
 use Rattle.decisions.proofs.Front.{frontOf, front-is}
 use Rattle.layout.specs.Relaid.{quotes, ordinary, Alike, ends, sameByte, sameQuotes, stretch, Relaid}
-use Rattle.layout.proofs.Cut.{first-takes, quotes-single, sp-many, fails-behind, none-first}
+use Rattle.layout.proofs.Cut.{other-way, first-takes, quotes-single, fails-rest, sp-many, fails-behind, none-first}
 use Rattle.layout.proofs.Back.{no-blank}
 
 -- ---- the first piece of a text
@@ -50,9 +50,7 @@ some r e {a} m = grows r e (takes-whole r a .1 m)
 
 -- no more of it begins behind all dividing space
 space-full : (s : List ℕ) → Fails (drop (endOf sp s) s) blank 0
-space-full s =
-    let e = endOf sp s in
-    record { none = λ {k} t. skips-fails (end-is sp s) .none (placed s (plain (drop e s) t) e _ (between-stands (drop e s) 0 k)) }
+space-full s = fails-rest s (endOf sp s) (skips-fails (end-is sp s))
 
 space-ends : {a : List ℕ} (s : List ℕ) → Matches sp a → Fails s blank 0 → endOf sp (a ++ s) ≡ length a
 space-ends {a} s m f = longest-same (end-is sp (a ++ s)) (skips (sp-many (first-takes m s)) (fails-behind a s f))
@@ -79,10 +77,6 @@ OnSpace a c s t = ((0 < a) × (0 < c)) × Alike (drop a s) (drop c t)
 
 abbrev Goes : List ℕ → List ℕ → Type 0
 Goes s t = (([] ≡ s) × ([] ≡ t)) ⊎ (OnByte s t ⊎ (OnQuotes (endOf quotes s) s t ⊎ OnSpace (endOf sp s) (endOf sp t) s t))
-
--- in two texts that are given in another way
-other-way : {a b s t : List ℕ} → a ≡ s → b ≡ t → Alike a b → Alike s t
-other-way {b = b} {s = s} e f x = subst (Alike s) f (subst (λ (l : List ℕ). Alike l b) e x)
 
 byte-alike : (s t : List ℕ) → OnByte s t → Alike s t
 byte-alike [] t x = absurd x

@@ -5,7 +5,7 @@ use mathlib.Core.List.{List, [], _∷_, _++_, append-assoc}
 use Prim.Native.Nat.{ℕ, _+_, _-_, _≤_, _<_}
 use native.Mathlib.Nat.{add-zero, sub-zero, sub-self, add-sub-cancel-left, add-sub-of-le}
 use native.Mathlib.Omega.{arith}
-use lib.ListN.{length, getD, drop, length-append, length-drop, take-append-drop}
+use lib.ListN.{length, getD, take, drop, length-append, length-drop, take-append-drop}
 use lib.Seq.{take-add, drop-drop, drop-cons, getD-drop, length-take-le, take-length, take-append-seam, drop-append-seam}
 use Rattle.rules.specs.Class.{Class, In}
 use Rattle.rules.specs.Rule.{Rule, row, At, Takes, nothing, byte, both, left, right, stop, more}
@@ -81,6 +81,17 @@ module _ (text : List ℕ) where
   pub between-stands : (i j : ℕ) → drop i text ≡ between text i j ++ drop (j - i) (drop i text)
   unfolding between
   between-stands i j = sym (take-append-drop (j - i) (drop i text))
+
+  -- and behind them with the rest
+  pub rest-stands : (i j : ℕ) → i ≤ j → drop i text ≡ between text i j ++ drop j text
+  rest-stands i j h =
+      let e : i + (j - i) ≡ j = omega (arith, h) in
+      between-stands i j ∙ ap (λ (l : List ℕ). between text i j ++ l) (drop-drop (j - i) i text ∙ ap (λ (n : ℕ). drop n text) e)
+
+  -- the bytes before a place
+  pub before-is : (i : ℕ) → between text 0 i ≡ take i text
+  unfolding between
+  before-is i = ap (λ (n : ℕ). take n text) (sub-zero i)
 
   -- the rule takes the text from i to j just where it matches the bytes between; that a match is forward and inside the text,
   -- proofs/Matches.antt shows
