@@ -3,6 +3,7 @@ use lexicon::Encoding;
 ghost use Rattle.reading.specs.Sizes.{base, oldRules};
 ghost use Rattle.reading.specs.Answers.{answer, Answers};
 ghost use Rattle.values.specs.Utf8.{Utf8Answers};
+ghost use Rattle.values.specs.Position.{Position};
 ghost use Rattle.values.specs.Integer.{IntegerAnswers};
 ghost use Rattle.values.specs.Text.{TextAnswers};
 ghost use Rattle.values.specs.Blob.{BlobAnswers};
@@ -11,7 +12,7 @@ ghost use Rattle.files.specs.Writes.{Writes};
 ghost use Rattle.files.specs.Checks.{Checks};
 ghost use Rattle.form.specs.Writes as Plain;
 
-// uint32_t muon_read(uint32_t level, const uint8_t *text, size_t text_len, uint32_t *table, size_t table_len, size_t *place, size_t *count);
+// uint32_t muon_read(uint32_t level, const void *text, size_t text_len, uint32_t *table, size_t table_len, size_t *place, size_t *count);
 // The answer's number is returned, its place and count are written, and the nodes stand in the table.
 #[no_mangle]
 pub extern "C" fn muon_read(
@@ -29,7 +30,7 @@ pub extern "C" fn muon_read(
     answer.number
 }
 
-// uint32_t muon_utf8(const uint8_t *text, size_t text_len, size_t *place, size_t *steps);
+// uint32_t muon_utf8(const void *text, size_t text_len, size_t *place, size_t *steps);
 // Whether a text of any length is UTF-8, where it is not, and the steps of the test up to there.
 #[no_mangle]
 pub extern "C" fn muon_utf8(text: &[u8], place: &mut usize, steps: &mut usize) -> u32
@@ -50,7 +51,18 @@ pub extern "C" fn muon_utf8(text: &[u8], place: &mut usize, steps: &mut usize) -
     }
 }
 
-// uint32_t muon_integer(const uint8_t *piece, size_t piece_len, int64_t *value, size_t *place, size_t *count);
+// void muon_line_column(const void *text, size_t text_len, size_t place, size_t *line, size_t *column);
+// Line and column of a place, both from 1 on.
+#[no_mangle]
+pub extern "C" fn muon_line_column(text: &[u8], place: usize, line: &mut usize, column: &mut usize)
+    ensures { λ _. ⌜ Position (now (text .entry)) place (now (line .exit)) (now (column .exit)) ⌝ }
+{
+    let position = position::line_column(text, place);
+    *line = position.line;
+    *column = position.column;
+}
+
+// uint32_t muon_integer(const void *piece, size_t piece_len, int64_t *value, size_t *place, size_t *count);
 // The signed integer of an Integer literal, which the piece is exactly.
 #[no_mangle]
 pub extern "C" fn muon_integer(
@@ -69,7 +81,7 @@ pub extern "C" fn muon_integer(
     read.number
 }
 
-// uint32_t muon_text(const uint8_t *piece, size_t piece_len, uint8_t *buffer, size_t buffer_len, size_t *place, size_t *count);
+// uint32_t muon_text(const void *piece, size_t piece_len, void *buffer, size_t buffer_len, size_t *place, size_t *count);
 // The characters of a Text literal, which the piece is exactly, as UTF-8 from the buffer's start on.
 #[no_mangle]
 pub extern "C" fn muon_text(
@@ -86,7 +98,7 @@ pub extern "C" fn muon_text(
     read.number
 }
 
-// uint32_t muon_blob(const uint8_t *piece, size_t piece_len, uint8_t *buffer, size_t buffer_len, size_t *place, size_t *count);
+// uint32_t muon_blob(const void *piece, size_t piece_len, void *buffer, size_t buffer_len, size_t *place, size_t *count);
 // The bytes of a Blob literal, which the piece is exactly, from the buffer's start on.
 #[no_mangle]
 pub extern "C" fn muon_blob(
@@ -103,7 +115,7 @@ pub extern "C" fn muon_blob(
     read.number
 }
 
-// uint32_t muon_bits(const uint8_t *piece, size_t piece_len, uint8_t *buffer, size_t buffer_len, size_t *place, size_t *count);
+// uint32_t muon_bits(const void *piece, size_t piece_len, void *buffer, size_t buffer_len, size_t *place, size_t *count);
 // The bits of a Bits literal, which the piece is exactly, a byte each, from the buffer's start on.
 #[no_mangle]
 pub extern "C" fn muon_bits(
@@ -120,7 +132,7 @@ pub extern "C" fn muon_bits(
     read.number
 }
 
-// uint32_t muon_file_write(const uint8_t *text, size_t text_len, uint8_t *buffer, size_t buffer_len, size_t *place, size_t *count);
+// uint32_t muon_file_write(const void *text, size_t text_len, void *buffer, size_t buffer_len, size_t *place, size_t *count);
 // The stored file of a text, read at level 2, from the buffer's start on.
 #[no_mangle]
 pub extern "C" fn muon_file_write(
@@ -137,7 +149,7 @@ pub extern "C" fn muon_file_write(
     written.number
 }
 
-// uint32_t muon_file_check(const uint8_t *text, size_t text_len, const uint8_t *file, size_t file_len, size_t *place, size_t *count);
+// uint32_t muon_file_check(const void *text, size_t text_len, const void *file, size_t file_len, size_t *place, size_t *count);
 // Whether the file is exactly the stored file of the text, which is read by the old rules.
 #[no_mangle]
 pub extern "C" fn muon_file_check(
@@ -154,7 +166,7 @@ pub extern "C" fn muon_file_check(
     checked.number
 }
 
-// uint32_t muon_plain(uint32_t level, const uint8_t *text, size_t text_len, const uint32_t *table, size_t table_len, uint8_t *buffer, size_t buffer_len, size_t *place, size_t *count);
+// uint32_t muon_plain(uint32_t level, const void *text, size_t text_len, const uint32_t *table, size_t table_len, void *buffer, size_t buffer_len, size_t *place, size_t *count);
 // The plain form of a text, read at a level, with its table, from the buffer's start on.
 #[no_mangle]
 pub extern "C" fn muon_plain(
@@ -173,7 +185,7 @@ pub extern "C" fn muon_plain(
     rewritten.number
 }
 
-// uint32_t muon_convert(uint32_t level, const uint8_t *text, size_t text_len, uint8_t *buffer, size_t buffer_len, size_t *place, size_t *count);
+// uint32_t muon_convert(uint32_t level, const void *text, size_t text_len, void *buffer, size_t buffer_len, size_t *place, size_t *count);
 // The plain form of a text, read at a level by the old rules, from the buffer's start on.
 #[no_mangle]
 pub extern "C" fn muon_convert(

@@ -1,12 +1,14 @@
--- Whether a rule takes a text from one place to another, and whether a place that it leads to passes a test. Assumes nothing.
+-- Whether a rule takes a text from one place to another, whether a match of it begins, and whether a place that it leads to passes a test.
+-- Assumes nothing.
 use mathlib.Core.Path.{_≡_, subst}
 use mathlib.Core.Logic.{_⊎_, inl, inr, ⊎-elim}
 use mathlib.Core.Bool.{Bool, true, false, _&&_, _||_, false≢true}
 use mathlib.Core.List.{List, [], _∷_}
 use Prim.Native.Nat.{ℕ}
 use Rattle.rules.specs.Test.{Says}
-use Rattle.rules.specs.Rule.{Rule, many, Takes, Among}
+use Rattle.rules.specs.Rule.{Rule, many, Takes, Fails, Among}
 use Rattle.rules.proofs.Bools.{or-cases, or-left, or-right}
+use Rattle.rules.proofs.Tests.{refuted, says-yes}
 use Rattle.decisions.proofs.Tests.{by, and}
 use Rattle.decisions.proofs.Places.{member, _∈_, here, there, first-or-rest}
 use Rattle.decisions.proofs.Ends.{endsAt, takes-end, end-among}
@@ -53,6 +55,16 @@ module _ (text : List ℕ) where
           let x = any-found f (endsAt text r i) e in
           let t = takes-end text r i (x .place) (x .among) in
           (x .place, t, s (x .place) t .true-holds (x .passes))
+
+  -- a match of the rule begins
+  abbrev pub begins : Rule → ℕ → Bool
+  begins r i = leads r i (λ _. true)
+
+  pub begun : (r : Rule) (i : ℕ) → Says (begins r i) ((k : ℕ) × Takes text r i k)
+  begun r i = by (λ x. (x .0, x .1)) (λ x. (x .0, x .1, tt)) (cut r i (λ _. true) (λ _. Unit {0}) (λ _ _. says-yes tt))
+
+  pub none-begins : {r : Rule} {i : ℕ} → begins r i ≡ false → Fails text r i
+  none-begins {r} {i} e = record { none = λ {k} t. refuted (begun r i) e (k, t) }
 
   -- one of the matches that a row of them consists of passes
   abbrev pub leadsAmong : Rule → (ℕ → ℕ → Bool) → ℕ → ℕ → Bool

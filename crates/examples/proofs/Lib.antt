@@ -7,6 +7,7 @@ pub mod Values
 pub mod Padding
 pub mod Contents
 pub mod Steps
+pub mod Positions
 pub mod Files
 pub mod Plain
 pub mod Arrow

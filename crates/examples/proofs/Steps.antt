@@ -8,13 +8,12 @@ use borrow.Author.Tests.{eqb-true, ltb-true}
 use lib.Dec.{eqb, ltb}
 use lib.ListN.{length}
 use Rattle.rules.specs.Class.{has}
-use Rattle.rules.specs.Rule.{Fails}
-use Rattle.rules.proofs.Tests.{refuted, says-yes}
+use Rattle.rules.proofs.Tests.{refuted}
 use Rattle.lexicon.specs.Utf8.{sequence}
 use Rattle.lexicon.specs.Steps.{eight, start, eightBytes, oneSequence}
 use Rattle.lexicon.specs.Steps as Lexicon
 use Rattle.lexicon.proofs.Steps.{no-eight, steps-reach}
-use Rattle.decisions.proofs.Cuts.{reaches, takes, leads, cut}
+use Rattle.decisions.proofs.Cuts.{reaches, takes, leads, cut, begins, none-begins}
 use Rattle.values.specs.Utf8.{Utf8Answers, wellFormed, notUtf8}
 use Rattle.examples.specs.Steps.{Steps}
 
@@ -46,13 +45,10 @@ module _ (text : List ℕ) where
   accepts {n} e = let s = steps n (length text) e in wellFormed (steps-reach text s) s
 
   -- no sequence begins at p
-  refuses : {n p : ℕ} → walks n 0 p ≡ true → ltb p (length text) ≡ true → leads text sequence p (λ m. true) ≡ false → Utf8Answers text 3 p n
+  refuses : {n p : ℕ} → walks n 0 p ≡ true → ltb p (length text) ≡ true → begins text sequence p ≡ false → Utf8Answers text 3 p n
   refuses {n} {p} e l f =
       let s = steps n p e in
-      notUtf8 (record { reached = steps-reach text s; within = ltb-true p (length text) l; none = fails }) s
-    where
-      fails : Fails text sequence p
-      fails = record { none = λ {k} t. refuted (cut text sequence p (λ m. true) (λ m. Unit {0}) (λ m u. says-yes tt)) f (k, t, tt) }
+      notUtf8 (record { reached = steps-reach text s; within = ltb-true p (length text) l; none = none-begins text f }) s
 
 pub all-steps : Steps
 unfolding has

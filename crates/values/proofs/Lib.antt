@@ -1,5 +1,6 @@
 -- The laws of the value calls' answers.
 pub mod Utf8
+pub mod Position
 pub mod IntegerDetermined
 pub mod IntegerExists
 pub mod Shapes
