@@ -1,10 +1,10 @@
 //! Reads a sample of texts, writes and checks their stored files, writes their
-//! plain forms, converts them, asks for the values of a sample of pieces and
-//! tests a sample of UTF-8, through the C interface out of and into memory of
-//! exactly the size lent, to be run under valgrind: a read or write outside of it
-//! is an error there, and so is an answer that depends on what the table or
-//! buffer held, or on the words behind a text's, since nothing is written to it
-//! before.
+//! plain forms, converts them, asks for the values of a sample of pieces, tests
+//! a sample of UTF-8 and asks for lines and columns in it, through the C interface
+//! out of and into memory of exactly the size lent, to be run under valgrind: a
+//! read or write outside of it is an error there, and so is an answer that depends
+//! on what the table or buffer held, or on the words behind a text's, since nothing
+//! is written to it before.
 //!
 //! Exits with 1 if an answer, a written word or byte, the text, the piece, the
 //! file or the table is not as it should be.  `lent_memory overstated` tells one byte
@@ -22,6 +22,7 @@ use second::generate::{
     long_packed_pieces, long_texts, packed_pieces, pieces, random_bytes, random_escape_pieces,
     random_packed_pieces, row, sample_pieces, texts, Random, FRAMES, RUN_MAX,
 };
+use second::position::{position, Position};
 use second::tree::Rules;
 use second::utf8::{self, Tested};
 use second::{file, plain, samples, tree, value};
@@ -114,6 +115,13 @@ extern "C" {
         count: *mut usize,
     ) -> u32;
     fn muon_utf8(text: *const u8, text_len: usize, place: *mut usize, steps: *mut usize) -> u32;
+    fn muon_line_column(
+        text: *const u8,
+        text_len: usize,
+        place: usize,
+        line: *mut usize,
+        column: *mut usize,
+    );
 }
 
 /// A call of the archive that writes to a buffer, and this package's.
@@ -245,6 +253,27 @@ fn compare_utf8(text: &[u8], front: usize) -> Compared {
     let theirs = proved_utf8(&memory, front, text.len());
     let what = format!("utf8 test behind {front} bytes");
     same(&what, text, utf8::test(text), theirs)
+}
+
+/// Line and column of a text's end, of a place before it and of one beyond, of
+/// a text that ends where its memory does.
+fn compare_positions(text: &[u8], front: usize) -> Compared {
+    let memory = Lent::holding_behind(front, text);
+    for place in [text.len() / 2, text.len(), usize::MAX] {
+        let mut theirs = Position { line: 0, column: 0 };
+        // SAFETY: the memory is as long.
+        unsafe {
+            muon_line_column(
+                memory.start.as_ptr().add(front),
+                text.len(),
+                place,
+                &mut theirs.line,
+                &mut theirs.column,
+            );
+        }
+        same("position", text, position(text, place), theirs)?;
+    }
+    Ok(())
 }
 
 /// One reading, held against the second program's.
@@ -527,6 +556,7 @@ fn all_values(values: &mut usize) -> Compared {
 fn all_tests(tests: &mut usize) -> Compared {
     let mut test = |text: &[u8], front: usize| {
         *tests += 1;
+        compare_positions(text, front)?;
         compare_utf8(text, front)
     };
     for row in around(&[], RUN_MAX) {
@@ -659,7 +689,7 @@ fn main() -> ExitCode {
         .and_then(|()| all_values(&mut values))
         .and_then(|()| all_tests(&mut tests));
     let compared = format!(
-        "{readings} readings, {files} writings and checks of files, {forms} plain forms, {conversions} conversions, {values} values, {tests} UTF-8 tests"
+        "{readings} readings, {files} writings and checks of files, {forms} plain forms, {conversions} conversions, {values} values, {tests} UTF-8 tests with lines and columns"
     );
     finish("lent_memory", &compared, outcome)
 }
