@@ -1,16 +1,19 @@
 /* A proved reader of MUON plain text (Muldis Object Notation 0.300.0) at the levels 1 and 2: muon_read gives the nodes
    of a text, muon_integer, muon_text, muon_blob and muon_bits give the value of one literal, muon_file_write and muon_file_check keep
    what was read in a file beside the text, muon_plain writes a text again in its plain form, muon_convert does so with a text that may
-   still have the arrow `<-`, and muon_utf8 tests bytes for UTF-8 alone.
+   still have the arrow `<-`, muon_utf8 tests bytes for UTF-8 alone, and muon_line_column tells the line and the column of a place.
+
+   The language on one page: docs/SETTINGS.md. A setting read by its name: examples/settings.c.
 
    The archive is target/staticlib/libcapi.a, written by `rt staticlib capi` (x86-64); it needs no other library, but for memset, which a C
-   compiler's own code needs as well. Linking:
+   compiler's own code needs as well. Linking, with the repository's or, behind `make install`, with the one that is then called libmuon.a:
 
        cc -Iinclude program.c target/staticlib/libcapi.a
+       cc program.c $(pkg-config --cflags --libs muon)
 
    The contract of every call here is proved for all inputs: any bytes, any level and any lent memory give an answer, and lent memory
    is touched as said below and not otherwise. What is not proved is the caller: a length that is not the memory's own, or memory that
-   is lent twice. */
+   is lent twice; and the functions that stand in this header whole, for they are C. */
 #ifndef MUON_H
 #define MUON_H
 
@@ -21,9 +24,33 @@
 extern "C" {
 #endif
 
+/* The version of header and archive. */
+#define MUON_VERSION_MAJOR 0
+#define MUON_VERSION_MINOR 2
+#define MUON_VERSION_PATCH 0
+#define MUON_VERSION "0.2.0"
+
+/* Of a call whose result must not be ignored: a compiler that can warns of it. */
+#if (defined(__cplusplus) && __cplusplus >= 201703L) || (defined(__STDC_VERSION__) && __STDC_VERSION__ >= 202311L)
+#define MUON_MUST_USE [[nodiscard]]
+#elif defined(__GNUC__)
+#define MUON_MUST_USE __attribute__((__warn_unused_result__))
+#else
+#define MUON_MUST_USE
+#endif
+
+#if defined(__cplusplus) || (defined(__STDC_VERSION__) && __STDC_VERSION__ >= 199901L)
+#define MUON_INLINE static inline
+#elif defined(__GNUC__) /* C90 has no inline, and a static function that is not used is warned of */
+#define MUON_INLINE static __inline__
+#else
+#define MUON_INLINE static
+#endif
+
 /* ---- Sizes ------------------------------------------------------------------------------------------------------------------ */
 
-/* The longest text or piece, in bytes. */
+/* The longest text or piece, in bytes. A program that reads a file into memory of fixed size lends one byte more, so that a longer file is
+   refused with 2 and not cut: what is left of it might be accepted. */
 #define MUON_TEXT_MAX 32768
 /* The most brackets open at once: each of ( { [ counts, also where it makes no node. */
 #define MUON_DEPTH_MAX 32
@@ -45,9 +72,9 @@ extern "C" {
 /* The stack that a call needs at most, in bytes, whatever the input; muon_file_write, muon_file_check, muon_plain and muon_convert have
    another number.
    Behind it: the frames of muon_read times the open brackets that there may be come to 30,192 bytes in the archive as built today, those of
-   muon_integer to 560, of muon_text to 864, of muon_blob and of muon_bits to 800 each and of muon_utf8 to 376; the most that was
-   measured, over the deepest texts and the longest ways through a literal, is 29,804, 556, 864, 796, 796 and 232 (tests/stack prints
-   them and fails if one exceeds the number here).
+   muon_integer to 560, of muon_text to 864, of muon_blob and of muon_bits to 800 each, of muon_utf8 to 376 and of muon_line_column to 296;
+   the most that was measured, over the deepest texts and the longest ways through a literal, is 29,804, 556, 864, 796, 796, 232 and 136
+   (tests/stack prints them and fails if one exceeds the number here).
    No call takes memory from anywhere else. */
 #define MUON_STACK_MAX 32768
 /* The stack that muon_file_write, muon_file_check, muon_plain and muon_convert need at most, since each reads the text into a table on its
@@ -57,7 +84,8 @@ extern "C" {
 
 /* ---- The answer ------------------------------------------------------------------------------------------------------------- */
 
-/* A call returns the answer's number, and writes its place and its count, muon_utf8 its steps in place of a count, in every case.
+/* A call returns the answer's number, and writes its place and its count, muon_utf8 its steps in place of a count, in every case;
+   muon_line_column alone refuses nothing, and returns nothing. A result that is ignored is warned of (MUON_MUST_USE).
 
    Accepted is 0: the place is the length of the text or piece, and the count is the number of nodes written by muon_read, of bytes
    written by muon_text, muon_blob, muon_bits, muon_file_write, muon_plain and muon_convert, of the file's bytes for muon_file_check, and 0
@@ -125,7 +153,7 @@ extern "C" {
    muon_convert: those of muon_read at that level with a table of MUON_TABLE_MAX words, with their places and counts, as they were before
    the arrow was retired; so never 15, and 8 with the nodes if they are more than MUON_NODES_MAX. Then 8 with the bytes of the plain form if
    the buffer is shorter. No other.
-   muon_utf8: 3, and no other. */
+   muon_utf8: 3, and no other. muon_line_column: none. */
 
 /* ---- The nodes -------------------------------------------------------------------------------------------------------------- */
 
@@ -152,9 +180,21 @@ extern "C" {
 #define MUON_NODE_DETAIL 5
 #define MUON_NODE_SKIP 6
 
+/* What a caller of settings needs of this:
+
+   An attribute of a Tuple that has a name is two nodes, the name and right behind it its value: a name has no children, so the value has
+   the name's index + 1. An attribute without a name is its value alone. `(speed:1,2)` has the nodes `10 0 11 0 0 0 4`, `7 1 6 0 4 2 2`,
+   `3 7 8 0 5 0 3` and `3 9 10 0 5 0 4`.
+   Compare names by muon_text and not by their bytes: the names of `(speed:1,)` and `("speed":1,)` are one name. muon_attribute does so, and
+   counts, for a Tuple may have a name twice: `(x:1,x:2)` has 5 nodes. muon_unknown meets the names that a program does not know.
+   MUON_NODES_MAX is met before MUON_TEXT_MAX: from 2 KB on in the densest text, `{1,1,1}` with 1,024 members, which has 2,049 bytes; with
+   attributes such as the one of `(speed:3000,)` from 5.6 KB on, and with space and a comment to each from some 20 KB on. Then muon_read
+   gives MUON_REFUSED_NO_ROOM, and a count above MUON_NODES_MAX says that no table helps: divide the settings between two texts, or write a
+   long row of numbers as one Blob or Text, which is one node however long it is. */
+
 /* Kinds. A group `(v)` makes no node. The names in a Nesting are no nodes either. */
 #define MUON_KIND_IGNORANCE 1
-#define MUON_KIND_BOOLEAN 2 /* detail 0: FALSE, 1: TRUE */
+#define MUON_KIND_BOOLEAN 2 /* detail 0: FALSE, 1: TRUE; see muon_boolean */
 #define MUON_KIND_INTEGER 3
 #define MUON_KIND_FRACTION 4
 #define MUON_KIND_BITS 5
@@ -202,26 +242,19 @@ extern "C" {
 
 /* ---- Walking the nodes ------------------------------------------------------------------------------------------------------ */
 
-/* No index: what the two functions below give where there is no such node. No node has it, since a table has at most MUON_NODES_MAX; 0
+/* No index: what functions below give where there is no such node. No node has it, since a table has at most MUON_NODES_MAX; 0
    would not do, since the root has it. */
 #define MUON_NONE 0xFFFFFFFFu
 
-/* The two functions stand here whole: they are no part of the archive, and not proved. What is proved, of every table that muon_read has
-   written, is that the way they go, from the next index by each child's skip up to the node's own, meets all children and nothing else.
-   They read at most three words of the table and write nothing. The table must be one that muon_read has accepted a text with, and the
-   index below the count of that reading; otherwise words outside of the table may be read. All children of a node, each passed with all
-   that is below it:
+/* The functions that stand here whole, in this section and in the last one, are no part of the archive, and not proved. What is proved, of
+   every table that muon_read has written, is that the way the first two go, from the next index by each child's skip up to the node's own,
+   meets all children and nothing else. Those of this section read at most three words of the table and write nothing. The table must be one
+   that muon_read has accepted a text with, and the index below the count of that reading; otherwise words outside of the table may be read.
+   All children of a node, each passed with all that is below it:
 
        for (i = muon_first_child(table, node); i != MUON_NONE; i = muon_next_sibling(table, i))
 
-   tests/walk.c walks a whole text so. */
-#if defined(__cplusplus) || (defined(__STDC_VERSION__) && __STDC_VERSION__ >= 199901L)
-#define MUON_INLINE static inline
-#elif defined(__GNUC__) /* C90 has no inline, and a static function that is not used is warned of */
-#define MUON_INLINE static __inline__
-#else
-#define MUON_INLINE static
-#endif
+   examples/walk.c walks a whole text so. */
 
 /* The index of a node's first child, or MUON_NONE if it has no children. */
 MUON_INLINE uint32_t muon_first_child(const uint32_t *table, uint32_t index) {
@@ -234,6 +267,21 @@ MUON_INLINE uint32_t muon_next_sibling(const uint32_t *table, uint32_t index) {
     uint32_t skip = table[MUON_NODE_WORDS * index + MUON_NODE_SKIP];
     uint32_t parent = table[MUON_NODE_WORDS * index + MUON_NODE_PARENT];
     return skip < table[MUON_NODE_WORDS * parent + MUON_NODE_SKIP] ? skip : MUON_NONE;
+}
+
+/* A word of a node: muon_node_word(table, index, MUON_NODE_KIND) is its kind. */
+MUON_INLINE uint32_t muon_node_word(const uint32_t *table, uint32_t index, uint32_t word) {
+    return table[MUON_NODE_WORDS * index + word];
+}
+
+/* The bytes of a node, which the value calls take as their piece: where they begin in the text, the one that was read, and how many they
+   are. */
+MUON_INLINE const void *muon_piece(const void *text, const uint32_t *table, uint32_t index) {
+    return (const uint8_t *)text + muon_node_word(table, index, MUON_NODE_FIRST);
+}
+
+MUON_INLINE size_t muon_piece_len(const uint32_t *table, uint32_t index) {
+    return muon_node_word(table, index, MUON_NODE_END) - muon_node_word(table, index, MUON_NODE_FIRST);
 }
 
 /* ---- The stored file ------------------------------------------------------------------------------------------------------- */
@@ -258,8 +306,8 @@ MUON_INLINE uint32_t muon_next_sibling(const uint32_t *table, uint32_t index) {
 /* Memory, for every call: all of it stays the caller's. Nothing is kept when the call returns, nothing is allocated, and there is no
    global state, so calls may run in several threads, each with memory of its own to be written; what is only read may be shared.
    The caller sees to it that what is lent is of the lengths told, aligned as C has it for its type, does not overlap, and is not changed
-   by another thread during the call. value, place, count and steps must not be NULL. With length 0 text, table, piece, buffer or file is
-   not followed and may be NULL. */
+   by another thread during the call. value, place, count, steps, line and column must not be NULL. With length 0 text, table, piece, buffer
+   or file is not followed and may be NULL. Text, pieces, buffers and files are bytes, whatever type the caller has them in. */
 
 /* Reads a text at a level, and writes its nodes to a lent table.
 
@@ -272,15 +320,15 @@ MUON_INLINE uint32_t muon_next_sibling(const uint32_t *table, uint32_t index) {
    count      one size_t, written in every case
 
    Accepted, exactly the first MUON_NODE_WORDS * *count words of the table are written. Refused, none. */
-uint32_t muon_read(uint32_t level, const uint8_t *text, size_t text_len, uint32_t *table, size_t table_len, size_t *place,
-                   size_t *count);
+MUON_MUST_USE uint32_t muon_read(uint32_t level, const void *text, size_t text_len, uint32_t *table, size_t table_len, size_t *place,
+                                 size_t *count);
 
 /* The value calls. Their piece is the literal alone, as a node's first and end have it: text + first, end - first bytes. No byte-order
    mark, first line `#!` or dividing space around it is dropped; with one of them the piece is refused with 9.
 
    The bytes of a node of an accepted text are never refused with 2, 3, 9 or 5: an Integer's node gives muon_integer its value, or 10; a
    Text's node gives muon_text its characters, or 8; a Bits node gives muon_bits its bits, or 8; a Blob's node gives muon_blob its bytes,
-   or 8 (proved; pieces in crates/demands/proofs/Pieces.antt). */
+   or 8 (proved; pieces in crates/demands/proofs/Pieces.antt). A Boolean's value is in its node: muon_boolean, in the last section. */
 
 /* The signed integer of an Integer literal: `29 56` has the value 2956, `-0x F_F` has the value -255.
 
@@ -288,7 +336,7 @@ uint32_t muon_read(uint32_t level, const uint8_t *text, size_t text_len, uint32_
    value      one int64_t, written in every case: the integer if accepted, 0 if refused
    place      one size_t, written in every case
    count      one size_t, written in every case, always 0 */
-uint32_t muon_integer(const uint8_t *piece, size_t piece_len, int64_t *value, size_t *place, size_t *count);
+MUON_MUST_USE uint32_t muon_integer(const void *piece, size_t piece_len, int64_t *value, size_t *place, size_t *count);
 
 /* The characters of a Text literal (quoted, word or code point) as UTF-8, from the start of a lent buffer on; no 0 is put behind them.
    Only a segment that begins with a backslash has escapes: `"\a\n"` is a and a line feed, `"a\n"` has the characters `a\n`, and
@@ -306,7 +354,7 @@ uint32_t muon_integer(const uint8_t *piece, size_t piece_len, int64_t *value, si
    Accepted, exactly the first *count bytes of the buffer are written, and they are well-formed UTF-8. Refused, none.
    piece_len bytes are room enough for every piece: the characters of a Text are no more bytes than its literal (proved; `text-bounded`
    in `crates/values/proofs/Texts.antt` with `enough-room` in `crates/values/proofs/Fits.antt`). */
-uint32_t muon_text(const uint8_t *piece, size_t piece_len, uint8_t *buffer, size_t buffer_len, size_t *place, size_t *count);
+MUON_MUST_USE uint32_t muon_text(const void *piece, size_t piece_len, void *buffer, size_t buffer_len, size_t *place, size_t *count);
 
 /* The bytes of a Blob literal, from the start of a lent buffer on. The digits are of base 2, 16 or 64: `0xb00000001` has the bytes 01,
    `0xxA7_05 FF` has the bytes A7 05 FF, `0xyAQ==` has the bytes 01, and `0xy` has no bytes.
@@ -325,7 +373,7 @@ uint32_t muon_text(const uint8_t *piece, size_t piece_len, uint8_t *buffer, size
    Accepted, exactly the first *count bytes of the buffer are written. Refused, none.
    piece_len bytes are room enough for every piece (proved; `blob-bounded` in `crates/values/proofs/BitsAndBlobs.antt` with `enough-room`
    in `crates/values/proofs/Fits.antt`). */
-uint32_t muon_blob(const uint8_t *piece, size_t piece_len, uint8_t *buffer, size_t buffer_len, size_t *place, size_t *count);
+MUON_MUST_USE uint32_t muon_blob(const void *piece, size_t piece_len, void *buffer, size_t buffer_len, size_t *place, size_t *count);
 
 /* The bits of a Bits literal, from the start of a lent buffer on: a byte 0 or 1 for each bit, the most significant bit of each digit
    first. The digits are of base 2, 8 or 16: `0bb1_0 1` has the bits 1 0 1, `0bo17` has the bits 0 0 1 1 1 1, `0bxA` has the bits 1 0 1 0,
@@ -339,7 +387,7 @@ uint32_t muon_blob(const uint8_t *piece, size_t piece_len, uint8_t *buffer, size
    Accepted, exactly the first *count bytes of the buffer are written. Refused, none.
    4 * piece_len bytes are room enough for every piece, and so MUON_BITS_MAX are for any (proved; `bits-bounded` in
    `crates/values/proofs/BitsAndBlobs.antt` with `enough-room` in `crates/values/proofs/Fits.antt`). */
-uint32_t muon_bits(const uint8_t *piece, size_t piece_len, uint8_t *buffer, size_t buffer_len, size_t *place, size_t *count);
+MUON_MUST_USE uint32_t muon_bits(const void *piece, size_t piece_len, void *buffer, size_t buffer_len, size_t *place, size_t *count);
 
 /* Reads a text at level 2, and writes its stored file from the start of a lent buffer on. Nothing is stored with an arrow any more: as a
    text to be stored, `(b<-a)` is 15@2. A refusal of the reader has the reader's place: as a text to be stored, `(x:"\\<0cxD800>")` is 5@5.
@@ -353,7 +401,7 @@ uint32_t muon_bits(const uint8_t *piece, size_t piece_len, uint8_t *buffer, size
    MUON_FILE_MAX bytes are room enough for every text that has a file: with as many, 8 is given only where there are more than
    MUON_NODES_MAX nodes, and the count tells them (proved; `room-enough` in `crates/demands/proofs/Requests.antt`). With fewer, the count
    alone does not tell whether nodes or bytes are meant. */
-uint32_t muon_file_write(const uint8_t *text, size_t text_len, uint8_t *buffer, size_t buffer_len, size_t *place, size_t *count);
+MUON_MUST_USE uint32_t muon_file_write(const void *text, size_t text_len, void *buffer, size_t buffer_len, size_t *place, size_t *count);
 
 /* Tests whether a file is the stored file of a text: it is accepted exactly when muon_file_write would give it for the text, or would have
    given it before the arrow was retired, all of it and nothing behind it (proved; `accepts-exactly` and `written-accepted` in
@@ -373,7 +421,8 @@ uint32_t muon_file_write(const uint8_t *text, size_t text_len, uint8_t *buffer, 
    file       file_len bytes, read only, of any number
    place      one size_t, written in every case
    count      one size_t, written in every case */
-uint32_t muon_file_check(const uint8_t *text, size_t text_len, const uint8_t *file, size_t file_len, size_t *place, size_t *count);
+MUON_MUST_USE uint32_t muon_file_check(const void *text, size_t text_len, const void *file, size_t file_len, size_t *place,
+                                       size_t *count);
 
 /* Writes the plain form of a text, which muon_read has read at this level into this table, from the start of a lent buffer on: the text
    less all that means nothing. No byte-order mark, first line `#!`, comment, dividing space or group is left, and no `_` between digits;
@@ -404,8 +453,8 @@ uint32_t muon_file_check(const uint8_t *text, size_t text_len, const uint8_t *fi
    `plain-room` in `crates/demands/proofs/Requests.antt`), and the text is written without being measured first. With fewer, the count alone
    does not tell whether nodes or bytes are meant, but a table that muon_read has just accepted the text with has room for the nodes.
    With the table of `(x,y)`, `(x:y)` is 14@0. */
-uint32_t muon_plain(uint32_t level, const uint8_t *text, size_t text_len, const uint32_t *table, size_t table_len, uint8_t *buffer,
-                    size_t buffer_len, size_t *place, size_t *count);
+MUON_MUST_USE uint32_t muon_plain(uint32_t level, const void *text, size_t text_len, const uint32_t *table, size_t table_len,
+                                  void *buffer, size_t buffer_len, size_t *place, size_t *count);
 
 /* Converts a text that may still have the arrow `<-`: reads it at a level by the rules of before the arrow was retired, and writes its
    plain form (see muon_plain), which has no arrow, from the start of a lent buffer on. There `(b<-a)` was the pair of this a and that b.
@@ -429,8 +478,8 @@ uint32_t muon_plain(uint32_t level, const uint8_t *text, size_t text_len, const 
    Accepted, exactly the first *count bytes of the buffer are written. Refused, none.
    MUON_PLAIN_BYTES(text_len) bytes are room enough for every text: with as many, 8 is given only where there are more than MUON_NODES_MAX
    nodes, and the count tells them. With fewer, the count alone does not tell whether nodes or bytes are meant. */
-uint32_t muon_convert(uint32_t level, const uint8_t *text, size_t text_len, uint8_t *buffer, size_t buffer_len, size_t *place,
-                      size_t *count);
+MUON_MUST_USE uint32_t muon_convert(uint32_t level, const void *text, size_t text_len, void *buffer, size_t buffer_len, size_t *place,
+                                    size_t *count);
 
 /* The UTF-8 test alone: MUON_ACCEPTED, with the length for the place, or MUON_REFUSED_NOT_UTF8, with the first byte at which, reading
    well-formed sequences from the front, none begins. It is the test that every other call makes before it gives that refusal, with the
@@ -444,7 +493,152 @@ uint32_t muon_convert(uint32_t level, const uint8_t *text, size_t text_len, uint
    text       text_len bytes, read only, of any number; need not end in 0
    place      one size_t, written in every case
    steps      one size_t, written in every case */
-uint32_t muon_utf8(const uint8_t *text, size_t text_len, size_t *place, size_t *steps);
+MUON_MUST_USE uint32_t muon_utf8(const void *text, size_t text_len, size_t *place, size_t *steps);
+
+/* Line and column of a place, for people. The line is 1 and one more for each byte 0A before the place; the column is 1 and one more for
+   each character between the start of the line and the place. A character is a well-formed UTF-8 sequence, however wide it is shown; a byte
+   at which none begins is counted by itself. So a tab is one character, as is the byte 0D. A place inside of a character has the column of
+   that character, and a place beyond the text is taken as its end. There is an answer for everything, and no refusal: nothing is returned,
+   and nothing but line and column is written. A place within a piece is a place in the text once the first of its node is added.
+
+   text       text_len bytes, read only, of any number; need not end in 0
+   place      any number
+   line       one size_t, written in every case
+   column     one size_t, written in every case */
+void muon_line_column(const void *text, size_t text_len, size_t place, size_t *line, size_t *column);
+
+/* ---- A setting by its name, and words for numbers --------------------------------------------------------------------------- */
+
+/* The text of these functions is the one that was read, their table the one that muon_read has accepted it with, and an index is below the
+   count of that reading; 0 is the whole text. They write nothing but value. */
+
+/* The longest Text that muon_text_is, and with it muon_attribute and muon_unknown, can find, in bytes. */
+#define MUON_NAME_MAX 256
+
+/* Whether a node is a Text of these characters: 1 or 0. Compared are the characters, byte for byte, by muon_text: `speed`, `"speed"` and
+   `"\\<0c115>peed"` are the same. The answer is 0 for a Text of more than MUON_NAME_MAX bytes, whatever it is compared with.
+
+       if (muon_text_is(text, table, mode, "night", 5)) ...
+
+   name       name_len bytes, read only, as UTF-8; need not end in 0, may be NULL with length 0
+
+   It needs MUON_NAME_MAX bytes of stack and a few words beside those of muon_text, and so do the next two. */
+MUON_MUST_USE MUON_INLINE int muon_text_is(const void *text, const uint32_t *table, uint32_t index, const void *name, size_t name_len) {
+    uint8_t found[MUON_NAME_MAX];
+    const uint8_t *wanted = (const uint8_t *)name;
+    size_t place, count, same = 0;
+    if (muon_text(muon_piece(text, table, index), muon_piece_len(table, index), found, sizeof found, &place, &count) != MUON_ACCEPTED)
+        return 0;
+    if (count != name_len) return 0;
+    while (same < count && found[same] == wanted[same]) same++;
+    return same == count;
+}
+
+/* The attributes of a Tuple that have a name: returns how many they are, and writes the index of the first one's value, MUON_NONE if there
+   is none. A setting that must be there once is one where 1 is returned; 0 is absent, 2 and more is repeated, and which of them is meant
+   cannot be known.
+
+       if (muon_attribute(text, table, 0, "speed", 5, &value) != 1) ...
+
+   Names are compared by muon_text_is: the same is found in `(speed:1,)`, `("speed":1,)` and `("\\<0c115>peed":1,)`. A Nesting is no such
+   name, and an attribute without a name has none. A name that is asked for and longer than MUON_NAME_MAX is not found.
+   A node that is no Tuple has no attributes: of `(speed:1)`, which is a Pair, 0 is returned.
+
+   tuple      an index
+   name       name_len bytes, as for muon_text_is
+   value      one uint32_t, written in every case */
+MUON_MUST_USE MUON_INLINE uint32_t muon_attribute(const void *text, const uint32_t *table, uint32_t tuple, const void *name,
+                                                  size_t name_len, uint32_t *value) {
+    uint32_t times = 0, i;
+    *value = MUON_NONE;
+    for (i = muon_first_child(table, tuple); i != MUON_NONE; i = muon_next_sibling(table, i)) {
+        if (muon_node_word(table, i, MUON_NODE_ROLE) != MUON_ROLE_NAME || !muon_text_is(text, table, i, name, name_len)) continue;
+        if (times == 0) *value = i + 1;
+        times++;
+    }
+    return times;
+}
+
+/* What a Tuple has beside the attributes that a program knows: the index of the first attribute that has none of the names, which is its
+   name's node, or its value's if it has no name; MUON_NONE if there is none such. Asked for first, it keeps a setting that is misspelt from
+   being taken for one that is absent, and `(speed:3,000)`, a speed of 3 and a value 000 without a name, from being taken for 3,000.
+
+       static const char *const known[] = {"speed", "site", NULL};
+       if (muon_unknown(text, table, 0, known) != MUON_NONE) ...
+
+   Names are compared by muon_text_is, so a Nesting is none of them, nor is one of more than MUON_NAME_MAX bytes. A name that is known and
+   repeated is not met here, but by muon_attribute. What is no Tuple is unknown itself: of `(speed:1)`, which is a Pair, and of `{speed:1}`,
+   a Lot, the node is returned that was asked for.
+
+   tuple      an index
+   names      C strings in UTF-8, and behind the last one NULL */
+MUON_MUST_USE MUON_INLINE uint32_t muon_unknown(const void *text, const uint32_t *table, uint32_t tuple, const char *const *names) {
+    uint32_t i;
+    if (muon_node_word(table, tuple, MUON_NODE_KIND) != MUON_KIND_TUPLE) return tuple;
+    /* from name to name, each with its value behind it */
+    for (i = muon_first_child(table, tuple); i != MUON_NONE; i = muon_next_sibling(table, i + 1)) {
+        const char *const *name = names;
+        if (muon_node_word(table, i, MUON_NODE_ROLE) != MUON_ROLE_NAME) return i;
+        for (; *name != NULL; name++) {
+            size_t name_len = 0;
+            while ((*name)[name_len] != 0) name_len++;
+            if (muon_text_is(text, table, i, *name, name_len)) break;
+        }
+        if (*name == NULL) return i;
+    }
+    return MUON_NONE;
+}
+
+/* The value of a Boolean, as the value calls give those of other kinds: MUON_ACCEPTED, or MUON_REFUSED_NOT_THE_LITERAL for a node of another
+   kind. The detail alone does not do, for other kinds have details, too: that of the Text `"false"` is 1, as TRUE's is.
+
+   value      one int, written in every case: 1 for TRUE, 0 for FALSE, 0 if refused */
+MUON_MUST_USE MUON_INLINE uint32_t muon_boolean(const uint32_t *table, uint32_t index, int *value) {
+    int boolean = muon_node_word(table, index, MUON_NODE_KIND) == MUON_KIND_BOOLEAN;
+    *value = boolean && muon_node_word(table, index, MUON_NODE_DETAIL) == MUON_DETAIL_TRUE;
+    return boolean ? MUON_ACCEPTED : MUON_REFUSED_NOT_THE_LITERAL;
+}
+
+/* What a refusal is called, and what to say of it to people; 0 is "accepted". Any number has an answer, as it has below. */
+MUON_INLINE const char *muon_refusal_name(uint32_t number) {
+    static const char *const names[] = {"accepted",     "level",           "too long",     "not UTF-8",
+                                        "no token",     "bad value",       "wrong place",  "newer form",
+                                        "no room",      "not the literal", "out of range", "too deep",
+                                        "not the mark", "other version",   "not the file", "retired arrow"};
+    return number < sizeof names / sizeof names[0] ? names[number] : "unknown";
+}
+
+MUON_INLINE const char *muon_refusal_message(uint32_t number) {
+    static const char *const messages[] = {"accepted",
+                                           "a level other than 1 and 2",
+                                           "longer than 32,768 bytes",
+                                           "not UTF-8",
+                                           "no token starts here",
+                                           "a bad value in a literal",
+                                           "a token in the wrong place",
+                                           "a newer form than the level has",
+                                           "no room in the table or buffer",
+                                           "not exactly one literal of the asked kind",
+                                           "an Integer out of range",
+                                           "more than 32 brackets open at once",
+                                           "not a stored file",
+                                           "a stored file of another version",
+                                           "not the file or table of the text",
+                                           "a retired arrow, <-"};
+    return number < sizeof messages / sizeof messages[0] ? messages[number] : "an unknown number";
+}
+
+/* The name of a kind and of a role; the roles 2 and 3 are both called that. */
+MUON_INLINE const char *muon_kind_name(uint32_t kind) {
+    static const char *const names[] = {"unknown", "Ignorance", "Boolean", "Integer", "Fraction", "Bits", "Blob", "Text",
+                                        "Nesting", "Pair",      "Tuple",   "Lot",     "Array",    "Set",  "Bag",  "Interval"};
+    return names[kind < sizeof names / sizeof names[0] ? kind : 0];
+}
+
+MUON_INLINE const char *muon_role_name(uint32_t role) {
+    static const char *const names[] = {"root", "this", "that", "that", "name", "value", "count", "low", "high", "single"};
+    return role < sizeof names / sizeof names[0] ? names[role] : "unknown";
+}
 
 #ifdef __cplusplus
 }

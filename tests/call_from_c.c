@@ -28,54 +28,57 @@ static struct {
 } call;
 
 static void read_it(void) {
-    call.number = muon_read(call.level, (const uint8_t *)call.text, call.length, table, call.words, &call.place, &call.count);
+    call.number = muon_read(call.level, call.text, call.length, table, call.words, &call.place, &call.count);
 }
 
 static void integer_of_it(void) {
-    call.number = muon_integer((const uint8_t *)call.text, call.length, &call.value, &call.place, &call.count);
+    call.number = muon_integer(call.text, call.length, &call.value, &call.place, &call.count);
 }
 
 static void text_of_it(void) {
-    call.number = muon_text((const uint8_t *)call.text, call.length, buffer, call.bytes, &call.place, &call.count);
+    call.number = muon_text(call.text, call.length, buffer, call.bytes, &call.place, &call.count);
 }
 
 static void blob_of_it(void) {
-    call.number = muon_blob((const uint8_t *)call.text, call.length, buffer, call.bytes, &call.place, &call.count);
+    call.number = muon_blob(call.text, call.length, buffer, call.bytes, &call.place, &call.count);
 }
 
 static void bits_of_it(void) {
-    call.number = muon_bits((const uint8_t *)call.text, call.length, buffer, call.bytes, &call.place, &call.count);
+    call.number = muon_bits(call.text, call.length, buffer, call.bytes, &call.place, &call.count);
 }
 
 /* into a buffer of so many bytes, at most MUON_FILE_MAX */
 static uint8_t stored[MUON_FILE_MAX];
 
 static void write_file_of_it(void) {
-    call.number = muon_file_write((const uint8_t *)call.text, call.length, stored, call.bytes, &call.place, &call.count);
+    call.number = muon_file_write(call.text, call.length, stored, call.bytes, &call.place, &call.count);
 }
 
 /* what was stored, so many bytes */
 static void check_file_of_it(void) {
-    call.number = muon_file_check((const uint8_t *)call.text, call.length, stored, call.bytes, &call.place, &call.count);
+    call.number = muon_file_check(call.text, call.length, stored, call.bytes, &call.place, &call.count);
 }
 
 /* at the level and with the table that it was read with, so many words, into a buffer of so many bytes */
 static uint8_t plain[MUON_PLAIN_BYTES(MUON_TEXT_MAX)];
 
 static void write_plain_of_it(void) {
-    call.number = muon_plain(call.level, (const uint8_t *)call.text, call.length, table, call.words, plain, call.bytes, &call.place,
+    call.number = muon_plain(call.level, call.text, call.length, table, call.words, plain, call.bytes, &call.place,
                              &call.count);
 }
 
 /* at the level, into a buffer of so many bytes */
 static void convert_it(void) {
-    call.number = muon_convert(call.level, (const uint8_t *)call.text, call.length, plain, call.bytes, &call.place, &call.count);
+    call.number = muon_convert(call.level, call.text, call.length, plain, call.bytes, &call.place, &call.count);
 }
 
 /* the steps as the count */
 static void utf8_of_it(void) {
-    call.number = muon_utf8((const uint8_t *)call.text, call.length, &call.place, &call.count);
+    call.number = muon_utf8(call.text, call.length, &call.place, &call.count);
 }
+
+/* the line as the place, the column as the count */
+static void line_column_of_it(void) { muon_line_column(call.text, call.length, call.length, &call.place, &call.count); }
 
 static void read_nothing(void) {}
 
@@ -149,7 +152,7 @@ static void answers(void) {
     /* nothing lent */
     size_t place = 1, count = 1;
     if (muon_read(2, NULL, 0, NULL, 0, &place, &count) != MUON_REFUSED_WRONG_PLACE || place != 0 || count != 0) exit(1);
-    if (muon_read(2, (const uint8_t *)"5", 1, NULL, 0, &place, &count) != MUON_REFUSED_NO_ROOM || place != 1 || count != 1) exit(1);
+    if (muon_read(2, "5", 1, NULL, 0, &place, &count) != MUON_REFUSED_NO_ROOM || place != 1 || count != 1) exit(1);
     /* a byte too many */
     static uint8_t spaces[MUON_TEXT_MAX + 1];
     memset(spaces, ' ', sizeof spaces);
@@ -252,7 +255,7 @@ static void texts(void) {
     /* nothing lent */
     size_t place = 1, count = 1;
     if (muon_text(NULL, 0, NULL, 0, &place, &count) != MUON_REFUSED_NOT_THE_LITERAL || place != 0 || count != 0) exit(1);
-    if (muon_text((const uint8_t *)"a", 1, NULL, 0, &place, &count) != MUON_REFUSED_NO_ROOM || place != 1 || count != 1) exit(1);
+    if (muon_text("a", 1, NULL, 0, &place, &count) != MUON_REFUSED_NO_ROOM || place != 1 || count != 1) exit(1);
     /* a byte too many, and the longest word into a buffer as long */
     static uint8_t letters[MUON_TEXT_MAX + 1], room[MUON_TEXT_MAX];
     memset(letters, 'a', sizeof letters);
@@ -310,7 +313,7 @@ static void blobs(void) {
     /* nothing lent */
     size_t place = 1, count = 1;
     if (muon_blob(NULL, 0, NULL, 0, &place, &count) != MUON_REFUSED_NOT_THE_LITERAL || place != 0 || count != 0) exit(1);
-    if (muon_blob((const uint8_t *)"0xx00", 5, NULL, 0, &place, &count) != MUON_REFUSED_NO_ROOM || place != 5 || count != 1) exit(1);
+    if (muon_blob("0xx00", 5, NULL, 0, &place, &count) != MUON_REFUSED_NO_ROOM || place != 5 || count != 1) exit(1);
     /* a byte too many, and the longest Blob into three quarters of a buffer as long */
     static uint8_t digits[MUON_TEXT_MAX + 1], room[MUON_TEXT_MAX / 4 * 3];
     memset(digits, '/', sizeof digits);
@@ -332,7 +335,7 @@ static void bits(void) {
     /* nothing lent */
     size_t place = 1, count = 1;
     if (muon_bits(NULL, 0, NULL, 0, &place, &count) != MUON_REFUSED_NOT_THE_LITERAL || place != 0 || count != 0) exit(1);
-    if (muon_bits((const uint8_t *)"0bo1", 4, NULL, 0, &place, &count) != MUON_REFUSED_NO_ROOM || place != 4 || count != 3) exit(1);
+    if (muon_bits("0bo1", 4, NULL, 0, &place, &count) != MUON_REFUSED_NO_ROOM || place != 4 || count != 3) exit(1);
     /* a byte too many, and the longest Bits into the longest buffer */
     static uint8_t digits[MUON_TEXT_MAX + 1], room[MUON_BITS_MAX];
     memset(digits, 'F', sizeof digits);
@@ -431,7 +434,7 @@ static void files(void) {
     /* nothing lent */
     size_t place = 1, count = 1;
     if (muon_file_write(NULL, 0, NULL, 0, &place, &count) != MUON_REFUSED_WRONG_PLACE || place != 0 || count != 0) exit(1);
-    if (muon_file_write((const uint8_t *)"5", 1, NULL, 0, &place, &count) != MUON_REFUSED_NO_ROOM || place != 1 || count != 21) exit(1);
+    if (muon_file_write("5", 1, NULL, 0, &place, &count) != MUON_REFUSED_NO_ROOM || place != 1 || count != 21) exit(1);
     if (muon_file_check(NULL, 0, NULL, 0, &place, &count) != MUON_REFUSED_NOT_THE_MARK || place != 0 || count != 0) exit(1);
     /* a byte too many, and the longest text */
     static uint8_t spaces[MUON_TEXT_MAX + 1];
@@ -536,7 +539,7 @@ static void plain_forms(void) {
     /* nothing lent */
     size_t place = 1, count = 1;
     if (muon_plain(2, NULL, 0, NULL, 0, NULL, 0, &place, &count) != MUON_REFUSED_WRONG_PLACE || place != 0 || count != 0) exit(1);
-    if (muon_plain(2, (const uint8_t *)"5", 1, NULL, 0, NULL, 0, &place, &count) != MUON_REFUSED_NO_ROOM || count != 1) exit(1);
+    if (muon_plain(2, "5", 1, NULL, 0, NULL, 0, &place, &count) != MUON_REFUSED_NO_ROOM || count != 1) exit(1);
     /* the text and the table are only read */
     static const char text[] = "{b->a}";
     static uint32_t kept[WORDS];
@@ -597,7 +600,7 @@ static void conversions(void) {
     /* nothing lent */
     size_t place = 1, count = 1;
     if (muon_convert(2, NULL, 0, NULL, 0, &place, &count) != MUON_REFUSED_WRONG_PLACE || place != 0 || count != 0) exit(1);
-    if (muon_convert(2, (const uint8_t *)"5", 1, NULL, 0, &place, &count) != MUON_REFUSED_NO_ROOM || place != 1 || count != 1) exit(1);
+    if (muon_convert(2, "5", 1, NULL, 0, &place, &count) != MUON_REFUSED_NO_ROOM || place != 1 || count != 1) exit(1);
     /* a byte too many */
     static uint8_t spaces[MUON_TEXT_MAX + 1];
     memset(spaces, ' ', sizeof spaces);
@@ -637,6 +640,341 @@ static void utf8(void) {
     static uint8_t zeros[MUON_TEXT_MAX + 9];
     if (muon_utf8(zeros, sizeof zeros, &place, &steps) != MUON_ACCEPTED || place != sizeof zeros) exit(1);
     if (steps != sizeof zeros / 8 + sizeof zeros % 8) exit(1);
+}
+
+static void expect_line_column(const char *text, size_t length, size_t place, size_t line, size_t column) {
+    static char kept[BYTES];
+    struct {
+        size_t before, line, between, column, behind;
+    } told = {7, 7, 7, 7, 7};
+    memcpy(kept, text, length);
+    muon_line_column(text, length, place, &told.line, &told.column);
+    if (told.line == line && told.column == column && told.before == 7 && told.between == 7 && told.behind == 7 &&
+        memcmp(kept, text, length) == 0)
+        return;
+    printf("place %zu of %s: line %zu, column %zu, not %zu and %zu\n", place, text, told.line, told.column, line, column);
+    exit(1);
+}
+
+/* All places of a text, and two beyond it: a line and a column each, in digits. */
+static void expect_places(const char *text, const char *told) {
+    size_t length = strlen(text), places = strlen(told) / 3 + 1;
+    if (places != length + 1) exit(1);
+    for (size_t place = 0; place < places; place++)
+        expect_line_column(text, length, place, (size_t)(told[3 * place] - '0'), (size_t)(told[3 * place + 1] - '0'));
+    const char *last = told + 3 * length;
+    expect_line_column(text, length, length + 1, (size_t)(last[0] - '0'), (size_t)(last[1] - '0'));
+    expect_line_column(text, length, SIZE_MAX, (size_t)(last[0] - '0'), (size_t)(last[1] - '0'));
+}
+
+static void lines_and_columns(void) {
+    expect_places("", "11");
+    expect_places("abc", "11 12 13 14");
+    expect_places("a\nbc\n", "11 12 21 22 23 31");
+    expect_places("\n\n\tx", "11 21 31 32 33");
+    expect_places("a\r\nb", "11 12 13 21 22");
+    /* characters of two, three and four bytes, and places inside of them */
+    expect_places("\xC3\xA9x", "11 11 12 13");
+    expect_places("\xE2\x82\xAC\nx\xF4\x8F\xBF\xBF", "11 11 11 12 21 22 22 22 22 23");
+    expect_places("\xEF\xBB\xBF(", "11 11 11 12 13");
+    /* not UTF-8: no byte begins a sequence, one that is broken off, by a line too, too long a form, a surrogate, beyond 10FFFF */
+    expect_places("\xFF\xFEx", "11 12 13 14");
+    expect_places("\x80\xC3", "11 12 13");
+    expect_places("\xE2\x82y", "11 12 13 14");
+    expect_places("\xF0\x9F\x98\nz", "11 12 13 14 21 22");
+    expect_places("\xC0\x80z", "11 12 13 14");
+    expect_places("\xED\xA0\x80z", "11 12 13 14 15");
+    expect_places("\xF4\x90\x80\x80z", "11 12 13 14 15 16");
+    expect_places("\xE2\xC3\xA9z", "11 12 12 13 14");
+    /* bytes behind the length are not looked at, and a 0 is one as any other */
+    expect_line_column("\xC3\xA9", 1, 1, 1, 2);
+    expect_line_column("a\0\nb", 4, 4, 2, 2);
+    /* nothing lent */
+    size_t line = 0, column = 0;
+    muon_line_column(NULL, 0, 0, &line, &column);
+    if (line != 1 || column != 1) exit(1);
+    muon_line_column(NULL, 0, 9, &line, &column);
+    if (line != 1 || column != 1) exit(1);
+    /* longer than a text that is read */
+    static char feeds[MUON_TEXT_MAX + 9];
+    memset(feeds, '\n', sizeof feeds);
+    feeds[sizeof feeds - 1] = 'x';
+    muon_line_column(feeds, sizeof feeds, sizeof feeds, &line, &column);
+    if (line != sizeof feeds || column != 2) exit(1);
+    /* where a text is refused */
+    expect(2, "(speed : 3000,\n\"\xC3\xA9\" : x y)", WORDS, MUON_REFUSED_WRONG_PLACE, 24, 0);
+    expect_line_column(call.text, call.length, call.place, 2, 9);
+}
+
+static void expect_word(const char *what, uint32_t number, const char *word, const char *expected) {
+    if (strcmp(word, expected) == 0) return;
+    printf("%s %u is %s, not %s\n", what, (unsigned)number, word, expected);
+    exit(1);
+}
+
+/* The words of all numbers from 0 on, and that of any other. */
+static void expect_words(const char *what, const char *(*word)(uint32_t), const char *const *words, uint32_t known, const char *other) {
+    for (uint32_t number = 0; number < known; number++) expect_word(what, number, word(number), words[number]);
+    for (uint32_t beyond = 0; beyond < 100; beyond++) {
+        expect_word(what, known + beyond, word(known + beyond), other);
+        expect_word(what, UINT32_MAX - beyond, word(UINT32_MAX - beyond), other);
+    }
+}
+
+static void words(void) {
+    static const char *const names[] = {"accepted",    "level",         "too long", "not UTF-8",       "no token",     "bad value",
+                                        "wrong place", "newer form",    "no room",  "not the literal", "out of range", "too deep",
+                                        "not the mark", "other version", "not the file", "retired arrow"};
+    static const char *const messages[] = {
+        "accepted",
+        "a level other than 1 and 2",
+        "longer than 32,768 bytes",
+        "not UTF-8",
+        "no token starts here",
+        "a bad value in a literal",
+        "a token in the wrong place",
+        "a newer form than the level has",
+        "no room in the table or buffer",
+        "not exactly one literal of the asked kind",
+        "an Integer out of range",
+        "more than 32 brackets open at once",
+        "not a stored file",
+        "a stored file of another version",
+        "not the file or table of the text",
+        "a retired arrow, <-",
+    };
+    static const char *const kinds[] = {"unknown", "Ignorance", "Boolean", "Integer", "Fraction", "Bits", "Blob", "Text",
+                                        "Nesting", "Pair",      "Tuple",   "Lot",     "Array",    "Set",  "Bag",  "Interval"};
+    static const char *const roles[] = {"root", "this", "that", "that", "name", "value", "count", "low", "high", "single"};
+    expect_words("refusal", muon_refusal_name, names, MUON_REFUSED_RETIRED_ARROW + 1, "unknown");
+    expect_words("refusal", muon_refusal_message, messages, MUON_REFUSED_RETIRED_ARROW + 1, "an unknown number");
+    expect_words("kind", muon_kind_name, kinds, MUON_KIND_INTERVAL + 1, "unknown");
+    expect_words("role", muon_role_name, roles, MUON_ROLE_SINGLE + 1, "unknown");
+    /* the numbers in two of the messages, and one of the manual page */
+    if (MUON_TEXT_MAX != 32768 || MUON_DEPTH_MAX != 32 || MUON_NAME_MAX != 256) exit(1);
+    char version[BYTES];
+    sprintf(version, "%d.%d.%d", MUON_VERSION_MAJOR, MUON_VERSION_MINOR, MUON_VERSION_PATCH);
+    if (strcmp(version, MUON_VERSION) != 0) exit(1);
+}
+
+/* In the text that was read. */
+static void expect_found(uint32_t tuple, const char *name, size_t name_len, uint32_t times, uint32_t value) {
+    uint32_t found = 7, met = muon_attribute(call.text, table, tuple, name, name_len, &found);
+    if (met == times && found == value) return;
+    printf("%s in node %u of %s: %u times, %u\n", name, (unsigned)tuple, call.text, (unsigned)met, (unsigned)found);
+    exit(1);
+}
+
+/* In a whole text. */
+static void expect_attribute(const char *text, size_t nodes, const char *name, uint32_t times, uint32_t value) {
+    expect(2, text, WORDS, MUON_ACCEPTED, strlen(text), nodes);
+    expect_found(0, name, strlen(name), times, value);
+}
+
+static void attributes(void) {
+    expect_attribute("(speed:1,)", 3, "speed", 1, 2);
+    expect_attribute("(\"speed\":1,)", 3, "speed", 1, 2);
+    expect_attribute("(\"sp\" `c` \"eed\":1,)", 3, "speed", 1, 2);
+    expect_attribute("(\"\\\\<0c115>peed\":1,)", 3, "speed", 1, 2);
+    expect_attribute("(\"\\caf\\<0cxE9>\":1,)", 3, "caf\xC3\xA9", 1, 2);
+    expect_attribute("(speed:1,)", 3, "spee", 0, MUON_NONE);
+    expect_attribute("(speed:1,)", 3, "speeds", 0, MUON_NONE);
+    expect_attribute("(speed:1,)", 3, "Speed", 0, MUON_NONE);
+    expect_attribute("(speed:1,)", 3, "", 0, MUON_NONE);
+    /* the values before it may have branches, and names of their own */
+    expect_attribute("(a:{2,{3}},speed:(4,),b:(speed:5,))", 13, "speed", 1, 7);
+    expect_found(10, "speed", 5, 1, 12);
+    expect_found(0, "a", 1, 1, 2);
+    expect_found(0, "b", 1, 1, 10);
+    /* more than once, in whatever form */
+    expect_attribute("(x:1,y:2,\"x\":3,0cx78:4)", 9, "x", 3, 2);
+    expect_found(0, "y", 1, 1, 4);
+    /* no name, one without characters, and a Nesting */
+    expect_attribute("(1,speed)", 3, "speed", 0, MUON_NONE);
+    expect_found(0, NULL, 0, 0, MUON_NONE);
+    expect_attribute("(\"\":1,)", 3, "", 1, 2);
+    expect_found(0, NULL, 0, 1, 2);
+    expect_attribute("(::speed : 1, ::a::speed : 2, speed : 3)", 7, "speed", 1, 6);
+    expect_found(0, "::speed", 7, 0, MUON_NONE);
+    /* no Tuple */
+    expect_attribute("(speed:1)", 3, "speed", 0, MUON_NONE);
+    expect_attribute("{speed:1}", 3, "speed", 0, MUON_NONE);
+    expect_attribute("(Bag:{speed:1})", 3, "speed", 0, MUON_NONE);
+    expect_attribute("speed", 1, "speed", 0, MUON_NONE);
+    expect_attribute("()", 1, "speed", 0, MUON_NONE);
+    /* a name need not end in 0, and may have one */
+    expect_attribute("(speed:1,)", 3, "speedy", 0, MUON_NONE);
+    expect_found(0, "speedy", 5, 1, 2);
+    expect_found(0, "speedy", 4, 0, MUON_NONE);
+    expect_attribute("(\"\\a\\<0c0>b\":1,)", 3, "a", 0, MUON_NONE);
+    expect_found(0, "a\0b", 3, 1, 2);
+    expect_found(0, "a\0c", 3, 0, MUON_NONE);
+    /* the longest name that is found, and a byte more */
+    static char text[MUON_NAME_MAX + 9] = "(", name[MUON_NAME_MAX + 2];
+    memset(name, 'n', MUON_NAME_MAX + 1);
+    for (size_t bytes = MUON_NAME_MAX; bytes <= MUON_NAME_MAX + 1; bytes++) {
+        memcpy(text + 1, name, bytes);
+        strcpy(text + 1 + bytes, ":1,)");
+        expect(2, text, WORDS, MUON_ACCEPTED, strlen(text), 3);
+        int found = bytes == MUON_NAME_MAX;
+        expect_found(0, name, bytes, found, found ? 2 : MUON_NONE);
+        expect_found(0, name, MUON_NAME_MAX, found, found ? 2 : MUON_NONE);
+    }
+}
+
+/* Of a node of the text that was read. */
+static void expect_same(uint32_t index, const char *name, size_t name_len, int same) {
+    if (muon_text_is(call.text, table, index, name, name_len) == same) return;
+    printf("node %u of %s is%s %s\n", (unsigned)index, call.text, same ? " not" : "", name);
+    exit(1);
+}
+
+/* A whole text of one node, against `fast`. */
+static void expect_text_is(const char *text, size_t nodes, int same) {
+    expect(2, text, WORDS, MUON_ACCEPTED, strlen(text), nodes);
+    expect_same(0, "fast", 4, same);
+}
+
+static void same_texts(void) {
+    expect_text_is("fast", 1, 1);
+    expect_text_is("\"fast\"", 1, 1);
+    expect_text_is("\"fa\" `c` \"\\\\<0c115>t\"", 1, 1);
+    expect_text_is("fas", 1, 0);
+    expect_text_is("faster", 1, 0);
+    expect_text_is("fasT", 1, 0);
+    expect_text_is("\"\"", 1, 0);
+    expect_same(0, NULL, 0, 1);
+    /* other kinds, which have the same bytes or none */
+    expect_text_is("::fast", 1, 0);
+    expect_text_is("(fast,)", 2, 0);
+    expect_same(1, "fast", 4, 1);
+    expect_text_is("{fast}", 2, 0);
+    expect_text_is("()", 1, 0);
+    expect_same(0, NULL, 0, 0);
+    expect_text_is("5", 1, 0);
+    expect_same(0, "5", 1, 0);
+    expect_text_is("0bTRUE", 1, 0);
+    expect_same(0, "0bTRUE", 6, 0);
+}
+
+/* In the text that was read. */
+static void expect_unknown_in(uint32_t tuple, const char *const *names, uint32_t index) {
+    uint32_t found = muon_unknown(call.text, table, tuple, names);
+    if (found == index) return;
+    printf("unknown in node %u of %s: %u\n", (unsigned)tuple, call.text, (unsigned)found);
+    exit(1);
+}
+
+/* In a whole text, where `speed`, `site` and a name with a character of two bytes are known. */
+static const char *const known[] = {"speed", "site", "caf\xC3\xA9", NULL};
+
+static void expect_unknown(const char *text, size_t nodes, uint32_t index) {
+    expect(2, text, WORDS, MUON_ACCEPTED, strlen(text), nodes);
+    expect_unknown_in(0, known, index);
+}
+
+static void unknown_attributes(void) {
+    static const char *const none[] = {NULL}, *const empty[] = {"", NULL};
+    expect_unknown("(speed:1,site:2)", 5, MUON_NONE);
+    expect_unknown("(site:2,)", 3, MUON_NONE);
+    expect_unknown("(site:1,site:2,speed:3)", 7, MUON_NONE);
+    expect_unknown("(\"speed\":1,\"\\\\<0c115>ite\":2,\"\\caf\\<0cxE9>\":3)", 7, MUON_NONE);
+    /* misspelt, first, in the middle and last */
+    expect_unknown("(sped:1,site:2)", 5, 1);
+    expect_unknown("(speed:1,sites:2,site:3)", 7, 3);
+    expect_unknown("(speed:1,site:2,Site:3)", 7, 5);
+    expect_unknown("(speed:1,\"sit\":2,speeds:3)", 7, 3);
+    /* no name, though its value is one of the names */
+    expect_unknown("(speed:3,000,site:x)", 6, 3);
+    expect_unknown("(speed,site)", 3, 1);
+    expect_unknown("(site:2,speed)", 4, 3);
+    expect_unknown("(site:2,{speed},x:3)", 7, 3);
+    /* a Nesting */
+    expect_unknown("(speed:1,::site:2)", 5, 3);
+    expect_unknown("(::site::speed:1,)", 3, 1);
+    /* values with branches are passed, and have names of their own */
+    expect_unknown("(speed:{2,{3}},site:(x:4,),sped:5)", 12, 10);
+    expect_unknown_in(7, known, 8);
+    expect_unknown("(speed:(a:1,b:(c:2,)),site:{x:y})", 13, MUON_NONE);
+    expect_unknown_in(2, known, 3);
+    expect_unknown_in(6, known, 7);
+    /* no attributes, no names, and one without characters */
+    expect_unknown("()", 1, MUON_NONE);
+    expect_unknown_in(0, none, MUON_NONE);
+    expect_unknown("(speed:1,)", 3, MUON_NONE);
+    expect_unknown_in(0, none, 1);
+    expect_unknown("(\"\":1,)", 3, 1);
+    expect_unknown_in(0, empty, MUON_NONE);
+    /* a name with a 0 is not the C string before it */
+    expect_unknown("(\"\\site\\<0c0>\":1,)", 3, 1);
+    /* no Tuple: the node itself, wherever it is */
+    expect_unknown("(speed:1)", 3, 0);
+    expect_unknown("{speed:1,site:2}", 5, 0);
+    expect_unknown("{}", 1, 0);
+    expect_unknown("(Set:{speed})", 2, 0);
+    expect_unknown("speed", 1, 0);
+    expect_unknown("(speed:(site:1),site:{})", 7, MUON_NONE);
+    expect_unknown_in(2, known, 2);
+    expect_unknown_in(6, known, 6);
+    /* the longest name that is found, and a byte more */
+    static char text[MUON_NAME_MAX + 9] = "(", name[MUON_NAME_MAX + 2];
+    const char *const names[] = {"speed", name, NULL};
+    for (size_t bytes = MUON_NAME_MAX; bytes <= MUON_NAME_MAX + 1; bytes++) {
+        memset(name, 'n', bytes);
+        memcpy(text + 1, name, bytes);
+        strcpy(text + 1 + bytes, ":1,)");
+        expect(2, text, WORDS, MUON_ACCEPTED, strlen(text), 3);
+        expect_unknown_in(0, names, bytes == MUON_NAME_MAX ? MUON_NONE : 1);
+    }
+}
+
+/* Of a whole text: its value, and that every other node of it is refused. */
+static void expect_boolean(const char *text, size_t nodes, uint32_t number, int value) {
+    expect(2, text, WORDS, MUON_ACCEPTED, strlen(text), nodes);
+    for (uint32_t index = 0; index < nodes; index++) {
+        int found = 7;
+        uint32_t told = muon_boolean(table, index, &found);
+        if (told == (index == 0 ? number : MUON_REFUSED_NOT_THE_LITERAL) && found == (index == 0 ? value : 0)) continue;
+        printf("Boolean of node %u of %s: %u, %d\n", (unsigned)index, text, (unsigned)told, found);
+        exit(1);
+    }
+}
+
+static void booleans(void) {
+    /* every other kind, and every detail of a Text and of an Interval */
+    static const char *const others[] = {"0sIGNORANCE", "1", "0", "1.0", "0bb1", "0xx01", "\"false\"", "true", "TRUE", "0c49", "::true"};
+    static const struct {
+        const char *text;
+        size_t nodes;
+    } branches[] = {
+        {"(x:y)", 3},    {"()", 1},       {"{}", 1},        {"(Array:{})", 1}, {"(Set:{})", 1}, {"(Bag:{})", 1}, {"[]", 1},
+        {"[1]", 2},      {"[1<=*<=2]", 3}, {"[1<=*<2]", 3}, {"[1<*<=2]", 3},   {"[1<*<2]", 3},  {"[1<=*]", 2},   {"[1<*]", 2},
+        {"[*<=2]", 2},   {"[*<2]", 2},    {"[*]", 1},       {"[1..2]", 3},
+    };
+    expect_boolean("0bTRUE", 1, MUON_ACCEPTED, 1);
+    expect_boolean("0bFALSE", 1, MUON_ACCEPTED, 0);
+    for (size_t i = 0; i < sizeof others / sizeof *others; i++) expect_boolean(others[i], 1, MUON_REFUSED_NOT_THE_LITERAL, 0);
+    for (size_t i = 0; i < sizeof branches / sizeof *branches; i++)
+        expect_boolean(branches[i].text, branches[i].nodes, MUON_REFUSED_NOT_THE_LITERAL, 0);
+    /* within a Tuple */
+    expect(2, "(armed:0bTRUE,off:0bFALSE)", WORDS, MUON_ACCEPTED, 26, 5);
+    int value = 7;
+    if (muon_boolean(table, 2, &value) != MUON_ACCEPTED || value != 1) exit(1);
+    if (muon_boolean(table, 4, &value) != MUON_ACCEPTED || value != 0) exit(1);
+    if (muon_boolean(table, 1, &value) != MUON_REFUSED_NOT_THE_LITERAL || value != 0) exit(1);
+}
+
+/* The words and the bytes of a node. */
+static void nodes(void) {
+    expect(2, "( x : 29 56 , )", WORDS, MUON_ACCEPTED, 15, 3);
+    for (uint32_t word = 0; word < 3 * MUON_NODE_WORDS; word++)
+        if (muon_node_word(table, word / MUON_NODE_WORDS, word % MUON_NODE_WORDS) != table[word]) exit(1);
+    if (muon_piece(call.text, table, 0) != call.text || muon_piece_len(table, 0) != 15) exit(1);
+    if (muon_piece(call.text, table, 2) != call.text + 6 || muon_piece_len(table, 2) != 5) exit(1);
+    size_t place, count;
+    int64_t value;
+    if (muon_integer(muon_piece(call.text, table, 2), muon_piece_len(table, 2), &value, &place, &count) != MUON_ACCEPTED) exit(1);
+    if (value != 2956) exit(1);
 }
 
 /* The longest ways through a literal. */
@@ -776,6 +1114,13 @@ int main(void) {
     plain_forms();
     conversions();
     utf8();
+    lines_and_columns();
+    words();
+    attributes();
+    same_texts();
+    unknown_attributes();
+    booleans();
+    nodes();
     printf("muon_read %zu\n", most_touched_by_a_reading(most_touched_reading_it));
     printf("muon_integer %zu\n", most_touched_by(integer_of_it));
     printf("muon_text %zu\n", most_touched_by(text_of_it));
@@ -786,5 +1131,6 @@ int main(void) {
     printf("muon_plain %zu\n", most_touched_by_a_reading(most_touched_writing_it_plainly));
     printf("muon_convert %zu\n", most_touched_by_a_reading(most_touched_converting_it));
     printf("muon_utf8 %zu\n", most_touched_by(utf8_of_it));
+    printf("muon_line_column %zu\n", most_touched_by(line_column_of_it));
     return 0;
 }
