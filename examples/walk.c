@@ -13,21 +13,15 @@
 static uint8_t text[MUON_TEXT_MAX + 1];
 static uint32_t table[MUON_TABLE_MAX];
 
-static const char *const kinds[] = {"",        "Ignorance", "Boolean", "Integer", "Fraction", "Bits", "Blob", "Text",
-                                    "Nesting", "Pair",      "Tuple",   "Lot",     "Array",    "Set",  "Bag",  "Interval"};
-static const char *const roles[] = {"", "this ", "that ", "that ", "name ", "value ", "count ", "low ", "high ", "single "};
-
-static uint32_t word(uint32_t index, uint32_t which) {
-    return table[MUON_NODE_WORDS * index + which];
-}
-
 static void print(uint32_t index, unsigned depth, int passed) {
-    uint32_t kind = word(index, MUON_NODE_KIND), first = word(index, MUON_NODE_FIRST);
-    uint32_t below = word(index, MUON_NODE_SKIP) - index - 1;
-    printf("%*s%s%s", (int)(2 * depth), "", roles[word(index, MUON_NODE_ROLE)], kinds[kind]);
+    uint32_t kind = muon_node_word(table, index, MUON_NODE_KIND), role = muon_node_word(table, index, MUON_NODE_ROLE);
+    uint32_t below = muon_node_word(table, index, MUON_NODE_SKIP) - index - 1;
+    printf("%*s", (int)(2 * depth), "");
+    if (role != MUON_ROLE_ROOT) printf("%s ", muon_role_name(role));
+    fputs(muon_kind_name(kind), stdout);
     if (kind <= MUON_KIND_NESTING) {
         putchar(' ');
-        fwrite(text + first, 1, word(index, MUON_NODE_END) - first, stdout);
+        fwrite(muon_piece(text, table, index), 1, muon_piece_len(table, index), stdout);
     }
     if (passed && below > 0) printf(", %u below", (unsigned)below);
     putchar('\n');
@@ -44,7 +38,7 @@ static void walk(unsigned most) {
             depth++;
         } else {
             while ((next = muon_next_sibling(table, index)) == MUON_NONE && depth > 0) {
-                index = word(index, MUON_NODE_PARENT);
+                index = muon_node_word(table, index, MUON_NODE_PARENT);
                 depth--;
             }
             if (next == MUON_NONE) return;
