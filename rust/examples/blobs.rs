@@ -4,6 +4,7 @@
 //!
 //! `cargo run --example blobs -- FILE`
 
+use muon::{Error, Kind, Node, TABLE_MAX};
 use std::fs::File;
 use std::io::{self, Read};
 use std::process::ExitCode;
@@ -22,16 +23,14 @@ fn input() -> io::Result<Vec<u8>> {
 }
 
 /// Prints the Blobs of a text; why and where it is refused, if it is.
-fn blobs(text: &[u8]) -> Result<(), (usize, muon::Refusal)> {
-    let mut table = [0; muon::TABLE_MAX];
-    let answer = muon::read(LEVEL, text, &mut table);
-    let count = answer
-        .accepted()
-        .map_err(|refusal| (answer.place, refusal))?;
+fn blobs(text: &[u8]) -> Result<(), Error> {
+    let mut table = [0; TABLE_MAX];
+    let count = muon::read(LEVEL, text, &mut table).accepted_in(text)?;
     // No Blob has more bytes than the text; so with this much room, a Blob of
     // an accepted text is never refused.
     let mut buffer = vec![0; text.len()];
-    for node in muon::nodes(&table, count).filter(|node| node.kind == muon::kind::BLOB) {
+    let is_blob = |node: &Node| node.kind == Kind::Blob.number();
+    for node in muon::nodes(&table, count).filter(is_blob) {
         let first = node.span().start;
         let bytes = muon::blob(&text[node.span()], &mut buffer)
             .accepted()
@@ -48,8 +47,8 @@ fn blobs(text: &[u8]) -> Result<(), (usize, muon::Refusal)> {
 fn main() -> io::Result<ExitCode> {
     match blobs(&input()?) {
         Ok(()) => Ok(ExitCode::SUCCESS),
-        Err((place, refusal)) => {
-            eprintln!("byte {place}: {refusal}");
+        Err(error) => {
+            eprintln!("{error}");
             Ok(ExitCode::FAILURE)
         }
     }

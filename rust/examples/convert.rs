@@ -15,13 +15,14 @@ use other_file::{check_other, print};
 use std::ffi::OsString;
 use std::process::ExitCode;
 use std::{env, fs};
-use whole_file::{accepted, exit_code, input, said, Failure};
+use whole_file::{exit_code, input, refused, said, Failure};
 
 fn converted(path: &OsString) -> Result<Vec<u8>, Failure> {
     let text = input(path, muon::TEXT_MAX)?;
     let mut converted = vec![0; plain::bytes(text.len())];
     let answer = convert::write(2, &text, &mut converted);
-    converted.truncate(accepted(answer)?);
+    let count = answer.accepted_in(&text);
+    converted.truncate(count.map_err(|error| refused(path, error))?);
     Ok(converted)
 }
 

@@ -26,10 +26,10 @@ fn main() -> io::Result<ExitCode> {
     let mut table = [0; muon::TABLE_MAX];
     let answer = muon::read(LEVEL, &text, &mut table);
     let mut out = io::BufWriter::new(io::stdout().lock());
-    if let Some(refusal) = answer.refusal() {
+    if let Err(error) = answer.accepted_in(&text) {
         writeln!(out, "no {} {}", answer.number, answer.place)?;
         out.flush()?;
-        eprintln!("byte {}: {refusal}", answer.place);
+        eprintln!("{error}");
         return Ok(ExitCode::FAILURE);
     }
     writeln!(out, "ok {LEVEL} {}", answer.count)?;

@@ -7,24 +7,40 @@
 
 mod whole_file;
 
+use muon::{line_column, Position};
 use std::env;
 use std::ffi::OsString;
 use std::process::ExitCode;
-use whole_file::{accepted, exit_code, input, Failure};
+use whole_file::{exit_code, input, refused, Failure};
 
-const LINE_FEED: u8 = b'\n';
+/// A line with one character for each column: a byte that begins none is shown as
+/// one that stands for it.
+fn shown(line: &[u8]) -> String {
+    line.utf8_chunks()
+        .flat_map(|chunk| {
+            let strange = chunk.invalid().iter().map(|_| char::REPLACEMENT_CHARACTER);
+            chunk.valid().chars().chain(strange)
+        })
+        .collect()
+}
 
-/// The line that this place is in, and a mark below it.
-fn pointed(text: &[u8], place: usize) -> String {
-    let (before, behind) = text.split_at(place);
-    let is_line_feed = |byte: &u8| *byte == LINE_FEED;
-    let front = before.rsplit(is_line_feed).next().unwrap_or(before);
-    let rear = behind.split(is_line_feed).next().unwrap_or(behind);
-    let [front, rear] = [front, rear].map(String::from_utf8_lossy);
+/// A control character is not sent to a terminal, which it could steer; a tab is.
+fn harmless(shown: char) -> char {
+    match shown.is_control() && shown != '\t' {
+        true => char::REPLACEMENT_CHARACTER,
+        false => shown,
+    }
+}
+
+/// The line of this position, and a mark below its column.
+fn pointed(text: &[u8], position: Position) -> String {
+    let mut lines = text.split(|byte| *byte == b'\n');
+    let line = shown(lines.nth(position.line - 1).unwrap_or_default());
     // A tab stays one, so that the mark stands where the byte is shown.
     let blank = |shown: char| if shown == '\t' { '\t' } else { ' ' };
-    let indent: String = front.chars().map(blank).collect();
-    format!("{front}{}\n{indent}^", rear.trim_end())
+    let indent: String = line.chars().take(position.column - 1).map(blank).collect();
+    let line: String = line.trim_end().chars().map(harmless).collect();
+    format!("{line}\n{indent}^")
 }
 
 fn point(arguments: &[OsString]) -> Result<(), Failure> {
@@ -33,11 +49,12 @@ fn point(arguments: &[OsString]) -> Result<(), Failure> {
     };
     let text = input(path, muon::TEXT_MAX)?;
     let answer = muon::read(2, &text, &mut [0; muon::TABLE_MAX]);
-    let shown = |reason| format!("{reason}\n{}", pointed(&text, answer.place));
-    match accepted(answer) {
-        Ok(_) => Ok(()),
-        Err((reason, code)) => Err((shown(reason), code)),
-    }
+    let Err(error) = answer.accepted_in(&text) else {
+        return Ok(());
+    };
+    let (reason, code) = refused(path, error);
+    let mark = pointed(&text, line_column(&text, answer.place));
+    Err((format!("{reason}\n{mark}"), code))
 }
 
 fn main() -> ExitCode {

@@ -14,7 +14,7 @@ use other_file::{check_other, print};
 use std::ffi::OsString;
 use std::process::ExitCode;
 use std::{env, fs};
-use whole_file::{accepted, exit_code, input, said, Failure};
+use whole_file::{exit_code, input, refused, said, Failure};
 
 fn form(path: &OsString) -> Result<Vec<u8>, Failure> {
     let text = input(path, muon::TEXT_MAX)?;
@@ -24,7 +24,8 @@ fn form(path: &OsString) -> Result<Vec<u8>, Failure> {
     if answer.is_accepted() {
         answer = plain::write(2, &text, &table, &mut form);
     }
-    form.truncate(accepted(answer)?);
+    let count = answer.accepted_in(&text);
+    form.truncate(count.map_err(|error| refused(path, error))?);
     Ok(form)
 }
 

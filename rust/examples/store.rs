@@ -11,20 +11,25 @@ mod whole_file;
 
 use muon::{file, TEXT_MAX};
 use std::ffi::OsString;
+use std::path::Path;
 use std::process::ExitCode;
 use std::{env, fs};
-use whole_file::{accepted, exit_code, input, said, Failure};
+use whole_file::{exit_code, input, refused, said, Failure};
 
 fn write(text: &OsString, stored: &OsString) -> Result<usize, Failure> {
+    let bytes = input(text, TEXT_MAX)?;
     let mut buffer = [0; file::MAX];
-    let bytes = accepted(file::write(&input(text, TEXT_MAX)?, &mut buffer))?;
-    fs::write(stored, &buffer[..bytes]).map_err(|error| said(stored, error))?;
-    Ok(bytes)
+    let count = file::write(&bytes, &mut buffer).accepted_in(&bytes);
+    let count = count.map_err(|error| refused(text, error))?;
+    fs::write(stored, &buffer[..count]).map_err(|error| said(stored, error))?;
+    Ok(count)
 }
 
 fn check(text: &OsString, stored: &OsString) -> Result<usize, Failure> {
-    let text = input(text, TEXT_MAX)?;
-    accepted(file::check(&text, &input(stored, file::MAX)?))
+    let answer = file::check(&input(text, TEXT_MAX)?, &input(stored, file::MAX)?);
+    // of the file as a whole: there is no place to tell
+    let refused = |refusal| (format!("{}: {refusal}", Path::new(stored).display()), 1);
+    answer.accepted().map_err(refused)
 }
 
 fn main() -> ExitCode {

@@ -9,50 +9,24 @@
 
 mod whole_file;
 
-use muon::{kind, Branch, DEPTH_MAX};
+use muon::{Branch, Document, Kind, Role, DEPTH_MAX, TABLE_MAX};
 use std::env;
 use std::io::{self, Write};
 use std::process::ExitCode;
-use whole_file::{accepted, exit_code, input, said, Failure};
-
-const KINDS: [&str; 16] = [
-    "",
-    "Ignorance",
-    "Boolean",
-    "Integer",
-    "Fraction",
-    "Bits",
-    "Blob",
-    "Text",
-    "Nesting",
-    "Pair",
-    "Tuple",
-    "Lot",
-    "Array",
-    "Set",
-    "Bag",
-    "Interval",
-];
-const ROLES: [&str; 10] = [
-    "", "this ", "that ", "that ", "name ", "value ", "count ", "low ", "high ", "single ",
-];
+use whole_file::{exit_code, input, refused, said, Failure};
 
 /// The line of a node; with how many are below it, if they are passed.
-fn print(
-    out: &mut impl Write,
-    text: &[u8],
-    branch: Branch,
-    depth: usize,
-    passed: bool,
-) -> io::Result<()> {
-    let node = branch.node();
-    let (role, kind) = (ROLES[node.role as usize], KINDS[node.kind as usize]);
-    write!(out, "{:1$}{role}{kind}", "", 2 * depth)?;
-    if node.kind <= kind::NESTING {
-        out.write_all(b" ")?;
-        out.write_all(&text[node.span()])?;
+fn print(out: &mut impl Write, branch: Branch, depth: usize, passed: bool) -> io::Result<()> {
+    write!(out, "{:1$}", "", 2 * depth)?;
+    if branch.role() != Role::Root {
+        write!(out, "{} ", branch.role())?;
     }
-    let below = node.skip as usize - branch.index() - 1;
+    write!(out, "{}", branch.kind())?;
+    if branch.kind() <= Kind::Nesting {
+        out.write_all(b" ")?;
+        out.write_all(branch.bytes())?;
+    }
+    let below = branch.below();
     if passed && below > 0 {
         write!(out, ", {below} below")?;
     }
@@ -61,10 +35,10 @@ fn print(
 
 /// Down to the first child, else on to the next sibling of the nearest node
 /// above that has one.
-fn print_all(out: &mut impl Write, text: &[u8], root: Branch, most: usize) -> io::Result<()> {
+fn print_all(out: &mut impl Write, root: Branch, most: usize) -> io::Result<()> {
     let (mut next, mut depth) = (Some(root), 0);
     while let Some(mut branch) = next {
-        print(out, text, branch, depth, depth == most)?;
+        print(out, branch, depth, depth == most)?;
         next = branch.first_child().filter(|_| depth < most);
         if next.is_some() {
             depth += 1;
@@ -82,11 +56,11 @@ fn print_all(out: &mut impl Write, text: &[u8], root: Branch, most: usize) -> io
 
 fn walk(path: &str, most: usize) -> Result<(), Failure> {
     let text = input(path, muon::TEXT_MAX)?;
-    let mut table = [0; muon::TABLE_MAX];
-    let count = accepted(muon::read(2, &text, &mut table))?;
-    let root = muon::root(&table, count).expect("an accepted text has a node");
+    let mut table = [0; TABLE_MAX];
+    let read = Document::read(2, &text, &mut table);
+    let document = read.map_err(|error| refused(path, error))?;
     let mut out = io::BufWriter::new(io::stdout().lock());
-    let written = print_all(&mut out, &text, root, most);
+    let written = print_all(&mut out, document.root(), most);
     written.map_err(|error| said("standard output", error))
 }
 

@@ -1,10 +1,21 @@
 //! What a call answers.
 
-use std::error::Error;
-use std::fmt;
+use crate::{Error, Refusal};
+
+/// The refusal with this number; none for 0.  To take a number that no call
+/// answers for accepted would be wrong.
+fn refusal(number: u32) -> Option<Refusal> {
+    if number == 0 {
+        return None;
+    }
+    Some(Refusal::from_number(number).expect("the number of a refusal"))
+}
 
 /// The answer of a call: 0 and what was written, or a refusal and its place.
+///
+/// A refusal leaves the table or buffer as it was.
 #[derive(Clone, Copy, Debug, PartialEq, Eq, Hash)]
+#[must_use = "a refusal would be passed over"]
 pub struct Answer {
     /// 0 for accepted, else the refusal's number.
     pub number: u32,
@@ -31,13 +42,19 @@ impl Answer {
     }
 
     /// Whether the text, piece or file was accepted.
+    #[must_use]
     pub fn is_accepted(&self) -> bool {
         self.number == 0
     }
 
     /// Why it was refused, if it was.
+    ///
+    /// # Panics
+    ///
+    /// If the number is no refusal's, which no call answers.
+    #[must_use]
     pub fn refusal(&self) -> Option<Refusal> {
-        Refusal::from_number(self.number)
+        refusal(self.number)
     }
 
     /// The count if accepted, else the refusal, for use with `?`.
@@ -52,10 +69,27 @@ impl Answer {
     pub fn accepted(&self) -> Result<usize, Refusal> {
         self.refusal().map_or(Ok(self.count), Err)
     }
+
+    /// The count if accepted, else the refusal with its line and column in the
+    /// text that the call was given.
+    ///
+    /// ```
+    /// fn nodes_of(text: &[u8]) -> Result<usize, muon::Error> {
+    ///     muon::read(2, text, &mut [0; 600]).accepted_in(text)
+    /// }
+    /// assert_eq!(nodes_of(b"29 56"), Ok(1));
+    /// let error = nodes_of(b"{1,\n1/0}").expect_err("no denominator");
+    /// assert_eq!(error.to_string(), "2:1: refused (5): a bad value in a literal");
+    /// ```
+    pub fn accepted_in(&self, text: &[u8]) -> Result<usize, Error> {
+        let error = |refusal| Error::at(text, refusal, self.place, self.count);
+        self.accepted().map_err(error)
+    }
 }
 
 /// The answer of [`integer`](crate::integer).
 #[derive(Clone, Copy, Debug, PartialEq, Eq, Hash)]
+#[must_use = "a refusal would be passed over"]
 pub struct IntegerAnswer {
     /// 0 for accepted, else the refusal's number.
     pub number: u32,
@@ -69,13 +103,19 @@ pub struct IntegerAnswer {
 
 impl IntegerAnswer {
     /// Whether the piece was accepted.
+    #[must_use]
     pub fn is_accepted(&self) -> bool {
         self.number == 0
     }
 
     /// Why the piece was refused, if it was.
+    ///
+    /// # Panics
+    ///
+    /// If the number is no refusal's, which no call answers.
+    #[must_use]
     pub fn refusal(&self) -> Option<Refusal> {
-        Refusal::from_number(self.number)
+        refusal(self.number)
     }
 
     /// The integer if accepted, else the refusal, for use with `?`.
@@ -92,8 +132,9 @@ impl IntegerAnswer {
     }
 }
 
-/// The answer of [`utf8`](crate::utf8).
+/// The answer of [`utf8`](crate::utf8()).
 #[derive(Clone, Copy, Debug, PartialEq, Eq, Hash)]
+#[must_use = "a refusal would be passed over"]
 pub struct Utf8Answer {
     /// 0 for accepted, else 3, the number of [`Refusal::NotUtf8`].
     pub number: u32,
@@ -106,128 +147,41 @@ pub struct Utf8Answer {
 
 impl Utf8Answer {
     /// Whether the text is well-formed.
+    #[must_use]
     pub fn is_accepted(&self) -> bool {
         self.number == 0
     }
 
     /// [`Refusal::NotUtf8`], if the text isn't.
+    ///
+    /// # Panics
+    ///
+    /// If the number is no refusal's, which no call answers.
+    #[must_use]
     pub fn refusal(&self) -> Option<Refusal> {
-        Refusal::from_number(self.number)
+        refusal(self.number)
     }
 
     /// The steps if accepted, else the refusal, for use with `?`.
     ///
     /// ```
-    /// assert_eq!(muon::utf8(b"frost night").accepted(), Ok(4));
+    /// assert_eq!(muon::utf8(b"north field").accepted(), Ok(4));
     /// assert_eq!(muon::utf8(b"\xFF").accepted(), Err(muon::Refusal::NotUtf8));
     /// ```
     pub fn accepted(&self) -> Result<usize, Refusal> {
         self.refusal().map_or(Ok(self.steps), Err)
     }
-}
 
-/// The refusals, with their numbers.
-#[derive(Clone, Copy, Debug, PartialEq, Eq, Hash)]
-#[repr(u32)]
-pub enum Refusal {
-    /// The level is not 1 or 2; place 0.
-    Level = 1,
-    /// The text or piece is longer than 32,768 bytes; place 0.
-    TooLong = 2,
-    /// Not UTF-8; place: the first byte at which no well-formed sequence
-    /// begins.
-    NotUtf8 = 3,
-    /// No token starts at the place.
-    NoToken = 4,
-    /// A bad value in a literal: a code point outside 0..D7FF and
-    /// E000..10FFFF, denominator 0, radix below 2, or a base-64 Blob that RFC
-    /// 4648 does not have; place: for a code point in quotes the backslash of
-    /// its escape, the first such one in the literal, else the literal's first
-    /// byte.
-    BadValue = 5,
-    /// The token that begins at the place stands where none such may; the
-    /// end of the text is a token at the text's length.
-    WrongPlace = 6,
-    /// At a place for a value, a construct beyond the level begins.
-    NewerForm = 7,
-    /// The table is too short for the nodes, or they are more than 1,024, or
-    /// the buffer is too short; place: the length of the text or piece,
-    /// count: the nodes or bytes needed.
-    NoRoom = 8,
-    /// The piece is not exactly one literal of the asked kind; place 0.  Of
-    /// the value calls only.
-    NotTheLiteral = 9,
-    /// An integer that is no [`i64`]; place 0.  Of
-    /// [`integer`](crate::integer) only.
-    OutOfRange = 10,
-    /// The bracket at the place would be the 33rd open.
-    TooDeep = 11,
-    /// The file has fewer than five bytes, or does not begin with the mark;
-    /// place 0.  This and the next are of [`check`](crate::file::check) only.
-    NotTheMark = 12,
-    /// The file is of another version than 1; place 0.
-    OtherVersion = 13,
-    /// The file, or the table of a plain form, is not the one of the text; place
-    /// 0.  Of [`check`](crate::file::check) and [`plain`](crate::plain) only.
-    NotTheFile = 14,
-    /// At the place stands an arrow `<-` where one was allowed until it was
-    /// retired.  Never of [`check`](crate::file::check) and of
-    /// [`convert`](mod@crate::convert), which still read it.
-    RetiredArrow = 15,
-}
-
-impl Refusal {
-    /// All refusals in the order of their numbers, which begin at 1.
-    pub const ALL: [Refusal; 15] = [
-        Refusal::Level,
-        Refusal::TooLong,
-        Refusal::NotUtf8,
-        Refusal::NoToken,
-        Refusal::BadValue,
-        Refusal::WrongPlace,
-        Refusal::NewerForm,
-        Refusal::NoRoom,
-        Refusal::NotTheLiteral,
-        Refusal::OutOfRange,
-        Refusal::TooDeep,
-        Refusal::NotTheMark,
-        Refusal::OtherVersion,
-        Refusal::NotTheFile,
-        Refusal::RetiredArrow,
-    ];
-
-    /// The refusal with this number; none for 0 and for what no call answers.
-    pub fn from_number(number: u32) -> Option<Refusal> {
-        let index = usize::try_from(number).ok()?.checked_sub(1)?;
-        Refusal::ALL.get(index).copied()
-    }
-
-    /// The number in the table of refusals.
-    pub fn number(self) -> u32 {
-        self as u32
+    /// The steps if accepted, else the refusal with its line and column in the
+    /// text that the call was given.
+    ///
+    /// ```
+    /// let text = b"north\nfield \xFF";
+    /// let error = muon::utf8(text).accepted_in(text).expect_err("no such byte");
+    /// assert_eq!(error.to_string(), "2:7: refused (3): not UTF-8");
+    /// ```
+    pub fn accepted_in(&self, text: &[u8]) -> Result<usize, Error> {
+        let error = |refusal| Error::at(text, refusal, self.place, 0);
+        self.accepted().map_err(error)
     }
 }
-
-impl fmt::Display for Refusal {
-    fn fmt(&self, out: &mut fmt::Formatter) -> fmt::Result {
-        out.write_str(match self {
-            Refusal::Level => "level is not 1 or 2",
-            Refusal::TooLong => "text longer than 32,768 bytes",
-            Refusal::NotUtf8 => "not UTF-8",
-            Refusal::NoToken => "no token starts here",
-            Refusal::BadValue => "bad value in a literal",
-            Refusal::WrongPlace => "token in the wrong place",
-            Refusal::NewerForm => "newer form",
-            Refusal::NoRoom => "no room",
-            Refusal::NotTheLiteral => "not exactly one literal of the asked kind",
-            Refusal::OutOfRange => "integer out of range",
-            Refusal::TooDeep => "too deep",
-            Refusal::NotTheMark => "not a stored file",
-            Refusal::OtherVersion => "a stored file of another version",
-            Refusal::NotTheFile => "not the file or table of the text",
-            Refusal::RetiredArrow => "arrow <- is retired",
-        })
-    }
-}
-
-impl Error for Refusal {}

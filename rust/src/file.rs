@@ -9,6 +9,7 @@
 //! A file that was kept is checked against the text before it is relied on:
 //!
 //! ```
+//! # #[cfg(feature = "alloc")] {
 //! use muon::{file, Refusal};
 //!
 //! let stored = file::to_vec(b"{engines : 7}")?;
@@ -17,11 +18,17 @@
 //! assert!(file::check(b"{engines : 7}", &stored).is_accepted());
 //! let answer = file::check(b"{engines : 78}", &stored);
 //! assert_eq!(answer.refusal(), Some(Refusal::NotTheFile));
-//! # Ok::<(), Refusal>(())
+//! # }
+//! # Ok::<(), muon::Error>(())
 //! ```
 
 use crate::value::writing;
-use crate::{raw, Answer, Refusal, NODES_MAX, TABLE_MAX};
+use crate::{raw, Answer, NODES_MAX, TABLE_MAX};
+
+#[cfg(feature = "alloc")]
+use crate::Error;
+#[cfg(feature = "alloc")]
+use alloc::{vec, vec::Vec};
 
 /// The version of the files that are written and accepted.
 pub const VERSION: u16 = 1;
@@ -37,6 +44,7 @@ pub const STACK_MAX: usize = crate::STACK_MAX + 4 * TABLE_MAX;
 /// assert_eq!(muon::file::bytes(3), 45);
 /// assert_eq!(muon::file::MAX, 12_297);
 /// ```
+#[must_use]
 pub const fn bytes(nodes: usize) -> usize {
     9 + 12 * nodes
 }
@@ -46,10 +54,11 @@ pub const fn bytes(nodes: usize) -> usize {
 ///
 /// Accepted, exactly the first `count` bytes are written; refused, none.  What
 /// the buffer held doesn't matter.  Refusals are those of
-/// [`read`](crate::read) with a table of [`TABLE_MAX`] words, and then
-/// [`Refusal::NoRoom`] with the bytes needed.  With a buffer of [`MAX`] bytes
-/// it is given only for more nodes than [`NODES_MAX`], and the count tells
-/// them.
+/// [`read`](crate::read()) with a table of [`TABLE_MAX`] words, so never 1, and
+/// then 8 with the bytes needed, [`bytes`] of the nodes.  With a buffer of [`MAX`]
+/// bytes it is given only for more nodes than [`NODES_MAX`], and the count tells
+/// them; with a shorter one, the count alone does not tell whether nodes or bytes
+/// are meant.
 ///
 /// ```
 /// use muon::{file, Refusal};
@@ -82,7 +91,11 @@ pub fn write(text: &[u8], buffer: &mut [u8]) -> Answer {
 ///
 /// Accepted, the place is the text's length and the count the file's.  The
 /// refusals are 12, 13, 14 in this order, all with place and count 0, and no
-/// other; a text that [`read`](crate::read) refused before, too, has no file.
+/// other: under 12 and 13 the text is not looked at, and a text that
+/// [`read`](crate::read()) refused before, too, is 14.
+///
+/// The file tells what was read, and not the text's bytes.  To know that no byte
+/// of the text was changed, keep a check sum of the text, too.
 ///
 /// ```
 /// use muon::{file, Refusal};
@@ -91,7 +104,8 @@ pub fn write(text: &[u8], buffer: &mut [u8]) -> Answer {
 /// let old = b"FNT\0\x01\0\x03\0\x06\0\x09\0\0\0\x06\0\0\0\0\0\0\
 ///     \0\x07\0\x01\0\x02\0\0\0\x03\0\x02\0\x07\0\x04\0\x05\0\0\0\x01\0\x02";
 /// assert_eq!(file::check(b"(b<-a)", old).accepted(), Ok(45));
-/// assert_eq!(file::to_vec(b"(b<-a)"), Err(Refusal::RetiredArrow));
+/// let answer = file::write(b"(b<-a)", &mut [0; file::MAX]);
+/// assert_eq!(answer.accepted(), Err(Refusal::RetiredArrow));
 ///
 /// for (stored, refusal) in [
 ///     (&b"FNT\0"[..], Refusal::NotTheMark),
@@ -119,19 +133,24 @@ pub fn check(text: &[u8], file: &[u8]) -> Answer {
     })
 }
 
-/// The file of `text` as a vector, or why it has none; for the place, see
-/// [`write()`].
+/// The file of `text` as a vector.
+///
+/// # Errors
+///
+/// Those of [`write()`], with line and column.
 ///
 /// ```
 /// use muon::{file, Refusal};
 ///
 /// assert_eq!(file::to_vec(b"{a, b}")?.len(), file::bytes(3));
-/// assert_eq!(file::to_vec(b"1/0"), Err(Refusal::BadValue));
-/// # Ok::<(), Refusal>(())
+/// let error = file::to_vec(b"1/0").expect_err("no denominator");
+/// assert_eq!(error.refusal, Refusal::BadValue);
+/// # Ok::<(), muon::Error>(())
 /// ```
-pub fn to_vec(text: &[u8]) -> Result<Vec<u8>, Refusal> {
+#[cfg(feature = "alloc")]
+pub fn to_vec(text: &[u8]) -> Result<Vec<u8>, Error> {
     let mut file = vec![0; MAX];
-    let count = write(text, &mut file).accepted()?;
+    let count = write(text, &mut file).accepted_in(text)?;
     file.truncate(count);
     Ok(file)
 }

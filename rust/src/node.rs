@@ -1,14 +1,16 @@
-//! The nodes in a table.
+//! The nodes in a table, as numbers.
 
 use crate::NODE_WORDS;
-use std::iter::FusedIterator;
-use std::ops::Range;
-use std::slice::ChunksExact;
+use core::iter::FusedIterator;
+use core::ops::Range;
+use core::slice::ChunksExact;
 
-/// A node of an accepted text.
+/// The words of a node under their names, for those who have a table.  In a
+/// [`Document`](crate::Document) a node is a [`Branch`](crate::Branch), with
+/// kind, role and detail by name.
 #[derive(Clone, Copy, Debug, PartialEq, Eq, Hash)]
 pub struct Node {
-    /// What it is: a number of [`kind`].
+    /// What it is: the number of a [`Kind`](crate::Kind).
     pub kind: u32,
     /// The place of its first byte.
     pub first: u32,
@@ -16,17 +18,18 @@ pub struct Node {
     pub end: u32,
     /// The index of its parent; 0 for the root.
     pub parent: u32,
-    /// What it is to its parent: a number of [`role`].
+    /// What it is to its parent: the number of a [`Role`](crate::Role).
     pub role: u32,
-    /// A further detail of its kind, of [`detail`]; else 0.
+    /// A further detail of its kind: the number of a
+    /// [`Detail`](crate::Detail); else 0.
     pub detail: u32,
-    /// The index just past its last descendant, or past itself if it has none;
-    /// see [`Branch`](crate::Branch).
+    /// The index just past its last descendant, or past itself if it has none.
     pub skip: u32,
 }
 
 impl Node {
     /// Its bytes in the text.
+    #[must_use]
     pub fn span(&self) -> Range<usize> {
         self.first as usize..self.end as usize
     }
@@ -48,12 +51,17 @@ impl From<[u32; NODE_WORDS]> for Node {
 
 /// The first `count` nodes of a table; fewer if it has not as many.
 ///
+/// The nodes stand one behind the other, the root first, a parent before its
+/// children, children in the order of the text.
+///
 /// ```
+/// use muon::Kind;
+///
 /// let text = b"{seven : 7, eight : 8}";
 /// let mut table = [0; muon::TABLE_MAX];
 /// let answer = muon::read(1, text, &mut table);
 /// let integers: Vec<&[u8]> = muon::nodes(&table, answer.count)
-///     .filter(|node| node.kind == muon::kind::INTEGER)
+///     .filter(|node| node.kind == Kind::Integer.number())
 ///     .map(|node| &text[node.span()])
 ///     .collect();
 /// assert_eq!(integers, [b"7", b"8"]);
@@ -67,6 +75,7 @@ pub fn nodes(table: &[u32], count: usize) -> Nodes<'_> {
 
 /// The nodes of a table in their order; see [`nodes`].
 #[derive(Clone, Debug)]
+#[must_use = "nothing is walked until it is asked for"]
 pub struct Nodes<'a> {
     words: ChunksExact<'a, u32>,
 }
@@ -86,88 +95,3 @@ impl Iterator for Nodes<'_> {
 
 impl ExactSizeIterator for Nodes<'_> {}
 impl FusedIterator for Nodes<'_> {}
-
-/// Kinds of nodes.  A group `(v)` makes no node.
-#[allow(missing_docs)]
-pub mod kind {
-    pub const IGNORANCE: u32 = 1;
-    pub const BOOLEAN: u32 = 2;
-    pub const INTEGER: u32 = 3;
-    pub const FRACTION: u32 = 4;
-    pub const BITS: u32 = 5;
-    pub const BLOB: u32 = 6;
-    pub const TEXT: u32 = 7;
-    /// Without children.
-    pub const NESTING: u32 = 8;
-    pub const PAIR: u32 = 9;
-    pub const TUPLE: u32 = 10;
-    pub const LOT: u32 = 11;
-    pub const ARRAY: u32 = 12;
-    pub const SET: u32 = 13;
-    pub const BAG: u32 = 14;
-    pub const INTERVAL: u32 = 15;
-}
-
-/// What a node is to its parent.
-pub mod role {
-    /// The root, which has no parent.
-    pub const ROOT: u32 = 0;
-    /// The left of `a:b` and `a->b`; a member by itself.  In files stored before
-    /// the arrow was retired also the right of `b<-a`.
-    pub const THIS: u32 = 1;
-    /// The right of `a:b` and `a->b`.
-    pub const THAT_AFTER: u32 = 2;
-    /// The left of `b<-a`, in files stored before the arrow was retired only: no
-    /// reading gives it any more.
-    pub const THAT_BEFORE: u32 = 3;
-    /// The name of an attribute of a Tuple.
-    pub const NAME: u32 = 4;
-    /// The value of such an attribute; a member of an Array, Set or Bag.
-    pub const VALUE: u32 = 5;
-    /// Behind a member of an Array, Set or Bag.
-    pub const COUNT: u32 = 6;
-    /// The low end of an Interval.
-    pub const LOW: u32 = 7;
-    /// The high end of an Interval.
-    pub const HIGH: u32 = 8;
-    /// The one value of `[v]`.
-    pub const SINGLE: u32 = 9;
-}
-
-/// Details of Booleans, Texts and Intervals.
-pub mod detail {
-    /// A Boolean.
-    pub const FALSE: u32 = 0;
-    /// A Boolean.
-    pub const TRUE: u32 = 1;
-    /// A Text in quotes.
-    pub const QUOTED: u32 = 1;
-    /// A Text that is a bare word.
-    pub const WORD: u32 = 2;
-    /// A Text that is a code point such as `0c65`.
-    pub const CODE_POINT: u32 = 3;
-    /// `[]`
-    pub const EMPTY: u32 = 0;
-    /// `[v]`
-    pub const ONE: u32 = 1;
-    /// `[a<=*<=b]`
-    pub const CLOSED: u32 = 2;
-    /// `[a<=*<b]`
-    pub const HIGH_OPEN: u32 = 3;
-    /// `[a<*<=b]`
-    pub const LOW_OPEN: u32 = 4;
-    /// `[a<*<b]`
-    pub const OPEN: u32 = 5;
-    /// `[a<=*]`
-    pub const FROM: u32 = 6;
-    /// `[a<*]`
-    pub const ABOVE: u32 = 7;
-    /// `[*<=b]`
-    pub const UP_TO: u32 = 8;
-    /// `[*<b]`
-    pub const BELOW: u32 = 9;
-    /// `[*]`
-    pub const UNLIMITED: u32 = 10;
-    /// `[a..b]`
-    pub const DOTS: u32 = 11;
-}

@@ -9,16 +9,23 @@
 //! Texts that differ only in what is left out have the same plain form:
 //!
 //! ```
+//! # #[cfg(feature = "alloc")] {
 //! use muon::plain;
 //!
-//! let office = plain::to_vec(2, b"{ frost : -1_5 , `the neighbours were asked` }")?;
-//! let site = plain::to_vec(2, b"{,(frost)->-15}")?;
-//! assert_eq!(office, b"{frost:-15}");
+//! let office = plain::to_vec(2, b"{ north : -1_5 , `as agreed` }")?;
+//! let site = plain::to_vec(2, b"{,(north)->-15}")?;
+//! assert_eq!(office, b"{north:-15}");
 //! assert_eq!(site, office);
-//! # Ok::<(), muon::Refusal>(())
+//! # }
+//! # Ok::<(), muon::Error>(())
 //! ```
 
-use crate::{raw, Answer, Refusal, TABLE_MAX};
+use crate::{raw, Answer};
+
+#[cfg(feature = "alloc")]
+use crate::{Error, TABLE_MAX};
+#[cfg(feature = "alloc")]
+use alloc::{vec, vec::Vec};
 
 /// The stack that [`write()`] needs at most, in bytes: it keeps a table on it.
 pub const STACK_MAX: usize = crate::file::STACK_MAX;
@@ -27,6 +34,11 @@ pub const STACK_MAX: usize = crate::file::STACK_MAX;
 ///
 /// It may be longer than the text, by two bytes for each word that it has to
 /// put in quotes.
+///
+/// ```
+/// assert_eq!(muon::plain::bytes(12), 24);
+/// ```
+#[must_use]
 pub const fn bytes(text_len: usize) -> usize {
     2 * text_len
 }
@@ -36,14 +48,20 @@ pub const fn bytes(text_len: usize) -> usize {
 ///
 /// Accepted, exactly the first `count` bytes are written; refused, none.  What
 /// the buffer held doesn't matter, nor do the words behind those that `read`
-/// wrote.  Refusals are those of `read` at that level with a table as long, then
-/// [`Refusal::NotTheFile`] at 0 if the table doesn't begin with what `read`
-/// writes, then [`Refusal::NoRoom`] with the bytes needed.  With [`bytes`] of the
-/// text's length the last one is never given.
+/// wrote.  Refusals are those of `read` at that level with a table as long, so 8
+/// with the nodes if it is too short for them; then 14 at 0 if the table doesn't
+/// begin with what `read` writes; then 8 with the bytes needed.  No other is
+/// given.  With [`bytes`] of the text's length the last one is never given, and
+/// the text is written without being measured first.  With fewer, the count alone
+/// does not tell whether nodes or bytes are meant, but a table that `read` has
+/// just accepted the text with has room for the nodes.
 ///
 /// Read at the same level, a plain form that is no longer than
 /// [`TEXT_MAX`](crate::TEXT_MAX) gives the same nodes, except for their places
-/// and a Text's detail; its own plain form is itself.  A text with an arrow `<-`
+/// and a Text's detail; its own plain form is itself.  At the other level, too,
+/// text and plain form end alike, in number and count.  By the quotes that it puts
+/// around words it may be longer than the text, and even than `TEXT_MAX`; it is
+/// written all the same, though `read` refuses it.  A text with an arrow `<-`
 /// is refused, as by `read`; [`convert`](mod@crate::convert) takes it.
 ///
 /// ```
@@ -85,21 +103,26 @@ pub fn write(level: u32, text: &[u8], table: &[u32], buffer: &mut [u8]) -> Answe
     })
 }
 
-/// Reads `text` at a level and gives its plain form as a vector, or why it has
-/// none; for the place, see [`read`](crate::read).
+/// Reads `text` at a level and gives its plain form as a vector.
+///
+/// # Errors
+///
+/// Those of [`read`](crate::read()), with line and column.
 ///
 /// ```
 /// use muon::{plain, Refusal};
 ///
 /// assert_eq!(plain::to_vec(2, b"[ 1 <=*< 2 ]")?, b"[1<=*<2]");
-/// assert_eq!(plain::to_vec(1, b"[ 1 <=*< 2 ]"), Err(Refusal::NewerForm));
-/// # Ok::<(), Refusal>(())
+/// let error = plain::to_vec(1, b"[ 1 <=*< 2 ]").expect_err("level 2");
+/// assert_eq!(error.refusal, Refusal::NewerForm);
+/// # Ok::<(), muon::Error>(())
 /// ```
-pub fn to_vec(level: u32, text: &[u8]) -> Result<Vec<u8>, Refusal> {
+#[cfg(feature = "alloc")]
+pub fn to_vec(level: u32, text: &[u8]) -> Result<Vec<u8>, Error> {
     let mut table = vec![0; TABLE_MAX];
-    crate::read(level, text, &mut table).accepted()?;
+    crate::read(level, text, &mut table).accepted_in(text)?;
     let mut plain = vec![0; bytes(text.len())];
-    let count = write(level, text, &table, &mut plain).accepted()?;
+    let count = write(level, text, &table, &mut plain).accepted_in(text)?;
     plain.truncate(count);
     Ok(plain)
 }

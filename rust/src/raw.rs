@@ -88,4 +88,12 @@ extern "C" {
 
     pub fn muon_utf8(text: *const u8, text_len: usize, place: *mut usize, steps: *mut usize)
         -> u32;
+
+    pub fn muon_line_column(
+        text: *const u8,
+        text_len: usize,
+        place: usize,
+        line: *mut usize,
+        column: *mut usize,
+    );
 }

@@ -2,13 +2,15 @@
 
 use crate::{raw, Answer, IntegerAnswer, TEXT_MAX};
 
-/// The longest buffer that [`bits`] makes use of, in bytes.
+/// The longest buffer that [`bits`] makes use of, in bytes, for no piece has more
+/// bits; [`text`] and [`blob`] need no more bytes than a piece.
 pub const BITS_MAX: usize = 4 * TEXT_MAX;
 
 /// The signed integer of an Integer literal, which `piece` is exactly: no
 /// byte-order mark, first line or dividing space around it is dropped.
 ///
-/// Refusals are tested in the order 2, 3, 9, 10; no other is given.
+/// Refusals are tested in the order 2, 3, 9, 10; no other is given.  The bytes
+/// of an Integer's node of an accepted text give its value, or 10.
 ///
 /// ```
 /// use muon::Refusal;
@@ -50,10 +52,17 @@ pub fn integer(piece: &[u8]) -> IntegerAnswer {
 /// Writes the characters of a Text literal, which `piece` is exactly, to the
 /// start of `buffer` as UTF-8.
 ///
-/// The literal is quoted, a word or a code point.  Accepted, exactly the first
-/// `count` bytes are written; refused, none.  What the buffer held doesn't
-/// matter.  Refusals are tested in the order 2, 3, 9, 5, 8; no other is given.
-/// The place of 5 is counted within the piece, as all places are.
+/// The literal is quoted, a word or a code point.  Only a segment that begins
+/// with a backslash has escapes.  Accepted, exactly the first `count` bytes are
+/// written, and they are well-formed UTF-8; refused, none.  What the buffer held
+/// doesn't matter; one as long as the piece is always enough.  No 0 is put behind
+/// the characters.
+///
+/// Refusals are tested in the order 2, 3, 9, 5, 8; no other is given, and a piece
+/// that gets 8 is accepted with a buffer of `count` bytes.  A code point out of
+/// range is 5, in quotes at the backslash of the first such escape, counted
+/// within the piece; bare at 0.  The bytes of a Text's node of an accepted text
+/// give its characters, or 8.
 ///
 /// ```
 /// use muon::Refusal;
@@ -91,8 +100,13 @@ pub fn text(piece: &[u8], buffer: &mut [u8]) -> Answer {
 /// section 4).  Accepted, exactly the first `count` bytes are written; refused,
 /// none.  What the buffer held doesn't matter; one as long as the piece is
 /// always enough.  Refusals are tested in the order 2, 3, 9, 5, 8; no other is
-/// given.  What is refused with 5, [`read`](crate::read) refuses so, too: a
-/// Blob of an accepted text always has its bytes.
+/// given, and a piece that gets 8 is accepted with a buffer of `count` bytes.
+///
+/// 5 is what RFC 4648 does not have: a `=` with another character behind it, more
+/// than two `=`, and bits left over that are not zero.  [`read`](crate::read())
+/// refuses it so, too: a Blob of an accepted text always has its bytes.  Digits
+/// that do not fill whole bytes, or in base 64 groups of four, are no part of a
+/// Blob, so that such a piece is 9.
 ///
 /// ```
 /// use muon::Refusal;
@@ -122,7 +136,9 @@ pub fn blob(piece: &[u8], buffer: &mut [u8]) -> Answer {
 /// The digits are of base 2 (`0bb`), 8 (`0bo`) or 16 (`0bx`).  Accepted,
 /// exactly the first `count` bytes are written; refused, none.  What the
 /// buffer held doesn't matter; one of four times the piece's length is always
-/// enough.  Refusals are tested in the order 2, 3, 9, 8; no other is given.
+/// enough.  Refusals are tested in the order 2, 3, 9, 8; no other is given, and a
+/// piece that gets 8 is accepted with a buffer of `count` bytes.  The bytes of a
+/// Bits node of an accepted text give its bits, or 8.
 ///
 /// ```
 /// use muon::Refusal;

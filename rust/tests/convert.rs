@@ -1,5 +1,7 @@
 //! The converter.
 
+#![cfg(feature = "alloc")]
+
 mod answers;
 
 use answers::{accepted, refused};
@@ -99,7 +101,8 @@ fn every_refusal_of_the_reading() {
         for room in [0, 100, 10_000] {
             assert_eq!(written(level, &text, room), (answer, vec![]));
         }
-        assert_eq!(convert::to_vec(level, &text).err(), answer.refusal());
+        let error = convert::to_vec(level, &text).err();
+        assert_eq!(error, answer.accepted_in(&text).err());
     }
 }
 
@@ -110,5 +113,6 @@ fn longer_than_a_text_may_be() {
     let converted = convert::to_vec(1, &text).expect("a good text");
     let nesting = b"::\"Set\"".repeat(6_552);
     assert_eq!(converted, [b"(", &nesting[..], b":5)"].concat());
-    assert_eq!(convert::to_vec(1, &converted), Err(Refusal::TooLong));
+    let again = convert::to_vec(1, &converted).map_err(|error| error.refusal);
+    assert_eq!(again, Err(Refusal::TooLong));
 }

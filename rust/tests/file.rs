@@ -1,5 +1,7 @@
 //! Stored files.
 
+#![cfg(feature = "alloc")]
+
 mod answers;
 
 use answers::{accepted, refused};
@@ -104,7 +106,7 @@ fn every_refusal_of_a_writing() {
         for room in [0, 45, file::MAX + 1] {
             assert_eq!(written(&text, room), (answer, vec![]));
         }
-        assert_eq!(file::to_vec(&text).err(), answer.refusal());
+        assert_eq!(file::to_vec(&text).err(), answer.accepted_in(&text).err());
         assert_eq!(fault(&text, PAIR), Some(Refusal::NotTheFile));
     }
 }
@@ -113,7 +115,8 @@ fn every_refusal_of_a_writing() {
 #[test]
 fn a_file_of_before() {
     assert_eq!(file::check(b"(b<-a)", OLD), accepted(6, 45));
-    assert_eq!(file::to_vec(b"(b<-a)"), Err(Refusal::RetiredArrow));
+    let refused = file::to_vec(b"(b<-a)").map_err(|error| error.refusal);
+    assert_eq!(refused, Err(Refusal::RetiredArrow));
     for text in [&b"(a->b)"[..], b"(b->a)", b"{b<-a}", b"(b<-5)"] {
         assert_eq!(fault(text, OLD), Some(Refusal::NotTheFile));
     }

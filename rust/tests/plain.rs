@@ -1,5 +1,7 @@
 //! The plain form.
 
+#![cfg(feature = "alloc")]
+
 mod answers;
 
 use answers::{accepted, refused};
@@ -116,7 +118,8 @@ fn every_refusal_of_the_reader() {
                 assert_eq!(found, (answer, vec![]));
             }
         }
-        assert_eq!(plain::to_vec(level, &text).err(), answer.refusal());
+        let error = plain::to_vec(level, &text).err();
+        assert_eq!(error, answer.accepted_in(&text).err());
     }
 }
 
@@ -162,5 +165,6 @@ fn longer_than_a_text() {
     let text = b"::Set".repeat(6_553);
     let form = plain::to_vec(1, &text).expect("a good text");
     assert_eq!(form, b"::\"Set\"".repeat(6_553));
-    assert_eq!(plain::to_vec(1, &form), Err(Refusal::TooLong));
+    let again = plain::to_vec(1, &form).map_err(|error| error.refusal);
+    assert_eq!(again, Err(Refusal::TooLong));
 }

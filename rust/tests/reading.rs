@@ -1,6 +1,6 @@
 //! What a caller of the package meets: answers, tables, nodes.
 
-use muon::{detail, kind, role, Answer, Node, Refusal};
+use muon::{Answer, IntervalForm, Kind, Node, Refusal, Role};
 
 const FILLED: u32 = 0xA5A5_A5A5;
 
@@ -42,7 +42,7 @@ fn a_group_makes_no_node() {
     let (_, nodes) = nodes(1, b"((x))");
     assert_eq!(nodes.len(), 1);
     assert_eq!(nodes[0].span(), 2..3);
-    assert_eq!(nodes[0].role, role::ROOT);
+    assert_eq!(nodes[0].role, Role::Root.number());
 }
 
 #[test]
@@ -51,9 +51,10 @@ fn an_interval() {
     let (_, nodes) = nodes(2, b"[1..10]");
     assert_eq!(
         (nodes[0].kind, nodes[0].detail),
-        (kind::INTERVAL, detail::DOTS)
+        (Kind::Interval.number(), IntervalForm::Dots.number())
     );
-    assert_eq!([nodes[1].role, nodes[2].role], [role::LOW, role::HIGH]);
+    let roles = [Role::Low, Role::High].map(Role::number);
+    assert_eq!([nodes[1].role, nodes[2].role], roles);
 }
 
 #[test]

@@ -331,7 +331,7 @@ fn blobs_read(text: &[u8]) -> (Answer, Vec<&[u8]>) {
     let answer = muon::read(1, text, &mut table);
     assert_eq!(muon::read(2, text, &mut table), answer);
     let count = answer.accepted().unwrap_or(0);
-    let blobs = muon::nodes(&table, count).filter(|node| node.kind == muon::kind::BLOB);
+    let blobs = muon::nodes(&table, count).filter(|node| node.kind == muon::Kind::Blob.number());
     (answer, blobs.map(|node| &text[node.span()]).collect())
 }
 

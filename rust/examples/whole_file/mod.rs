@@ -1,6 +1,5 @@
 //! What the examples that read a whole file share: the reading, and how they end.
 
-use muon::Answer;
 use std::fs;
 use std::io::{self, Read};
 use std::path::Path;
@@ -14,6 +13,11 @@ pub fn said(path: impl AsRef<Path>, error: io::Error) -> Failure {
     (format!("{}: {error}", path.as_ref().display()), 2)
 }
 
+/// Why and where the text in a file is refused, as editors find it.
+pub fn refused(path: impl AsRef<Path>, error: muon::Error) -> Failure {
+    (format!("{}:{error}", path.as_ref().display()), 1)
+}
+
 /// A byte more than is of use is enough to know that there are too many.
 pub fn input(path: impl AsRef<Path>, most: usize) -> Result<Vec<u8>, Failure> {
     let mut bytes = Vec::new();
@@ -21,12 +25,6 @@ pub fn input(path: impl AsRef<Path>, most: usize) -> Result<Vec<u8>, Failure> {
         .and_then(|file| file.take(most as u64 + 1).read_to_end(&mut bytes))
         .map_err(|error| said(path, error))?;
     Ok(bytes)
-}
-
-/// The count of an answer, if text and file are accepted.
-pub fn accepted(answer: Answer) -> Result<usize, Failure> {
-    let refused = |refusal| (format!("byte {}: {refusal}", answer.place), 1);
-    answer.accepted().map_err(refused)
 }
 
 /// The exit code; the reason of a failure goes to standard error.
