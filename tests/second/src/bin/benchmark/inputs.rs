@@ -47,6 +47,13 @@ pub const UTF8_SHAPES: [(&str, Shape); 4] = [
     ("utf8-threes", |size| filled("霜の夜", size).into_bytes()),
 ];
 
+/// Many lines, and one.
+pub const POSITION_SHAPES: [(&str, Shape); 3] = [
+    ("lines", settings),
+    ("one-line", |size| filled(PLAIN, size).into_bytes()),
+    ("one-accented", |size| filled(ACCENTED, size).into_bytes()),
+];
+
 /// One long Text, of letters or of escapes, whose last escape is a character's.
 pub const ESCAPE_SHAPES: [(&str, Shape); 2] = [
     ("last-escape", |size| escaped(PLAIN, SOUND, size)),
@@ -165,17 +172,25 @@ fn site(size: usize) -> Vec<u8> {
     padded(text + "}, site : creek)\n", size)
 }
 
-/// The same without comments, and so a shorter text.
+/// The same without comments, of the same size: as many machines as fit, and no
+/// more than there may be nodes for.
 fn bare_settings(size: usize) -> Vec<u8> {
-    let text = String::from_utf8(settings(size)).expect("settings are UTF-8");
-    let bare = text
-        .lines()
-        .map(|line| line.split('`').next().unwrap_or(line).trim_end());
-    let lines = bare.filter(|line| !line.is_empty());
-    lines
-        .flat_map(|line| [line, "\n"])
-        .collect::<String>()
-        .into()
+    // each has 16 nodes, and the Tuple is one more
+    let machines = (1..NODES_MAX / 16).flat_map(machine);
+    let mut text = "(\n".to_string();
+    for line in machines.filter_map(|line| without_comment(&line)) {
+        if text.len() + line.len() + 7 > size {
+            break;
+        }
+        text += &format!("    {line}\n");
+    }
+    (text + ")\n").into_bytes()
+}
+
+/// What stands before a comment, unless that is nothing.
+fn without_comment(line: &str) -> Option<String> {
+    let bare = line.split('`').next()?.trim_end();
+    (!bare.is_empty()).then(|| bare.to_string())
 }
 
 /// The words again and again, and space for what no character fills.

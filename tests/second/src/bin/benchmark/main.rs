@@ -9,13 +9,15 @@ mod inputs;
 
 use inputs::{
     grouped, Shape, BAD_ESCAPE_SHAPES, BAD_TEXT_SHAPES, BITS_SHAPES, BLOB_SHAPES, CHECK_SHAPES,
-    CONVERT_SHAPES, ESCAPE_SHAPES, PLAIN_SHAPES, SHAPES, SIZES, TEXT_SHAPES, UTF8_SHAPES,
-    WALK_SHAPES, WRITE_SHAPES,
+    CONVERT_SHAPES, ESCAPE_SHAPES, PLAIN_SHAPES, POSITION_SHAPES, SHAPES, SIZES, TEXT_SHAPES,
+    UTF8_SHAPES, WALK_SHAPES, WRITE_SHAPES,
 };
-use second::answer::{BAD_VALUE, DEPTH_MAX};
+use second::answer::{BAD_VALUE, DEPTH_MAX, SKIP};
 use second::generate::long_shapes;
+use second::position::position;
 use second::{file, plain, tree, utf8, value};
 use std::hint::black_box;
+use std::iter::successors;
 use std::process::ExitCode;
 use std::time::{Duration, Instant};
 
@@ -123,9 +125,11 @@ const CONVERT: Calls = [
 /// node by the parents.
 const WALK: Calls = [
     ("skips", |_, lent| {
-        let root = muon::root(&lent.read, lent.count);
-        let last = root.and_then(|root| root.children().last());
-        u32::from(black_box(last).is_none())
+        let skip = |child: &usize| lent.read[muon::NODE_WORDS * child + SKIP] as usize;
+        let children = successors((lent.count > 1).then_some(1), |child| {
+            Some(skip(child)).filter(|next| *next < lent.count)
+        });
+        u32::from(black_box(children.last()).is_none())
     }),
     ("parents", |_, lent| {
         let nodes = muon::nodes(&lent.read, lent.count);
@@ -136,6 +140,18 @@ const WALK: Calls = [
 const UTF8: Calls = [
     ("proved", |text, _| muon::utf8(text).number),
     ("second", |text, _| utf8::test(text).number),
+];
+
+/// Of the text's end.
+const POSITION: Calls = [
+    ("proved", |text, _| {
+        black_box(muon::line_column(text, text.len()));
+        0
+    }),
+    ("second", |text, _| {
+        black_box(position(text, text.len()));
+        0
+    }),
 ];
 
 /// A shape, what it is given to, and the number that is answered.
@@ -171,6 +187,7 @@ fn cases() -> Vec<Case> {
         with(&PLAIN_SHAPES, PLAIN),
         with(&CONVERT_SHAPES, CONVERT),
         with(&UTF8_SHAPES, UTF8),
+        with(&POSITION_SHAPES, POSITION),
         with(&WALK_SHAPES, WALK),
     ]
     .concat()
