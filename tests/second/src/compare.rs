@@ -10,6 +10,7 @@ pub mod skips;
 
 use crate::answer::{Answer, BAD_VALUE};
 use crate::generate::Random;
+use crate::progress;
 use std::fmt::Debug;
 use std::process::ExitCode;
 
@@ -151,6 +152,7 @@ pub fn listed(answers: &[usize], numbers: &[usize]) -> String {
 
 /// Prints how much was compared, and the disagreement if there is one.
 pub fn finish(name: &str, compared: &str, outcome: Compared) -> ExitCode {
+    progress::end();
     match outcome {
         Ok(()) => {
             println!("{name}: {compared}: all agree");

@@ -23,12 +23,15 @@ use second::generate::{
     arrow_rows, arrow_texts, commented, deep_forms, escape_rows, escape_texts, good_texts,
     head_forms, long_texts, old_texts, random_bytes, sized_forms, texts, Random,
 };
+use second::progress;
 use second::samples::readings::CONVERTED;
 use second::samples::{before, Sample, Want};
 use second::tree::{read_by, Rules};
 use second::{file, plain, samples};
 use std::process::ExitCode;
 
+/// Texts of a run, rounded: shown beside those that are done.
+const ABOUT: usize = 208_000;
 const SEED: u64 = 20_261_124;
 const GENERATED: usize = 12_000;
 const GOOD: usize = 3_000;
@@ -125,6 +128,7 @@ impl Counts {
     /// several lengths.
     fn form(&mut self, level: u32, text: &[u8]) -> Result<Option<Vec<u8>>, Difference> {
         self.texts += 1;
+        progress::step();
         let words = match old_read(level, text) {
             Ok(words) => words,
             Err(refusal) => {
@@ -343,6 +347,7 @@ fn run(counts: &mut Counts) -> Compared {
 }
 
 fn main() -> ExitCode {
+    progress::begin("compare_convert", "texts", Some(ABOUT));
     let mut counts = Counts::new();
     let outcome = run(&mut counts);
     finish("compare_convert", &counts.summary(), outcome)

@@ -22,11 +22,14 @@ use second::generate::{
     arrow_rows, arrow_texts, escape_rows, escape_texts, good_texts, long_texts, old_texts,
     random_bytes, sized_forms, texts, Random,
 };
+use second::progress;
 use second::samples;
 use second::tree::Rules;
 use std::collections::HashMap;
 use std::process::ExitCode;
 
+/// Texts of a run, rounded: shown beside those that are done.
+const ABOUT: usize = 64_000;
 const SEED: u64 = 20_261_119;
 const GENERATED: usize = 12_000;
 const GOOD: usize = 6_000;
@@ -152,6 +155,7 @@ impl Counts {
     /// that it is what the archive reads.
     fn writings(&mut self, text: &[u8]) -> Compared {
         self.texts += 1;
+        progress::step();
         let need = file::write(text, &mut []).count;
         // none, the head's and the longest among them
         let some = [0, 1, HEAD, FILE_MAX, FILE_MAX + 1];
@@ -444,6 +448,7 @@ fn run(counts: &mut Counts) -> Compared {
 }
 
 fn main() -> ExitCode {
+    progress::begin("compare_files", "texts", Some(ABOUT));
     let mut counts = Counts::new();
     let outcome = run(&mut counts);
     finish("compare_files", &counts.summary(), outcome)

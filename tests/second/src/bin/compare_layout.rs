@@ -24,11 +24,14 @@ use second::generate::{
 };
 use second::layout::places::{Place, Places, PLACES};
 use second::layout::{changed, cut, plainly, stretches, Change};
+use second::progress;
 use second::samples;
 use second::samples::readings::PLAIN;
 use std::ops::Range;
 use std::process::ExitCode;
 
+/// Texts of a run, rounded: shown beside those that are done.
+const ABOUT: usize = 89_000;
 const SEED: u64 = 20_261_127;
 const GENERATED: usize = 45_000;
 const GOOD: usize = 12_000;
@@ -152,6 +155,7 @@ impl Counts {
     fn accepted(&mut self, accepted: &Accepted, stretches: &[Range<usize>]) -> Compared {
         let text = accepted.text;
         self.texts += 1;
+        progress::step();
         related(text, text, true)?;
         self.misses(text)?;
         if stretches.is_empty() {
@@ -313,6 +317,7 @@ fn run(counts: &mut Counts) -> Compared {
 }
 
 fn main() -> ExitCode {
+    progress::begin("compare_layout", "texts", Some(ABOUT));
     let mut counts = Counts::new();
     let outcome = run(&mut counts);
     finish("compare_layout", &counts.summary(), outcome)

@@ -7,6 +7,7 @@
 
 use second::generate::{arrow_texts, escape_texts, texts};
 use second::listing::{listing, BUFFER};
+use second::progress;
 use second::samples;
 use std::io::{self, Write};
 use std::process::{Command, ExitCode, Stdio};
@@ -51,13 +52,16 @@ fn main() -> io::Result<ExitCode> {
         all.push(vec![b' '; length]);
     }
     let mut runs = 0;
+    progress::begin("compare_listings", "texts", Some(all.len()));
     for text in &all {
+        progress::step();
         let expected = listing(&text[..text.len().min(BUFFER)]);
         let small = if text.len() > 4096 { 1000 } else { PIECE };
         for piece in [text.len().max(1), small] {
             let found = written(&program, text, piece)?;
             runs += 1;
             if found != expected {
+                progress::end();
                 println!(
                     "{:?} in pieces of {piece}: {:?}, not {:?}",
                     String::from_utf8_lossy(text),
@@ -68,6 +72,7 @@ fn main() -> io::Result<ExitCode> {
             }
         }
     }
+    progress::end();
     println!(
         "compare_listings: {} texts, {runs} runs: all agree",
         all.len()

@@ -22,11 +22,14 @@ use second::generate::{
     arrow_rows, arrow_texts, commented, deep_forms, escape_rows, escape_texts, gaps, good_texts,
     head_forms, long_texts, random_bytes, sized_forms, texts, Random,
 };
+use second::progress;
 use second::samples::readings::PLAIN;
 use second::tree::{read_by, Rules};
 use second::{plain, samples};
 use std::process::ExitCode;
 
+/// Texts of a run, rounded: shown beside those that are done.
+const ABOUT: usize = 104_000;
 const SEED: u64 = 20_261_123;
 const GENERATED: usize = 12_000;
 const GOOD: usize = 6_000;
@@ -126,6 +129,7 @@ impl Counts {
     /// with buffers of several lengths.
     fn forms(&mut self, level: u32, text: &[u8]) -> Result<Option<Form>, Difference> {
         self.texts += 1;
+        progress::step();
         let words = match read(level, text) {
             Ok(words) => words,
             Err(refusal) => {
@@ -380,6 +384,7 @@ fn run(counts: &mut Counts) -> Compared {
 }
 
 fn main() -> ExitCode {
+    progress::begin("compare_plain", "texts", Some(ABOUT));
     let mut counts = Counts::new();
     let outcome = run(&mut counts);
     finish("compare_plain", &counts.summary(), outcome)

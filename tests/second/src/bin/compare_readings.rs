@@ -11,7 +11,7 @@
 //!
 //! Exits with 1 at the first disagreement.
 
-use muon::Branch;
+use muon::{Branch, Document};
 use second::answer::{DEPTH_MAX, NEWER_FORM, NODE_WORDS, NO_ROOM, TEXT_MAX};
 use second::compare::readings::{proved, same_reading, Reading};
 use second::compare::{escapes_met, finish, in_quotes, same, skips, Compared, Difference};
@@ -19,11 +19,14 @@ use second::generate::{
     arrow_rows, arrow_texts, escape_rows, escape_texts, flipped, long_texts, paddings,
     random_bytes, row_texts, texts, two_groups, Random,
 };
+use second::progress;
 use second::{samples, tree};
 use std::iter::successors;
 use std::process::ExitCode;
 use std::time::{Duration, Instant};
 
+/// Texts of a run, rounded: shown beside those that are done.
+const ABOUT: usize = 677_000;
 const SEED: u64 = 20_261_116;
 const GENERATED: usize = 100_000;
 const ARROWS: usize = 20_000;
@@ -64,14 +67,35 @@ fn old_and_new(text: &[u8], length: usize, old: &Reading, new: &Reading) -> Comp
     )))
 }
 
-/// That the package's walk over the nodes meets all of them in order, and that
-/// it gives the children of each alike in a row and one by one.
-fn walked(text: &[u8], words: &[u32]) -> Compared {
+/// Whether a node's kind, role and detail by name have its numbers behind them.
+fn has_its_numbers(branch: &Branch) -> bool {
+    let node = branch.node();
+    let numbers = [
+        branch.kind().number(),
+        branch.role().number(),
+        branch.detail().number(),
+    ];
+    numbers == [node.kind, node.role, node.detail]
+}
+
+/// That the package's document has these words, that the walk over its nodes
+/// meets all of them in order, and that it gives the children of each alike in a
+/// row and one by one.
+fn walked(level: u32, text: &[u8], words: &[u32]) -> Compared {
     let count = words.len() / NODE_WORDS;
-    let mut open: Vec<Branch> = muon::root(words, count).into_iter().collect();
+    let mut table = vec![0; words.len()];
+    let document = Document::read(level, text, &mut table).map_err(|error| {
+        Difference(format!(
+            "a document of b\"{}\": {error}",
+            text.escape_ascii()
+        ))
+    })?;
+    same("words of the document", text, words, document.words())?;
+    let mut open: Vec<Branch> = vec![document.root()];
     let mut met = 0;
     while let Some(branch) = open.pop() {
         same("node of the walk", text, met, branch.index())?;
+        same("its numbers", text, true, has_its_numbers(&branch))?;
         met += 1;
         let children: Vec<Branch> = branch.children().collect();
         let siblings = successors(branch.first_child(), Branch::next_sibling);
@@ -136,7 +160,7 @@ impl Counts {
         if theirs.answer.number == 0 {
             let words = &theirs.words[..theirs.answer.count * NODE_WORDS];
             skips::follow_from_parents(text, words)?;
-            walked(text, words)?;
+            walked(level, text, words)?;
             self.nodes += theirs.answer.count;
         }
         Ok(theirs)
@@ -166,6 +190,7 @@ impl Counts {
     /// aren't with one.
     fn text(&mut self, text: &[u8]) -> Compared {
         self.texts += 1;
+        progress::step();
         for length in self.lengths(text) {
             self.both_levels(text, length)?;
         }
@@ -180,6 +205,7 @@ impl Counts {
     /// needs, and more.
     fn literal(&mut self, text: &[u8]) -> Compared {
         self.texts += 1;
+        progress::step();
         for length in [0, NODE_WORDS - 1, NODE_WORDS, 2 * NODE_WORDS] {
             self.both_levels(text, length)?;
         }
@@ -318,6 +344,7 @@ fn run(counts: &mut Counts) -> Compared {
 }
 
 fn main() -> ExitCode {
+    progress::begin("compare_readings", "texts", Some(ABOUT));
     let mut counts = Counts::new();
     let outcome = run(&mut counts);
     finish("compare_readings", &counts.summary(), outcome)

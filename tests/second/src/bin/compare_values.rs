@@ -11,9 +11,12 @@ use second::generate::{
     escape_pieces, long_packed_pieces, long_pieces, packed_pieces, pieces, random_escape_pieces,
     random_packed_pieces, row_texts, sample_pieces, short_pieces, two_groups, Random,
 };
+use second::progress;
 use second::{tree, value};
 use std::process::ExitCode;
 
+/// Pieces of a run, rounded: shown beside those that are done.
+const ABOUT: usize = 1_293_000;
 const SEED: u64 = 20_261_117;
 const GENERATED: usize = 200_000;
 const ESCAPES: usize = 40_000;
@@ -202,6 +205,7 @@ impl Counts {
 
     fn piece(&mut self, piece: &[u8]) -> Compared {
         self.pieces += 1;
+        progress::step();
         self.integer(piece)?;
         for (index, writing) in WRITING.iter().enumerate() {
             for length in self.lengths(writing, piece) {
@@ -275,6 +279,7 @@ fn run(counts: &mut Counts) -> Compared {
 }
 
 fn main() -> ExitCode {
+    progress::begin("compare_values", "pieces", Some(ABOUT));
     let mut counts = Counts::new();
     let outcome = run(&mut counts);
     finish("compare_values", &counts.summary(), outcome)

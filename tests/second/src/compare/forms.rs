@@ -4,6 +4,7 @@ use super::{lengths, same, Difference};
 use crate::answer::{Answer, NODE_WORDS};
 use crate::generate::Random;
 use crate::plain::turned;
+use muon::Kind;
 
 pub const LEVELS: [u32; 2] = [1, 2];
 const NO_LEVELS: [u32; 4] = [0, 3, 258, u32::MAX];
@@ -86,8 +87,8 @@ pub fn read_again(
 /// What a literal of this kind stands for, if there is a call that tells: its
 /// answer, and the value as bytes.
 pub(super) fn value(kind: u32, piece: &[u8]) -> Option<(Answer, Vec<u8>)> {
-    let call = match kind {
-        muon::kind::INTEGER => {
+    let call = match Kind::from_number(kind)? {
+        Kind::Integer => {
             let found = muon::integer(piece);
             let answer = Answer {
                 number: found.number,
@@ -96,9 +97,9 @@ pub(super) fn value(kind: u32, piece: &[u8]) -> Option<(Answer, Vec<u8>)> {
             };
             return Some((answer, found.value.to_be_bytes().to_vec()));
         }
-        muon::kind::BITS => muon::bits,
-        muon::kind::BLOB => muon::blob,
-        muon::kind::TEXT => muon::text,
+        Kind::Bits => muon::bits,
+        Kind::Blob => muon::blob,
+        Kind::Text => muon::text,
         _ => return None,
     };
     let mut buffer = vec![0; 4 * piece.len()];
