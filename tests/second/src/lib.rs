@@ -22,6 +22,8 @@ pub mod generate;
 pub mod layout;
 pub mod listing;
 pub mod plain;
+pub mod position;
+pub mod progress;
 pub mod samples;
 pub mod space;
 pub mod token;

@@ -185,9 +185,10 @@ fn tried(example: &Example, root: &Path) -> Option<Finding> {
         .map(|reason| Finding::new(&example.file, example.line, reason))
 }
 
+/// What a person sees: standard output and standard error.
 fn command(text: &str, output: &str, root: &Path) -> Result<(), String> {
     let run = Command::new("bash")
-        .args(["-c", text])
+        .args(["-c", &format!("{{ {text}; }} 2>&1")])
         .current_dir(root)
         .output();
     let written = run.map_err(|error| error.to_string())?.stdout;
@@ -238,6 +239,10 @@ fn self_test(repository: &Repository, root: &Path) -> Result<(), String> {
         "`(x:y)` has the nodes `9 0 5 0 0 0 3`, `7 1 2 0 1 2 3`, `7 3 4 0 2 2 3`",
         "`1..10` has the tokens `1.`, `.10`",
         "    $ printf '5' | target/bin/muon\n    ok 2 2\n",
+        "| text | answer |\n|---|---|\n| `true` | Boolean |\n",
+        "| text | answer | write |\n|---|---|---|\n| `(x` | 6@2 | `(x:` |\n",
+        "| bytes | answer |\n|---|---|\n| `\\xEF\\xBB\\xBF(` | 6@3 |\n",
+        "    5\n\nis listed so:\n\n    ok 2 1\n    3 0 1 0 0 0 1  root Text 5\n",
     ];
     let right = [
         "`rules/specs/Rule.antt`: `Takes`, `Longest`; `tree::read::read`; `text/upper_bound_excluded`",
@@ -253,6 +258,9 @@ fn self_test(repository: &Repository, root: &Path) -> Result<(), String> {
         "With the table of `(x,y)`, `(x:y)` is 14@0",
         "With a table of 6 words, `x` is 8@1; with a table of 7 words, `x` has the node `7 0 1 0 0 2 1`",
         "    $ printf '5' | target/bin/muon\n    ok 2 1\n    3 0 1 0 0 0 1\n",
+        "| text | answer | write |\n|---|---|---|\n| `true` | Text | `0bTRUE` |\n| `(x` | 6@2 | `(x)` |\n",
+        "| bytes | answer |\n|---|---|\n| `\\xEF\\xBB\\xBF(` | 6@4 |\n",
+        "    5\n\nis listed so:\n\n    ok 2 1\n    3 0 1 0 0 0 1  root Integer 5\n",
     ];
     if let Some(text) = wrong.iter().find(|text| findings(text) == 0) {
         return Err(text.to_string());

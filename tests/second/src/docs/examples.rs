@@ -30,11 +30,18 @@
 //!   files, which takes the file with these nodes.
 //!
 //! In a table with the columns "text", "old reader" and "new reader" or "both
-//! readers": an answer, nodes, a number of nodes, or "the same" as before.
-//! In code: a command behind `$`, and below it what it writes.
+//! readers", "level 1" and "level 2", or "answer" for both levels: an answer,
+//! nodes, a number of nodes, the root's kind with its children ("Tuple: name
+//! Text, value Integer"), or "the same" as before. A cell may have several
+//! texts. If the first column is "bytes", `\xFF` in a text is that byte. What a
+//! column "write" has are texts that both levels accept.
+//!
+//! In code: a command behind `$`, and below it what it writes; and a text, then
+//! a passage that begins with "is listed", then its listing at level 2, with
+//! role, kind and literal as a note behind the words of each node.
 
 use super::markup::{one_spaced, Block, Part, Passage};
-use super::{Document, Finding};
+use super::{shapes, Document, Finding};
 use crate::answer::{Answer, NODES_MAX, NODE_WORDS, NO_TOKEN};
 use crate::file::{FILE_MAX, STORED_WORDS};
 use crate::token::Lexed;
@@ -45,6 +52,10 @@ pub enum Call {
     Read(u32),
     /// At a level, in a table of so many words.
     ReadInto(u32, usize),
+    /// At a level, of a text in which `\xFF` is that byte.
+    ReadBytes(u32),
+    /// The listing at a level.
+    List(u32),
     Tokens,
     Integer,
     Text,
@@ -68,10 +79,12 @@ pub enum Call {
 pub enum Want {
     /// Number and place.
     Refused(u32, usize),
-    /// Of a file that is checked.
+    /// Of a file that is checked, or of a text that is to be written instead.
     Accepted,
     Nodes(Vec<String>),
     Count(usize),
+    /// The root's kind, and its children with their roles and kinds.
+    Shape(String),
     /// As at level 1, word for word.
     Same,
     /// The root's detail.
@@ -108,6 +121,14 @@ const IS_WRITTEN: &str = " is written ";
 const CONVERTS_TO: &str = " converts to ";
 /// In front of a text whose table is lent.
 const TABLE_OF: &str = "ith the table of ";
+/// Between a Text and its characters.
+const CHARACTERS: &str = "the characters ";
+/// Between a text in code and its listing.
+const IS_LISTED: &str = "is listed";
+/// The level of such a listing.
+const LIST_LEVEL: u32 = 2;
+/// The column of texts to be written instead of others.
+const WRITE: &str = "write";
 
 /// What a text is given to, as the sentence says.
 #[derive(Clone, Debug, PartialEq, Eq)]
@@ -194,10 +215,15 @@ pub fn shown(document: &Document) -> Shown {
         file: &document.path,
         shown: Shown::default(),
     };
-    for block in &document.blocks {
+    for (at, block) in document.blocks.iter().enumerate() {
         match block {
             Block::Heading { .. } => {}
-            Block::Passage(passage) => reader.passage(passage),
+            Block::Passage(passage) => {
+                if begins_with(passage, IS_LISTED) {
+                    reader.listing(passage.line, &document.blocks, at);
+                }
+                reader.passage(passage);
+            }
             Block::Table { heads, rows } if is_readers(heads) => {
                 for row in rows {
                     reader.row(heads, row);
@@ -242,17 +268,28 @@ pub fn details(file: &str, header: &str) -> Vec<Example> {
     found
 }
 
+fn begins_with(passage: &Passage, words: &str) -> bool {
+    matches!(passage.parts.first(), Some(Part::Prose(prose)) if prose.starts_with(words))
+}
+
+/// Whether the columns of a table are texts and what is answered.
 fn is_readers(heads: &[String]) -> bool {
-    heads.first().is_some_and(|head| head == "text")
+    let texts = heads.first();
+    texts.is_some_and(|head| ["text", "bytes"].contains(&head.as_str()))
         && heads.iter().any(|head| levels(head).is_some())
+}
+
+/// Whether a column of a table has texts, and so no names.
+pub fn has_texts(heads: &[String], column: usize) -> bool {
+    is_readers(heads) && (column == 0 || heads[column] == WRITE)
 }
 
 /// The levels that a column is about.
 fn levels(head: &str) -> Option<Asked> {
     match head {
-        "old reader" => Some(Asked::Level(1)),
-        "new reader" => Some(Asked::Level(2)),
-        "both readers" => Some(Asked::BothLevels),
+        "old reader" | "level 1" => Some(Asked::Level(1)),
+        "new reader" | "level 2" => Some(Asked::Level(2)),
+        "both readers" | "answer" => Some(Asked::BothLevels),
         _ => None,
     }
 }
@@ -327,12 +364,19 @@ fn leading_count(text: &str, noun: &str) -> Option<usize> {
 }
 
 /// Whether what looks like a name is a text, by the prose on its two sides: its
-/// steps or its file are told, it is written plainly, converted or a plain form,
+/// answer, its steps, its file, its node or its characters are told, it is
+/// written plainly, converted or a plain form, it is the characters of another,
 /// or its table is meant.
 pub fn is_text(before: &str, behind: &str) -> bool {
     let told = behind.strip_prefix(" has ");
-    let of_text = |rest| leading_count(rest, "step").is_some() || rest.starts_with("the file ");
+    let of_text = |rest: &str| {
+        let nouns = ["the file ", "the node ", CHARACTERS];
+        leading_count(rest, "step").is_some() || nouns.iter().any(|noun| rest.starts_with(noun))
+    };
+    let answer = behind.strip_prefix(" is ").and_then(leading_answer);
     told.is_some_and(of_text)
+        || answer.is_some()
+        || before.ends_with(CHARACTERS)
         || [before, behind]
             .iter()
             .any(|prose| [IS_WRITTEN, CONVERTS_TO].contains(prose))
@@ -513,7 +557,7 @@ impl Reader<'_> {
             self.add(line, text, &[Call::Integer], &Want::Value(value));
         } else if rest.starts_with("no characters") {
             self.add(line, text, &[Call::Text], &Want::Characters(String::new()));
-        } else if rest == "the characters " {
+        } else if rest == CHARACTERS {
             let characters = listed(&behind[1..]).0.swap_remove(0);
             self.add(line, text, &[Call::Text], &Want::Characters(characters));
         } else if let Some((call, bytes)) = leading_value(rest) {
@@ -522,11 +566,19 @@ impl Reader<'_> {
         false
     }
 
-    /// A row of a table: a text, and what readers answer.
+    /// A row of a table: texts, what readers answer to each, and what is said
+    /// beside.
     fn row(&mut self, heads: &[String], row: &[Passage]) {
-        let codes = |cell: &Passage| listed(&cell.parts[1..]).0;
-        let text = codes(&row[0]).first().cloned().unwrap_or_default();
-        for (cell, head) in row.iter().zip(heads) {
+        let mut texts = listed(&row[0].parts[1..]).0;
+        if texts.is_empty() {
+            texts.push(String::new());
+        }
+        for (at, (cell, head)) in row.iter().zip(heads).enumerate() {
+            if head == WRITE {
+                self.to_be_written(cell);
+            } else if !has_texts(heads, at) && levels(head).is_none() {
+                self.passage(cell);
+            }
             let Some(asked) = levels(head) else {
                 continue;
             };
@@ -546,12 +598,41 @@ impl Reader<'_> {
                 Want::Nodes(nodes)
             } else if let Some(count) = leading_count(prose, "node") {
                 Want::Count(count)
+            } else if shapes::is_shape(prose) {
+                Want::Shape(prose.trim_end().to_string())
             } else {
                 self.fail(cell.line, &format!("no answer that can be run: {prose}"));
                 continue;
             };
-            self.add(cell.line, &text, &asked.calls(), &want);
+            let mut calls = asked.calls();
+            if heads[0] == "bytes" {
+                calls = calls.into_iter().map(of_bytes).collect();
+            }
+            for text in &texts {
+                self.add(cell.line, text, &calls, &want);
+            }
         }
+    }
+
+    /// Texts to be written instead of others.
+    fn to_be_written(&mut self, cell: &Passage) {
+        for text in all_codes(cell) {
+            let calls = Asked::BothLevels.calls();
+            self.add(cell.line, &text, &calls, &Want::Accepted);
+        }
+    }
+
+    /// A text and its listing, on the two sides of a passage.
+    fn listing(&mut self, line: usize, blocks: &[Block], at: usize) {
+        let before = at.checked_sub(1).and_then(|before| blocks.get(before));
+        let (Some(Block::Code(text)), Some(Block::Code(lines))) = (before, blocks.get(at + 1))
+        else {
+            self.fail(line, "no text with its listing");
+            return;
+        };
+        let text: String = text.iter().map(|(_, line)| format!("{line}\n")).collect();
+        let lines: String = lines.iter().map(|(_, line)| shapes::line(line)).collect();
+        self.add(line, &text, &[Call::List(LIST_LEVEL)], &Want::Writes(lines));
     }
 
     /// Commands, each with what it writes.
@@ -568,6 +649,14 @@ impl Reader<'_> {
             }
             self.add(*line, command, &[Call::Shell], &Want::Writes(output));
         }
+    }
+}
+
+/// The call of a reading, for a text in which `\xFF` is that byte.
+fn of_bytes(call: Call) -> Call {
+    match call {
+        Call::Read(level) => Call::ReadBytes(level),
+        other => other,
     }
 }
 
@@ -705,6 +794,14 @@ pub fn run(example: &Example, library: &dyn Library) -> Result<(), String> {
             let read = |at| library.read_into(at, text, *words);
             reading(&example.want, read, *level)
         }
+        Call::ReadBytes(level) => {
+            let bytes = unescaped(&example.text);
+            reading(&example.want, |at| library.read(at, &bytes), *level)
+        }
+        Call::List(level) => match library.read(*level, text) {
+            (0, _, words) => Want::Writes(shapes::listing(*level, text, &words)),
+            (number, place, _) => Want::Refused(number, place),
+        },
         Call::Tokens => tokens(text, library),
         Call::Integer => integer(&example.want, library.integer(text)),
         Call::Text => characters(&example.want, library.text(text)),
@@ -774,7 +871,9 @@ fn reading(want: &Want, read: impl Fn(u32) -> Reading, level: u32) -> Want {
         return Want::Refused(number, place);
     }
     match want {
+        Want::Accepted => Want::Accepted,
         Want::Count(_) => Want::Count(words.len() / NODE_WORDS),
+        Want::Shape(_) => Want::Shape(shapes::shape(&words)),
         Want::Detail(_) => Want::Detail(words[DETAIL]),
         Want::Same if read(1) == (number, place, words.clone()) => Want::Same,
         _ => Want::Nodes(words.chunks(NODE_WORDS).map(line).collect()),
@@ -930,6 +1029,62 @@ mod tests {
             0
         );
         assert_eq!(wrong(&format!("{head}| `[]` | 7@1 | fine |\n")), 2);
+    }
+
+    #[test]
+    fn tables_of_mistakes() {
+        let head = "| text | answer | why | write |\n|---|---|---|---|\n";
+        let rows = "| `true`, `null` | Text | a word | `0bTRUE` |\n\
+            | `(x:1)` | Pair: this Text, that Integer | no comma | `(x:1,)`, `{}` |\n";
+        assert_eq!(of(&format!("{head}{rows}")).examples.len(), 12);
+        assert_eq!(wrong(&format!("{head}{rows}")), 0);
+        assert_eq!(wrong(&format!("{head}| `5`, `a` | Text | | |\n")), 2);
+        assert_eq!(
+            wrong(&format!(
+                "{head}| `(x:1,)` | Tuple: this Text, value Integer | | |\n"
+            )),
+            2
+        );
+        assert_eq!(wrong(&format!("{head}| `5` | Integer | | `[1]` |\n")), 1);
+        assert_eq!(
+            wrong(&format!(
+                "{head}| `{{1 2}}` | Lot: this Integer | `1 2` has the value 1 | |\n"
+            )),
+            1
+        );
+        let levels = "| text | level 1 | level 2 |\n|---|---|---|\n";
+        assert_eq!(
+            wrong(&format!(
+                "{levels}| `[1]` | 7@0 | Interval: single Integer |\n"
+            )),
+            0
+        );
+        assert_eq!(wrong(&format!("{levels}| `[1]` | Interval | 7@0 |\n")), 2);
+    }
+
+    #[test]
+    fn tables_of_bytes() {
+        let head = "| bytes | answer |\n|---|---|\n";
+        assert_eq!(
+            wrong(&format!(
+                "{head}| `\\xEF\\xBB\\xBF5` | Integer |\n| `\\xFF` | 3@0 |\n"
+            )),
+            0
+        );
+        assert_eq!(wrong(&format!("{head}| `a\\xFF` | 3@0 |\n")), 2);
+    }
+
+    #[test]
+    fn listings() {
+        let text = "    (x:\n    5,)\n\nis listed so:\n\n";
+        let lines = "    ok 2 3\n    10 0 7 0 0 0 3  root Tuple\n    7 1 2 0 4 2 2   name Text x\n";
+        let right = format!("{text}{lines}    3 4 5 0 5 0 3   value Integer 5\n");
+        assert_eq!((of(&right).examples.len(), wrong(&right)), (1, 0));
+        assert_eq!(wrong(&right.replace("0 5 0 3", "0 5 0 2")), 1);
+        assert_eq!(wrong(&right.replace("value Integer", "that Integer")), 1);
+        assert_eq!(wrong(&right.replace("5,)", "6,)")), 1);
+        assert_eq!(wrong(&right.replace("5,)", "5,,)")), 1);
+        assert_eq!(wrong(text), 1);
     }
 
     #[test]

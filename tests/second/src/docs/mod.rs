@@ -19,6 +19,7 @@ pub mod index;
 pub mod markup;
 pub mod references;
 pub mod rules;
+pub mod shapes;
 
 /// What is wrong, and where.
 #[derive(Clone, Debug, PartialEq, Eq, PartialOrd, Ord)]

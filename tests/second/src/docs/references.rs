@@ -1,6 +1,6 @@
 //! What the documents name.
 
-use super::examples::is_text;
+use super::examples::{has_texts, is_text};
 use super::index::{is_name_char, Repository};
 use super::markup::{one_spaced, Block, Part, Passage};
 use super::{Document, Finding};
@@ -8,11 +8,25 @@ use std::collections::BTreeSet;
 
 /// Words in code quotes that are no names of the repository: of the papers, of
 /// the languages and their programs.
-const WORDS: &[&str] = &["MUON_LIB_DIR", "cargo", "match", "requires", "valgrind"];
+const WORDS: &[&str] = &[
+    "MUON_LIB_DIR",
+    "cargo",
+    "match",
+    "muon-tool",
+    "requires",
+    "valgrind",
+];
 
 /// Where paths in prose and in commands begin.
 const ROOTS: &[&str] = &[
-    ".ci/", "crates/", "docs/", "include/", "rust/", "target/", "tests/",
+    ".ci/",
+    "crates/",
+    "docs/",
+    "examples/",
+    "include/",
+    "rust/",
+    "target/",
+    "tests/",
 ];
 
 /// A file's function, as the column of functions in docs/CONTRACTS.md has it.
@@ -152,8 +166,10 @@ impl Checker<'_> {
             Block::Passage(passage) => self.passage(passage, Column::Other),
             Block::Table { heads, rows } => {
                 for row in rows {
-                    for (cell, head) in row.iter().zip(heads) {
-                        self.passage(cell, column(head));
+                    for (at, (cell, head)) in row.iter().zip(heads).enumerate() {
+                        if !has_texts(heads, at) {
+                            self.passage(cell, column(head));
+                        }
                     }
                 }
             }
@@ -206,7 +222,11 @@ impl Checker<'_> {
                 .file
                 .rsplit_once('/')
                 .map_or("", |(directory, _)| directory);
-            let found = [target.to_string(), format!("{below}/{target}")];
+            let beside = match target.strip_prefix("../") {
+                Some(above) => above.to_string(),
+                None => format!("{below}/{target}"),
+            };
+            let found = [target.to_string(), beside];
             if !found
                 .iter()
                 .any(|path| !self.repository.resolve(path).is_empty())
