@@ -1,4 +1,6 @@
 // What an arrow makes of the values on its two sides, and whether the level has it.
+#![tactic(auto)]
+
 ghost use Rattle.std.specs.Prelude.{◌≡◌};
 ghost use Rattle.grammar.specs.Level as Level;
 ghost use Rattle.grammar.specs.Nodes as Nodes;

@@ -1,4 +1,6 @@
 // How a value begins: 6, 7 and, for a bracket, 11 are tested here.
+#![tactic(auto)]
+
 ghost use Rattle.std.specs.Prelude.{◌≡◌, List, ℕ};
 ghost use Rattle.lexicon.specs.declared.Sign.TheVariants as Sign;
 ghost use Rattle.lexicon.specs.declared.Kind.TheVariants as Kind;

@@ -1,4 +1,6 @@
 // The value calls for Blobs and Bits: the bytes of a Blob literal, and the bits of a Bits literal, a byte each.
+#![tactic(auto)]
+
 mod mark;
 mod spread;
 pub mod value;

@@ -1,4 +1,6 @@
 // One text at both levels: the old reading and the new.
+#![tactic(auto)]
+
 ghost use Rattle.reading.specs.Sizes.{base, old_rules};
 ghost use Rattle.demands.specs.Demands.{Demands};
 

@@ -1,5 +1,7 @@
 // Bytes into a lent buffer, from a place on. A byte that does not fit is counted and not written, so that the same functions measure
 // a value, over an empty part, and write it.
+#![tactic(auto)]
+
 ghost use Rattle.std.specs.Prelude.{◌≡◌, [], ◌∷◌, ◌+◌, min};
 ghost use Rattle.buffer.specs.Puts.{largest, Puts};
 

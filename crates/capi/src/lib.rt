@@ -1,4 +1,6 @@
 // The library for C: lent memory is a pointer and a length, and no two lent parts overlap.
+#![tactic(auto)]
+
 ghost use Rattle.reading.specs.Sizes.{base, old_rules};
 ghost use Rattle.reading.specs.Answers.{answer, Answers};
 ghost use Rattle.values.specs.Utf8.{Utf8Answers};

@@ -1,4 +1,6 @@
 // The moves that a counted collection has and a Lot has not: `{` behind its head, a member's count, and `)` behind its `}`.
+#![tactic(auto)]
+
 ghost use Rattle.std.specs.Prelude.{Bool, ◌≡◌};
 ghost use Rattle.grammar.specs.Nodes.{kind_number_of};
 ghost use Rattle.moves.specs.Means.{kind_of};

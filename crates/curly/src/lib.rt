@@ -1,4 +1,6 @@
 // The moves between `{` and `}`: the members of a Lot, an Array, a Set or a Bag.
+#![tactic(auto)]
+
 pub mod behind;
 pub mod joint;
 pub mod lead;

@@ -1,5 +1,7 @@
 // Eight bytes of a text at one step: read as one number they are tested all at once. What is computed of the number is computed
 // of each byte, since no sum of a byte reaches the next, and the answer stands in the bytes' high bits.
+#![tactic(auto)]
+
 ghost use Rattle.std.specs.Prelude.{◌+◌, ◌≤◌, length};
 ghost use Rattle.rules.specs.Test.{Says};
 ghost use Rattle.rules.specs.Rule.{Takes};

@@ -1,4 +1,5 @@
 // The grammar of values over tokens: trees, what they yield, levels, places and nodes. Definitions and laws only; no code.
+#![tactic(auto)]
 
 // Words of a node, and which of them tells what: the last is the index just past its last descendant.
 pub const NODE_WORDS: usize = 7;

@@ -1,5 +1,7 @@
 // The plain form of a node without children: a literal, a Text or a Nesting.
 // A function with a `requires` is this crate's own. `leaf`, the public one, has none.
+#![tactic(auto)]
+
 mod bare;
 mod names;
 mod spelling;

@@ -1,4 +1,6 @@
 // The forms of a level.
+#![tactic(auto)]
+
 ghost use Rattle.std.specs.Prelude.{◌≡◌};
 ghost use Rattle.level.specs.Levels.{Collects, LevelFound, unleveled_by};
 

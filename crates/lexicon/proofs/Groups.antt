@@ -10,7 +10,7 @@ use native.Mathlib.Nat.{not-suc-le-zero, le_of_suc-le-suc, le_antisymm, add-zero
 use native.Mathlib.Omega.{arith}
 use lib.ListN.{length, length-append}
 use Rattle.rules.specs.Class.{Class, In, any_of}
-use Rattle.rules.specs.Rule.{one, ◌then◌, many, plus, opt, At, Takes, nothing, byte, both, left, right, stop, more, Longest, Fails}
+use Rattle.rules.specs.Rule.{Rule, one, ◌then◌, many, plus, opt, At, Takes, nothing, byte, both, left, right, stop, more, Longest, Fails}
 use Rattle.rules.specs.Every.{Every, none, also}
 use Rattle.rules.proofs.Every.{every_append}
 use Rattle.rules.proofs.Classes.{apart, apart_span}
@@ -48,10 +48,14 @@ module _ {text : List ℕ} where
   pub unit_missed : (n : ℕ) (c : Class) {i : ℕ} → (Takes text (unit n c) i (i + n) → ⊥) → Fails text (unit n c) i
   unit_missed n c f = record { none = λ u. f (ending (unit_end n c u) u) }
 
+  -- where each match of a rule is a row of another's, a row of them is one too
+  rows_joined : {r s : Rule} → ((i j : ℕ) → Takes text r i j → Takes text (many s) i j) → {i j : ℕ} → Takes text (many r) i j → Takes text (many s) i j
+  rows_joined f (stop e) = stop e
+  rows_joined f (more u us) = join (f _ _ u) (rows_joined f us)
+
   -- a row of units is one of their bytes
   pub units_run : (n : ℕ) {c : Class} {i j : ℕ} → Takes text (many (unit n c)) i j → Takes text (many (one c)) i j
-  units_run n (stop e) = stop e
-  units_run n (more u us) = join (many_of_times n u) (units_run n us)
+  units_run n = rows_joined (λ i j u. many_of_times n u)
 
   pub unit_at : (n : ℕ) {c : Class} {i j : ℕ} → Takes text (unit (suc n) c) i j → At text c i
   unit_at n (both (byte a e) u) = a

@@ -1,4 +1,5 @@
 // The names that the definitions of tokens and the code share. Definitions and laws stand in specs/ and proofs/; no code.
+#![tactic(auto)]
 
 // The eight byte sets of the class table.
 #[derive(Drop)]

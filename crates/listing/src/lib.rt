@@ -1,6 +1,8 @@
 // The listing of an answer, written into a lent buffer.
 // A function with a `requires` is this crate's own. Each begins where the one before it ended, so its place is inside the buffer; and the
 // words that it reads are those of an accepted reading, so they are inside the table. `list`, the one public function, has none.
+#![tactic(auto)]
+
 ghost use Rattle.std.specs.Prelude.{◌≡◌, [], ◌∷◌, ◌++◌, ◌+◌, ◌*◌, ◌^◌, ◌≤◌, ◌<◌, length, get_or};
 ghost use Rattle.grammar.specs.Nodes.{node_words, word_at};
 ghost use Rattle.listing.specs.Listing.{space, decimal, head_line, node_line, longest_line, node_lines, listing};

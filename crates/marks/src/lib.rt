@@ -1,4 +1,6 @@
 // What opens, joins and closes a bracket, by the numbers of kind, role and detail. What is written is told for every number.
+#![tactic(auto)]
+
 ghost use Rattle.std.specs.Prelude.{◌≡◌};
 ghost use Rattle.buffer.specs.Puts.{Puts};
 ghost use Rattle.form.proofs.Walk.{sign_bytes, comma as commaBytes, last_sign_of};

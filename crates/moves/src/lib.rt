@@ -1,4 +1,6 @@
 // The states of a reader inside a bracket, and the moves between them. Definitions and laws; no code.
+#![tactic(auto)]
+
 use lexicon::Head;
 
 // The forms that a level may have or lack.

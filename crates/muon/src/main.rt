@@ -1,4 +1,6 @@
 // Reads standard input at level 2 and writes the listing. A read or write that fails is said on standard error.
+#![tactic(auto)]
+
 ghost use Rattle.muon.specs.Input.{Within};
 
 use libc::{STDIN_FILENO, STDOUT_FILENO};

@@ -1,4 +1,6 @@
 // The numeric literals: Integer, Fraction, Bits and Blob.
+#![tactic(auto)]
+
 pub mod blob;
 pub mod fraction;
 mod groups;

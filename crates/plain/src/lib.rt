@@ -1,6 +1,8 @@
 // The plain form of a text, from its table of nodes: no byte-order mark, first line, comments, dividing space, groups or `_` between
 // digits; a pair is this, `:`, that.
 // A function with a `requires` is this crate's own. `write` and `convert`, the public ones, have none.
+#![tactic(auto)]
+
 mod node;
 mod value;
 

@@ -1,4 +1,6 @@
 // Line and column of a place in a text, for those who are told of a refusal.
+#![tactic(auto)]
+
 ghost use Rattle.std.specs.Prelude.{◌≡◌, min, ◌≤◌, ◌<◌, length};
 ghost use Rattle.values.specs.Position.{Lines, Character, Before, Position as Stands};
 

@@ -1,4 +1,6 @@
 // What a reading answers, and the rules that it judges by: number, place, count and the lent table, case by case. Definitions only; no code.
+#![tactic(auto)]
+
 use grammar::NODE_WORDS;
 
 // The answer of a reading: its number (0 accepted), its place, and its count.

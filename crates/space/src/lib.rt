@@ -1,4 +1,6 @@
 // Dividing space: any run of the four dividing bytes and whole comments.
+#![tactic(auto)]
+
 pub mod front;
 pub mod joint;
 

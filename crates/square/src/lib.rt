@@ -1,4 +1,6 @@
 // The moves between `[` and `]`: an Interval's bounds.
+#![tactic(auto)]
+
 pub mod behind;
 pub mod bounded;
 pub mod lead;

@@ -1,5 +1,7 @@
 // The stored file of a text: written, and checked.
 // A function with a `requires` is this crate's own. `write` and `check`, the public ones, have none.
+#![tactic(auto)]
+
 mod byte;
 
 ghost use Rattle.std.specs.Prelude.{◌≡◌, ◌+◌, ◌*◌, ◌≤◌, length};

@@ -1,4 +1,6 @@
 // Nodes in the lent table of words, one behind the other.
+#![tactic(auto)]
+
 ghost use Rattle.std.specs.Prelude.{◌≡◌, [], ◌∷◌, ◌+◌, ◌*◌, ◌≤◌, length};
 ghost use Rattle.rules.specs.Over.{over};
 ghost use Rattle.grammar.specs.Nodes.{role_number, node_words};

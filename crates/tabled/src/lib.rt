@@ -1,5 +1,7 @@
 // A text with its table: the reading, then whether the table shows what the reading writes.
 // A function with a `requires` is this crate's own. `judge`, the public one, has none.
+#![tactic(auto)]
+
 ghost use Rattle.std.specs.Prelude.{◌≡◌, ◌*◌, ◌≤◌, min, length, take};
 ghost use Rattle.rules.specs.Test.{Says};
 ghost use Rattle.grammar.specs.Nodes.{node_words};

@@ -1,4 +1,6 @@
 // The value call for Texts: the characters of a Text literal as UTF-8.
+#![tactic(auto)]
+
 mod bytes;
 mod code;
 mod quoted;

@@ -1,4 +1,6 @@
 // The token at a place of a text.
+#![tactic(auto)]
+
 pub mod bad;
 mod literal;
 pub mod next;

@@ -1,4 +1,6 @@
 // The tokens for C, as numbers: what the comparison with the second program calls.
+#![tactic(auto)]
+
 ghost use Rattle.std.specs.Prelude.{◌≡◌};
 ghost use Rattle.lexicon.specs.Bytes.{bit};
 ghost use Rattle.lexicon.specs.Front.{Front};

@@ -1,4 +1,6 @@
 // From tokens to the node table.
+#![tactic(auto)]
+
 mod bracket;
 mod leaf;
 pub mod read;

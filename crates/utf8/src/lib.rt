@@ -1,4 +1,6 @@
 // UTF-8, by the Unicode Standard's table of well-formed byte sequences.
+#![tactic(auto)]
+
 ghost use Rattle.rules.specs.Rule.{◌then◌, many, Longest};
 ghost use Rattle.lexicon.specs.Found.{Finds};
 ghost use Rattle.lexicon.specs.Utf8 as Utf8;

@@ -1,4 +1,5 @@
 // What the value calls answer, as definitions, with the laws about them. No code.
+#![tactic(auto)]
 
 // The answer of the Integer call: number (0 accepted), place, count and value.
 #[derive(Drop)]
