@@ -42,6 +42,7 @@ number b h = eqb-true (get_or classes b 0) (class_of b) (and_left (eqb (get_or c
 
 bit_right : (ss : List Set) {s : Set} → Memᴰ s ss → (b x : ℕ) → bits_right ss b x ≡ true → bit_of s x ≡ bit (has (members s) b)
 unfolding bits_right
+bit_right [] m b x h = elim m [ ]
 bit_right (t ∷ ss) (here e) b x h =
     subst (λ (u : Set). bit_of u x ≡ bit (has (members u) b)) (sym e)
     (eqb-true (bit_of t x) (bit (has (members t) b)) (and_left (eqb (bit_of t x) (bit (has (members t) b))) (bits_right ss b x) h))

@@ -2,12 +2,8 @@
 -- Assumes nothing.
 use Rattle.rules.specs.Class.{has}
 use Rattle.text.proofs.Sets.{classes, number}
-use Rattle.text.proofs.class.classes.Statement.{statement}
-use Rattle.text.proofs.class.classes.Tie as tie
+use Rattle.text.proofs.class.classes.Goals as goal
 
-returns : tie.Need-returns
+pub returns : goal.returns
 unfolding classes has
 returns c = record { entry = number }
-
-pub classes-spec : {M : Type 1} → statement M
-classes-spec = tie.close (tie.spec returns)
