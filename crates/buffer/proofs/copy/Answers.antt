@@ -1,9 +1,5 @@
 -- `buffer::copy` meets its contract: the bytes before `i` are put. Assumes nothing.
 use native.Mathlib.Omega.{arith}
-use borrow.Author.Rules.{rules}
-use Prim.Native.Nat.{◌-◌, ◌≤◌}
-use lib.ListN.{length, take}
-use Rattle.buffer.specs.Puts.{Puts}
 use Rattle.buffer.proofs.Puts.{puts_none, puts_next, puts_all, puts_length}
 use Rattle.buffer.proofs.copy.Goals as goal
 

@@ -1,10 +1,7 @@
 -- `buffer::copy` meets its contract: the bytes before `i` are put. Assumes nothing.
-use native.Mathlib.Omega.{arith}
-use borrow.Author.Rules.{rules}
 use Prim.Native.Nat.{◌-◌, ◌≤◌}
 use lib.ListN.{length, take}
 use Rattle.buffer.specs.Puts.{Puts}
-use Rattle.buffer.proofs.Puts.{puts_none, puts_next, puts_all, puts_length}
 use Rattle.buffer.proofs.copy.Given as goal
 
 abbrev pub invariant-loop-i : goal.invariant-loop-i

@@ -1,6 +1,5 @@
 -- `buffer::put` meets its contract. Assumes nothing.
 use native.Mathlib.Omega.{arith}
-use borrow.Author.Rules.{rules}
 use Rattle.buffer.proofs.Puts.{puts_past, puts_one}
 use Rattle.buffer.proofs.put.Goals as goal
 
