@@ -2,7 +2,7 @@
 #![tactic(auto)]
 
 // The eight byte sets of the class table.
-#[derive(Drop)]
+#[derive(Clone, Copy)]
 pub enum Set {
     Binary,
     Octal,
@@ -15,35 +15,35 @@ pub enum Set {
 }
 
 // Where a rule's longest match ends, if it has one.
-#[derive(Drop)]
+#[derive(Clone, Copy)]
 pub enum Found {
     At(usize),
     Nothing,
 }
 
 // Where a literal ends, if one begins, and whether its value is bad.
-#[derive(Drop)]
+#[derive(Clone, Copy)]
 pub enum Literal {
     At { end: usize, bad: bool },
     Nothing,
 }
 
 // The answer of the UTF-8 test: refusal 3 has the place.
-#[derive(Drop)]
+#[derive(Clone, Copy)]
 pub enum Encoding {
     WellFormed,
     BadAt(usize),
 }
 
 // The same, and the steps that the test took up to its place.
-#[derive(Drop)]
+#[derive(Clone, Copy)]
 pub struct Tested {
     pub encoding: Encoding,
     pub steps: usize,
 }
 
 // The numeric bases of Integer, Fraction and code point literals.
-#[derive(Drop)]
+#[derive(Clone, Copy)]
 pub enum Base {
     Two,
     Eight,
@@ -52,7 +52,7 @@ pub enum Base {
 }
 
 // The sides of a sign with a star: nothing, `<` or `<=`.
-#[derive(Drop)]
+#[derive(Clone, Copy)]
 pub enum Bound {
     Open,
     Less,
@@ -60,7 +60,7 @@ pub enum Bound {
 }
 
 // The symbols.
-#[derive(Drop)]
+#[derive(Clone, Copy)]
 pub enum Sign {
     RoundOpen,
     RoundClose,
@@ -76,7 +76,7 @@ pub enum Sign {
 }
 
 // The thirteen head words.
-#[derive(Drop)]
+#[derive(Clone, Copy)]
 pub enum Head {
     Array,
     Set,
@@ -94,7 +94,7 @@ pub enum Head {
 }
 
 // How a Text is written: quoted, as a bare word that is or is not a head word, or as a code point.
-#[derive(Drop)]
+#[derive(Clone, Copy)]
 pub enum Form {
     Quoted,
     Word,
@@ -103,7 +103,7 @@ pub enum Form {
 }
 
 // The kinds of tokens, each with what the tree needs to know of it.
-#[derive(Drop)]
+#[derive(Clone, Copy)]
 pub enum Kind {
     Ignorance,
     Boolean(bool),
@@ -119,7 +119,7 @@ pub enum Kind {
 }
 
 // A token: its kind, its first byte, the byte after its last, and whether its value is bad (refusal 5).
-#[derive(Drop)]
+#[derive(Clone, Copy)]
 pub struct Token {
     pub kind: Kind,
     pub first: usize,
@@ -128,7 +128,7 @@ pub struct Token {
 }
 
 // What comes next in a text: a token, the end, or a byte at which no token starts (refusal 4).
-#[derive(Drop)]
+#[derive(Clone, Copy)]
 pub enum Next {
     Token(Token),
     End(usize),

@@ -4,7 +4,7 @@
 use lexicon::Head;
 
 // The forms that a level may have or lack.
-#[derive(Drop)]
+#[derive(Clone, Copy)]
 pub struct Forms {
     pub arrays: bool,
     pub sets: bool,
@@ -14,7 +14,7 @@ pub struct Forms {
 }
 
 // A node's role towards its parent.
-#[derive(Drop)]
+#[derive(Clone, Copy)]
 pub enum Role {
     Root,
     This,
@@ -29,7 +29,7 @@ pub enum Role {
 }
 
 // What a value is to a colon behind it: a bare head word, another name, or neither.
-#[derive(Drop)]
+#[derive(Clone, Copy)]
 pub enum Shape {
     Bare(Head),
     Name,
@@ -37,7 +37,7 @@ pub enum Shape {
 }
 
 // What curly brackets hold: the members of a Lot, or those of a counted collection.
-#[derive(Drop)]
+#[derive(Clone, Copy)]
 pub enum Style {
     Lot,
     Array,
@@ -46,7 +46,7 @@ pub enum Style {
 }
 
 // What was read between curly brackets: nothing, the leading comma, members with a comma behind each.
-#[derive(Drop)]
+#[derive(Clone, Copy)]
 pub enum Front {
     Start,
     Led,
@@ -54,7 +54,7 @@ pub enum Front {
 }
 
 // Behind `(`; behind a first value and `:` or an arrow; in a Tuple behind its leading comma, behind another comma, behind a name and `:`.
-#[derive(Drop)]
+#[derive(Clone, Copy)]
 pub enum RoundFrame {
     Opened,
     Colon { name: bool },
@@ -65,14 +65,14 @@ pub enum RoundFrame {
 }
 
 // Before a member; in a Lot behind a value and what joins it to the next.
-#[derive(Drop)]
+#[derive(Clone, Copy)]
 pub enum CurlyFrame {
     Members { style: Style, front: Front },
     Joined { leftward: bool },
 }
 
 // Behind `[`; behind the low bound and its sign; behind `*<` or `*<=`. The number is the Interval's detail.
-#[derive(Drop)]
+#[derive(Clone, Copy)]
 pub enum SquareFrame {
     Opened,
     Low(u32),
@@ -80,7 +80,7 @@ pub enum SquareFrame {
 }
 
 // Where in its bracket a value is wanted.
-#[derive(Drop)]
+#[derive(Clone, Copy)]
 pub enum Frame {
     Round(RoundFrame),
     Curly(CurlyFrame),
@@ -89,7 +89,7 @@ pub enum Frame {
 
 // What a reader inside a bracket expects: a value; what stands behind one; `{` behind a head; a count; what stands behind one; `}` behind
 // two commas; `)` behind a collection's `}`; `]` behind an Interval's bounds, with its detail.
-#[derive(Drop)]
+#[derive(Clone, Copy)]
 pub enum Mode {
     Want(Frame),
     Have { frame: Frame, shape: Shape },
@@ -102,7 +102,7 @@ pub enum Mode {
 }
 
 // What a token does. A role is that of the value before the token, if there is one.
-#[derive(Drop)]
+#[derive(Clone, Copy)]
 pub enum Move {
     // a value begins
     Value(Frame),

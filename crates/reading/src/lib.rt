@@ -4,7 +4,7 @@
 use grammar::NODE_WORDS;
 
 // The answer of a reading: its number (0 accepted), its place, and its count.
-#[derive(Drop)]
+#[derive(Clone, Copy)]
 pub struct Answer {
     pub number: u32,
     pub place: usize,
@@ -12,14 +12,14 @@ pub struct Answer {
 }
 
 // What a token is judged by: how many brackets may be open at once, and whether the backward arrow `<-` may be read.
-#[derive(Drop)]
+#[derive(Clone, Copy)]
 pub struct Limits {
     pub depth: usize,
     pub arrow: bool,
 }
 
 // What a text is judged by: how many bytes it may have, how many nodes a table may have, and what each token is judged by.
-#[derive(Drop)]
+#[derive(Clone, Copy)]
 pub struct Rules {
     pub text: usize,
     pub nodes: usize,

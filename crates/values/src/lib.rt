@@ -2,7 +2,7 @@
 #![tactic(auto)]
 
 // The answer of the Integer call: number (0 accepted), place, count and value.
-#[derive(Drop)]
+#[derive(Clone, Copy)]
 pub struct IntegerAnswer {
     pub number: u32,
     pub place: usize,
