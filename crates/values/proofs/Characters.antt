@@ -167,8 +167,8 @@ module _ (piece : List ℕ) where
       (encoded (read piece i n) ≡ read piece i n) × Scalars (read piece i n)
   ascii_same t zero e = (refl, tt)
   ascii_same (stop d) (suc n) e = absurd (omega (arith, d, e))
-  ascii_same (more {i = i} (byte a f) t) (suc n) e =
-      let x = ascii_same (starting f t) n (omega (arith, e)) in
+  ascii_same {i} (more (byte a f) t) (suc n) e =
+      let x = ascii_same {i = i + 1} (starting f t) n (omega (arith, e)) in
       let w = written_one (get_or piece i 0) (in_high 0x00 0x7F _ a.1) in
       (appends w.bytes_are x.0, (w.is_scalar_lem, x.1))
 

@@ -61,8 +61,8 @@ module _ (piece : List ℕ) where
       let y = segment_outside b.bad in
       let z = first_outside y.1 y.2 v in
       (_, next_segment s (starting (sym e) b.before) z.1, in_right_lem cs z.2)
-  further_outside {cs = cs} s (more (both p t) u) b v =
-      let z = further_outside (segment_of piece t).1 u b v in (_, next_segment s p z.1, in_right_lem cs z.2)
+  further_outside {i} {cs = cs} s (more (both {m = k} p t) u) b v =
+      let z = further_outside {i = k} (segment_of piece t).1 u b v in (_, next_segment s p z.1, in_right_lem cs z.2)
 
   pub short_of : {i j : ℕ} → BadQuoted piece i j → BadCharacter piece i j
   short_of (in_first b t) =

@@ -117,7 +117,7 @@ module _ (piece : List ℕ) where
 
   pub further_of : {i m j : ℕ} {cs : List ℕ} → Segment piece i m cs → Takes piece (many (opt sp then segment)) m j → (ds : List ℕ) × Quoted piece i j ds
   further_of {i} {cs = cs} s (stop e) = (cs, last_segment (subst (λ (x : ℕ). Segment piece i x cs) e s))
-  further_of s (more (both p t) u) = let x = further_of (segment_of t).1 u in (_, next_segment s p x.1)
+  further_of {i} s (more (both {m = k} p t) u) = let x = further_of {i = k} (segment_of t).1 u in (_, next_segment s p x.1)
 
   pub quoted_of : {i j : ℕ} → Takes piece quoted i j → (cs : List ℕ) × Quoted piece i j cs
   quoted_of (both t u) = further_of (segment_of t).1 u
@@ -140,10 +140,17 @@ module _ (piece : List ℕ) where
   escaped_takes done = stop refl
   escaped_takes (Values.next x r) = more (item_takes x) (escaped_takes r)
 
+  plain_item : {i j c : ℕ} → Plain piece i j c → Takes piece restricted i j
+  plain_item (Plain.itself t) = t
+
+  first_takes : {i m j : ℕ} → (In backslash (get_or piece i 0) → ⊥) → Takes piece restricted i m → Takes piece (many restricted) m j →
+      Takes piece (opt (unescaped then many restricted)) i j
+  first_takes n (left t) u = left (both t u)
+  first_takes n (right (byte b e)) u = absurd (n b.1)
+
   pub segment_takes : {i j : ℕ} {cs : List ℕ} → Segment piece i j cs → Takes piece segment i j
   segment_takes (Segment.plain a n done z) = both a (both (left (right (nothing refl))) z)
-  segment_takes (Segment.plain a n (Values.next (Plain.itself (left t)) r) z) = both a (both (left (left (both t (plain_takes r)))) z)
-  segment_takes (Segment.plain a n (Values.next (Plain.itself (right (byte b e))) r) z) = absurd (n b.1)
+  segment_takes (Segment.plain a n (Values.next x r) z) = both a (both (left (first_takes n (plain_item x) (plain_takes r))) z)
   segment_takes (Segment.escaped (both a b) r z) = both a (both (right (both b (escaped_takes r))) z)
 
   further_takes : {i k j : ℕ} {cs : List ℕ} → Takes piece (opt sp) i k → Quoted piece k j cs → Takes piece (many (opt sp then segment)) i j
