@@ -111,6 +111,9 @@ mutual
       (both (value_grown v Nodes.low) (both (value_grown w Nodes.high) refl))
   bounds_grown (Tree.from v a k) o c r =
       ap (λ (x : Branches). branch Nodes.anInterval nowhere r (Nodes.bounds_detail (Tree.from (turn v) a k)) x) (both (value_grown v Nodes.low) refl)
-  bounds_grown (Tree.up_to a k v) o c r =
-      ap (λ (x : Branches). branch Nodes.anInterval nowhere r (Nodes.bounds_detail (Tree.up_to a k (turn v))) x) (both (value_grown v Nodes.high) refl)
+  bounds_grown (Tree.up_to Tree.less k v) o c r =
+      ap (λ (x : Branches). branch Nodes.anInterval nowhere r (Nodes.bounds_detail (Tree.up_to Tree.less k (turn v))) x) (both (value_grown v Nodes.high) refl)
+  bounds_grown (Tree.up_to Tree.less_equal k v) o c r =
+      ap (λ (x : Branches). branch Nodes.anInterval nowhere r (Nodes.bounds_detail (Tree.up_to Tree.less_equal k (turn v))) x)
+      (both (value_grown v Nodes.high) refl)
   bounds_grown (Tree.all k) o c r = refl

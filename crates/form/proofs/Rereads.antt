@@ -57,9 +57,9 @@ toks_side p (w ∷ ws) q e = (refl, toks_side (p + length w.bytes) ws q (omega (
 -- ---- the plain form
 
 -- forms other than `<-` may be read in any case
-readable_too : (b : Bool) {l m : Level} → arrowless l Within m → arrowless l Within readable b m
-readable_too true w-in = w-in
-readable_too false {l} {m} w-in = record { has_too = too }
+readable_too : (b : Bool) (l m : Level) → arrowless l Within m → arrowless l Within readable b m
+readable_too true l m w-in = w-in
+readable_too false l m w-in = record { has_too = too }
   where
     too : (f : Feature) → arrowless l f ≡ true → arrowless m f ≡ true
     too arrays e = w-in.has_too arrays e
@@ -155,7 +155,7 @@ module _ (limits : Limits) (l : Level) (text : List ℕ) (v : Value) (a : Accept
   -- by limits that allow the same depth, and at a level with the same forms, the arrow aside
   pub reread_at : (other : Limits) → limits.depth ≤ other.depth → (m : Level) → arrowless l Within m → Reread other text m v
   reread_at other depth m w-in =
-      derived_reread limits other l m text v (accepted_derived limits text a) depth (readable_too other.arrow w-in)
+      derived_reread limits other l m text v (accepted_derived limits text a) depth (readable_too other.arrow l m w-in)
 
   -- by the same limits and at the same level
   pub reread : Reread limits text l v

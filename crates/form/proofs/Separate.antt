@@ -199,9 +199,9 @@ all_at c [] x e h = absurd (omega (arith, h))
 all_at c (b ∷ bs) zero e h = and_left (has c b) _ e
 all_at c (b ∷ bs) (suc x) e h = all_at c bs x (and_right (has c b) _ e) (omega (arith, h))
 
-pub run_at : {c : Class} {text : List ℕ} {i n : ℕ} → Takes text (many (one c)) i n → (x : ℕ) → i ≤ x → x < n → At text c x
+pub run_at : {text : List ℕ} {c : Class} {i n : ℕ} → Takes text (many (one c)) i n → (x : ℕ) → i ≤ x → x < n → At text c x
 run_at (stop e) x h k = absurd (omega (arith, e, h, k))
-run_at {c} {text} {i} {n} (more (byte a e) u) x h k = go (dec_le (i + 1) x) (λ q. run_at u x (omega (arith, q, e)) k)
+run_at {text} {c} {i} {n} (more (byte a e) u) x h k = go (dec_le (i + 1) x) (λ q. run_at u x (omega (arith, q, e)) k)
   where
     go : Dec (i + 1 ≤ x) → (i + 1 ≤ x → At text c x) → At text c x
     go (yes q) f = f q

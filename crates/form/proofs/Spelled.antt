@@ -51,7 +51,7 @@ pub text_next : (x : Wording) (bs : List ℕ) {r : List Spelt} → Rest r → Go
 text_next x bs nil = good refl refl
 text_next x bs (cons {w} e n) = good refl (and_both (closing w.class) _ e n)
 
--- one that anything may follow, and one that any value may follow
+-- one that anything may follow, and one that any value may follow: neighbours are judged by their classes, so that no goal tells the bytes
 pub free_next : (c : Class) (bs : List ℕ) → ((d : Class) → allowed c d ≡ true) → (s : List Spelt) → neighbours s ≡ true → neighbours (put c bs s) ≡ true
 free_next c bs f [] n = refl
 free_next c bs f (w ∷ ws) n = and_both (allowed c w.class) _ (f w.class) n
@@ -63,7 +63,7 @@ pub bracket : (c : Class) (bs : List ℕ) → starter c ≡ true → ((d : Class
 bracket c bs e f s n = good e (free_next c bs f s n)
 
 pub colon_rest : {s : List Spelt} → Good s → Rest (sign Tokens.colon s)
-colon_rest g = cons refl (lead_next (mark Tokens.colon) _ ok g)
+colon_rest g = cons refl (lead_next (mark Tokens.colon) [] ok g)
   where
     ok : (d : Class) → starter d ≡ true → allowed (mark Tokens.colon) d ≡ true
     ok (atom a) e = refl
@@ -76,31 +76,31 @@ colon_rest g = cons refl (lead_next (mark Tokens.colon) _ ok g)
     ok later e = absurd (false≢true e)
 
 pub comma_rest : (s : List Spelt) → neighbours s ≡ true → Rest (comma s)
-comma_rest s n = cons refl (free_next (mark Tokens.comma) _ (λ d. refl) s n)
+comma_rest s n = cons refl (free_next (mark Tokens.comma) [] (λ d. refl) s n)
 
 pub close_round_lem : (s : List Spelt) → neighbours s ≡ true → Rest (sign Tokens.roundClose s)
-close_round_lem s n = cons refl (free_next (mark Tokens.roundClose) _ (λ d. refl) s n)
+close_round_lem s n = cons refl (free_next (mark Tokens.roundClose) [] (λ d. refl) s n)
 
 pub close_curly_lem : (s : List Spelt) → neighbours s ≡ true → Rest (sign Tokens.curlyClose s)
-close_curly_lem s n = cons refl (free_next (mark Tokens.curlyClose) _ (λ d. refl) s n)
+close_curly_lem s n = cons refl (free_next (mark Tokens.curlyClose) [] (λ d. refl) s n)
 
 pub close_square_lem : (s : List Spelt) → neighbours s ≡ true → Rest (sign Tokens.squareClose s)
-close_square_lem s n = cons refl (free_next (mark Tokens.squareClose) _ (λ d. refl) s n)
+close_square_lem s n = cons refl (free_next (mark Tokens.squareClose) [] (λ d. refl) s n)
 
 pub between_rest : (b : Between) {s : List Spelt} → Good s → Rest (sign (between_mark b) s)
-between_rest Tree.two_dots {s} g = cons refl (free_next (mark Tokens.dots) _ (λ d. refl) s (good_fine g))
-between_rest (Tree.star_sign Tree.less Tree.less) {s} g = cons refl (free_next (mark (Tokens.star Less Less)) _ (λ d. refl) s (good_fine g))
-between_rest (Tree.star_sign Tree.less Tree.less_equal) {s} g = cons refl (free_next (mark (Tokens.star Less LessEqual)) _ (λ d. refl) s (good_fine g))
-between_rest (Tree.star_sign Tree.less_equal Tree.less) {s} g = cons refl (free_next (mark (Tokens.star LessEqual Less)) _ (λ d. refl) s (good_fine g))
-between_rest (Tree.star_sign Tree.less_equal Tree.less_equal) {s} g = cons refl (free_next (mark (Tokens.star LessEqual LessEqual)) _ (λ d. refl) s (good_fine g))
+between_rest Tree.two_dots {s} g = cons refl (free_next (mark Tokens.dots) [] (λ d. refl) s (good_fine g))
+between_rest (Tree.star_sign Tree.less Tree.less) {s} g = cons refl (free_next (mark (Tokens.star Less Less)) [] (λ d. refl) s (good_fine g))
+between_rest (Tree.star_sign Tree.less Tree.less_equal) {s} g = cons refl (free_next (mark (Tokens.star Less LessEqual)) [] (λ d. refl) s (good_fine g))
+between_rest (Tree.star_sign Tree.less_equal Tree.less) {s} g = cons refl (free_next (mark (Tokens.star LessEqual Less)) [] (λ d. refl) s (good_fine g))
+between_rest (Tree.star_sign Tree.less_equal Tree.less_equal) {s} g = cons refl (free_next (mark (Tokens.star LessEqual LessEqual)) [] (λ d. refl) s (good_fine g))
 
 pub from_rest : (a : Side) (s : List Spelt) → neighbours s ≡ true → Rest (sign (Tokens.star (side_bound a) Open) (sign Tokens.squareClose s))
 from_rest Tree.less s n = cons refl (rest_fine (close_square_lem s n))
 from_rest Tree.less_equal s n = cons refl (rest_fine (close_square_lem s n))
 
 pub upto_fine : (a : Side) {s : List Spelt} → Good s → neighbours (sign (Tokens.star Open (side_bound a)) s) ≡ true
-upto_fine Tree.less {s} g = free_next (mark (Tokens.star Open Less)) _ (λ d. refl) s (good_fine g)
-upto_fine Tree.less_equal {s} g = free_next (mark (Tokens.star Open LessEqual)) _ (λ d. refl) s (good_fine g)
+upto_fine Tree.less {s} g = free_next (mark (Tokens.star Open Less)) [] (λ d. refl) s (good_fine g)
+upto_fine Tree.less_equal {s} g = free_next (mark (Tokens.star Open LessEqual)) [] (λ d. refl) s (good_fine g)
 
 -- this, `:`, that
 joined_good : (f g : List Spelt → List Spelt) → ((r : List Spelt) → Rest r → Good (f r)) → ((r : List Spelt) → Rest r → Good (g r)) → (r : List Spelt) →
@@ -130,10 +130,10 @@ module _ (bytes : List ℕ) where
 
   -- `::` and a Text
   name_good : (w : Wording) (t : Span) (r : List Spelt) → Rest r → Good (put names (codes "::") (spell_wording bytes w t r))
-  name_good (spelled quoted) t r h = good refl (good_fine (text_next (spelled quoted) _ h))
-  name_good (spelled word) t r h = good refl (good_fine (text_next (spelled word) _ h))
-  name_good (spelled code_point_of) t r h = good refl (good_fine (text_next (spelled code_point_of) _ h))
-  name_good (Tokens.head_word x) t r h = good refl (good_fine (text_next (spelled quoted) _ h))
+  name_good (spelled quoted) t r h = good refl (good_fine (text_next (spelled quoted) [] h))
+  name_good (spelled word) t r h = good refl (good_fine (text_next (spelled word) [] h))
+  name_good (spelled code_point_of) t r h = good refl (good_fine (text_next (spelled code_point_of) [] h))
+  name_good (Tokens.head_word x) t r h = good refl (good_fine (text_next (spelled quoted) [] h))
 
   name_rest : (ws : List Spelt) → Good (put names (codes "::") ws) → Rest (put names (codes "::") ws)
   name_rest ws (good e n) = cons refl n

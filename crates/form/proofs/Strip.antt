@@ -151,21 +151,27 @@ module _ (kept : Class) (inky : (b : ℕ) → In kept b → Inked b) where
   unit_ink zero c e no_byte = Every.none
   unit_ink (suc n) c e (joined (one_byte {b = x} i) m) = also (inky x (e.into x i)) (unit_ink n c e m)
 
+  many_ink : {r : Rule} {a : List ℕ} → ((a : List ℕ) → Matches r a → Every Inked a) → Matches (many r) a → Every Inked a
+  many_ink h no_more = Every.none
+  many_ink h (one_more {a = a} m k) = every_append (h a m) (many_ink h k)
+
   run_ink : (n : ℕ) (c : Class) {a : List ℕ} → Sub c kept → Matches (many (unit n c)) a → Every Inked a
-  run_ink n c e no_more = Every.none
-  run_ink n c e (one_more m k) = every_append (unit_ink n c e m) (run_ink n c e k)
+  run_ink n c e m = many_ink (λ a k. unit_ink n c e k) m
 
   many_join : {r : Rule} {a b : List ℕ} → Matches (many r) a → Matches (many r) b → Matches (many r) (a ++ b)
   many_join no_more m = m
   many_join {r} {b = d} (one_more {a = a} {b = c} x m) n = subst (Matches (many r)) (sym (append_assoc a c d)) (one_more x (many_join m n))
 
+  rows_strip : {r s : Rule} {a : List ℕ} → ((a : List ℕ) → Matches r a → Stripped (many s) a) → Matches (many r) a → Stripped (many s) a
+  rows_strip h no_more = gone [] no_more (λ b. refl)
+  rows_strip h (one_more {a = a} {b = b} m k) = two a b (λ p q. many_join p q) (h a m) (rows_strip h k)
+
   -- further groups lose their joints
   further : (n : ℕ) (c : Class) {a : List ℕ} → Sub c kept → Matches (many (joint then plus (unit n c))) a → Stripped (many (unit n c)) a
-  further n c e no_more = gone [] no_more (λ b. refl)
-  further n c e (one_more (joined {a = j} x (joined {a = u} {b = us} y ys)) m) = two (j ++ (u ++ us)) _ (λ p q. many_join p q) first (further n c e m)
+  further n c e m = rows_strip (λ a k. one_further k) m
     where
-      first : Stripped (many (unit n c)) (j ++ (u ++ us))
-      first =
+      one_further : {a : List ℕ} → Matches (joint then plus (unit n c)) a → Stripped (many (unit n c)) a
+      one_further (joined {a = j} x (joined {a = u} {b = us} y ys)) =
           two j (u ++ us) (λ p q. many_join p q) (gone j no_more (λ b. joint_gone b x))
           (stay (u ++ us) (one_more y ys) (λ b. ink_run b (every_append (unit_ink n c e y) (run_ink n c e ys))))
 

@@ -15,8 +15,8 @@ use Rattle.form.proofs.Spelled.{Rest, nil, cons, Good, good, rest_fine, good_fin
 use Rattle.form.proofs.Samples.{samples}
 
 arrow_rest : (a : Arrow) {s : List Spelt} → Good s → Rest (sign (arrow_mark a) s)
-arrow_rest rightward {s} g = cons refl (free_next (mark Tokens.rightArrow) _ (λ d. refl) s (good_fine g))
-arrow_rest leftward {s} g = cons refl (free_next (mark Tokens.leftArrow) _ (λ d. refl) s (good_fine g))
+arrow_rest rightward {s} g = cons refl (free_next (mark Tokens.rightArrow) [] (λ d. refl) s (good_fine g))
+arrow_rest leftward {s} g = cons refl (free_next (mark Tokens.leftArrow) [] (λ d. refl) s (good_fine g))
 
 joiner_rest : (j : Joiner) {s : List Spelt} → Good s → Rest (sign (joiner_mark j) s)
 joiner_rest Tree.colon g = colon_rest g
@@ -26,8 +26,8 @@ name_rest : (ws : List Spelt) → Good (put names (codes "::") ws) → Rest (put
 name_rest ws (good e n) = cons refl n
 
 names_good : (n : Names) (r : List Tok) → Rest (samples r) → Good (samples (yield_names n r))
-names_good (one_name s w t) r h = good refl (good_fine (text_next w _ h))
-names_good (more_names n s w t) r h = names_good n _ (name_rest _ (good refl (good_fine (text_next w _ h))))
+names_good (one_name s w t) r h = good refl (good_fine (text_next w [] h))
+names_good (more_names n s w t) r h = names_good n _ (name_rest _ (good refl (good_fine (text_next w [] h))))
 
 plain_name_good : (n : PlainName) (r : List Tok) → Rest (samples r) → Good (samples (yield_plain_name n r))
 plain_name_good (text_name w s) r h = text_next (spelled w) _ h
