@@ -30,7 +30,7 @@ pub record Answered (rules : Rules) (bytes lent : List ℕ) (number : ℕ) (r : 
   -- 'and the lent table is then unchanged'
   pub unchanged : (r.number ≡ 0 → ⊥) → left ≡ lent
 
--- `every-answer`, for any rules. That no call relies on its caller is that no public function has a `requires`.
+-- `every_answer`, for any rules. That no call relies on its caller is that no public function has a `requires`.
 abbrev pub Demand1 : Type 0
 Demand1 =
     (rules : Rules) (bytes lent : List ℕ) (number : ℕ) →
@@ -73,7 +73,7 @@ pub record Derives (rules : Rules) (bytes lent : List ℕ) (number : ℕ) (r : A
   -- what the value calls answer for the bytes of an Integer, Text, Bits or Blob node of an accepted text
   pub values : (v : Value) → Acceptable rules bytes lent number v → Pieces rules bytes v
 
--- `every-decision`
+-- `every_decision`
 abbrev pub Demand2 : Type 0
 Demand2 =
     (rules : Rules) (bytes lent : List ℕ) (number : ℕ) (r : Answer) (left : List ℕ) →
@@ -85,7 +85,7 @@ Demand2 =
 -- byte of the first construct beyond level 1 at a place for a value. Level 2 then accepts the text, or its refusal
 -- stands there or later.'
 
--- `old-and-new`: `Agree` has the last three sentences above as its three fields
+-- `old_and_new`: `Agree` has the last three sentences above as its three fields
 abbrev pub Demand3 : Type 0
 Demand3 =
     (rules : Rules) (bytes lent : List ℕ) (old new : Answer) (oldLeft newLeft : List ℕ) →
@@ -93,7 +93,7 @@ Demand3 =
     Agree level1 bytes old oldLeft new newLeft
 
 -- ---- all three, of one text read at level 1 into the table `first` and at level 2 into the table `second`:
--- `all-demands`
+-- `all_demands`
 
 pub record Demands (rules : Rules) (bytes first second : List ℕ) (old : Answer) (oldLeft : List ℕ) (new : Answer)
     (newLeft : List ℕ) : Type 0 where

@@ -60,14 +60,14 @@ use Rattle.layout.specs.Kept.{Kept, SameWords}
 -- also hands back the steps taken up to its place: for n bytes, all plain ASCII, n / 8 rounded down plus the remainder.
 -- No answer and no place changes.'
 
--- the test has an answer for every text, and no other: `one-test`
+-- the test has an answer for every text, and no other: `one_test`
 abbrev pub OneTest : Type 0
 OneTest =
     (text : List ℕ) →
     (number : ℕ) × (place : ℕ) × (steps : ℕ) × Utf8Answers text number place steps ×
     ((m p s : ℕ) → Utf8Answers text m p s → (m ≡ number) × (p ≡ place) × (s ≡ steps))
 
--- 'for n bytes, all plain ASCII, n / 8 rounded down plus the remainder': `plain-steps`
+-- 'for n bytes, all plain ASCII, n / 8 rounded down plus the remainder': `plain_steps`
 abbrev pub PlainSteps : Type 0
 PlainSteps =
     (text : List ℕ) → Every (λ (b : ℕ). b < 0x80) text →
@@ -80,7 +80,7 @@ SameRefusal text Before n p =
     (number place steps : ℕ) → Utf8Answers text number place steps →
     (n ≡ 3 → (number ≡ 3) × (place ≡ p)) × (number ≡ 3 → Before ⊎ ((n ≡ 3) × (p ≡ place)))
 
--- of the reader, which tests 1 and 2 before, and of the value calls, which test 2: `same-refusals`
+-- of the reader, which tests 1 and 2 before, and of the value calls, which test 2: `same_refusals`
 abbrev pub SameRefusals : Type 1
 SameRefusals =
     (rules : Rules) (text lent : List ℕ) →
@@ -102,7 +102,7 @@ Padding =
     ((ds : List ℕ) → Behind text "0xy" 4 base64 i j ds → BadBase64 ds → Bad text Blob i j)
 
 -- 'is now 5 at the literal's first byte, at both levels alike': of a text that is a Blob and nothing else the reader
--- answers 5 at 0 just when the Blob call does: `one-five`
+-- answers 5 at 0 just when the Blob call does: `one_five`
 abbrev pub OneFive : Type 0
 OneFive =
     (rules : Rules) (text table buffer : List ℕ) (level : ℕ) (l : Level) (r c : Answer) (left kept : List ℕ) →
@@ -110,7 +110,7 @@ OneFive =
     BlobAnswers rules text buffer c kept →
     (r.number ≡ 5 → c ≡ answer 5 0 0) × (c.number ≡ 5 → r ≡ answer 5 0 0)
 
--- and where the reader's 5 stands at a Blob inside a text, the call answers 5 for that Blob: `five-inside`. That it
+-- and where the reader's 5 stands at a Blob inside a text, the call answers 5 for that Blob: `five_inside`. That it
 -- never does for a Blob of an accepted text is said of all its nodes (Pieces.antt: `NodePiece`, `blob`)
 abbrev pub FiveInside : Type 0
 FiveInside =
@@ -122,20 +122,20 @@ FiveInside =
 -- both the writer and the checker. … It accepts exactly what the writer would produce.' By request 6 the checker reads
 -- by the old rules: by the writer's own, but that the backward arrow may be read (`with_arrow`)
 
--- the writer has an answer for every text and buffer, and no other: `one-write`
+-- the writer has an answer for every text and buffer, and no other: `one_write`
 abbrev pub OneWrite : Type 0
 OneWrite =
     (rules : Rules) (text lent : List ℕ) →
     (r : Answer) × (left : List ℕ) × Writes rules text lent r left ×
     ((s : Answer) (u : List ℕ) → Writes rules text lent s u → (r ≡ s) × (left ≡ u))
 
--- and so has the checker for every text and file: `one-check`
+-- and so has the checker for every text and file: `one_check`
 abbrev pub OneCheck : Type 0
 OneCheck =
     (rules : Rules) (text bytes : List ℕ) →
     (r : Answer) × Checks rules text bytes r × ((s : Answer) → Checks rules text bytes s → r ≡ s)
 
--- 'in this order': under 12 and 13 the text is not looked at: `text-unseen`
+-- 'in this order': under 12 and 13 the text is not looked at: `text_unseen`
 abbrev pub TextUnseen : Type 0
 TextUnseen =
     (rules : Rules) (text other bytes : List ℕ) (r : Answer) → Checks rules text bytes r →
@@ -148,34 +148,34 @@ Produces rules text bytes =
     (lent : List ℕ) → length bytes ≤ length lent →
     Writes rules text lent (answer 0 (length text) (length bytes)) (bytes ++ drop (length bytes) lent)
 
--- 'It accepts exactly what the writer would produce': `accepts-exactly`
+-- 'It accepts exactly what the writer would produce': `accepts_exactly`
 abbrev pub AcceptsExactly : Type 0
 AcceptsExactly =
     (rules : Rules) (text bytes : List ℕ) (r : Answer) → Checks rules text bytes r →
     (r.number ≡ 0 → Produces rules text bytes) × (Produces rules text bytes → r.number ≡ 0)
 
 -- so what a call of the writer has written is accepted, with the writer's own answer, also where the checker may read
--- the arrow and the writer may not: `written-accepted`
+-- the arrow and the writer may not: `written_accepted`
 abbrev pub WrittenAccepted : Type 0
 WrittenAccepted =
     (rules : Rules) (text lent : List ℕ) (r : Answer) (left : List ℕ) → Writes rules text lent r left →
     r.number ≡ 0 → Checks (with_arrow rules) text (take r.count left) r
 
 -- and into a buffer with room for the file of the largest table every file fits: an 8 is then the reader's own:
--- `room-enough`
+-- `room_enough`
 abbrev pub RoomEnough : Type 0
 RoomEnough =
     (rules : Rules) (text lent : List ℕ) (r : Answer) (left : List ℕ) → 9 + 12 * rules.nodes ≤ length lent →
     Writes rules text lent r left → r.number ≡ 8 → Read rules text r none
 
--- and of one text no two files are accepted: `one-file`
+-- and of one text no two files are accepted: `one_file`
 abbrev pub OneFile : Type 0
 OneFile =
     (rules : Rules) (text a b : List ℕ) (r s : Answer) → Checks rules text a r → Checks rules text b s →
     r.number ≡ 0 → s.number ≡ 0 → a ≡ b
 
 -- 'every number 16 bits': where the sizes of text and table are below 2 ^ 16, as 01's 32,768 bytes and 1,024 nodes are,
--- so is every number that is stored, and none is cut to fit its two bytes: `sixteen-bits`
+-- so is every number that is stored, and none is cut to fit its two bytes: `sixteen_bits`
 abbrev pub SixteenBits : Type 0
 SixteenBits =
     (rules : Rules) (text : List ℕ) (a : Answer) (v : Value) → rules.text < 2 ^ 16 → rules.nodes < 2 ^ 16 →
@@ -213,14 +213,14 @@ AsRead =
 -- and parent indices that follow from it), roles 2 and 3 taken as one, and a Text's detail. Writing that again gives
 -- the same bytes.'
 
--- judging a text with its table has an answer, and no other: `one-judgement`
+-- judging a text with its table has an answer, and no other: `one_judgement`
 abbrev pub OneJudgement : Type 0
 OneJudgement =
     (rules : Rules) (text words : List ℕ) (level : ℕ) →
     (r : Answer) × Judges rules text words level r × ((s : Answer) → Judges rules text words level s → r ≡ s)
 
 -- 'a table whose first words aren't what the reading writes is 14': it is 14 just where a reading into the table would
--- change it, and else the reading's answer: `changed-table`
+-- change it, and else the reading's answer: `changed_table`
 abbrev pub ChangedTable : Type 0
 ChangedTable =
     (rules : Rules) (text words left : List ℕ) (level : ℕ) (a r : Answer) → Answers rules text words level a left →
@@ -239,7 +239,7 @@ NothingWritten =
     (rules : Rules) (text words lent left : List ℕ) (level : ℕ) (r : Answer) →
     Plain.Writes rules text words lent level r left → (r.number ≡ 0 → ⊥) → left ≡ lent
 
--- into a buffer of twice the text's bytes every plain form fits: an 8 is then the reader's own: `plain-room`
+-- into a buffer of twice the text's bytes every plain form fits: an 8 is then the reader's own: `plain_room`
 abbrev pub PlainRoom : Type 0
 PlainRoom =
     (rules : Rules) (text words lent left : List ℕ) (level : ℕ) (r : Answer) → 2 * length text ≤ length lent →
@@ -264,7 +264,7 @@ pub record ReadsBack (rules : Rules) (text words : List ℕ) (level : ℕ) (out 
       length out ≤ length lent →
       Plain.Writes rules out shows lent level (answer 0 (length out) (length out)) (out ++ drop (length out) lent)
 
--- 'Where the output keeps the text size', of what a call has written: `reads-back`
+-- 'Where the output keeps the text size', of what a call has written: `reads_back`
 abbrev pub WrittenReadsBack : Type 0
 WrittenReadsBack =
     (rules : Rules) (text words lent left : List ℕ) (level : ℕ) (r : Answer) →
@@ -284,7 +284,7 @@ EndAlike a b = (a.number ≡ b.number) × (a.count ≡ b.count)
 
 -- what the output is to another reader: a reading of the text and one of what a call has written, with room for equally
 -- many nodes, end alike at every level, whichever the call's. So an old reader takes the output just when it takes the
--- text, with as many nodes, and answers 'newer form' for the one just when it does for the other: `ends-alike`
+-- text, with as many nodes, and answers 'newer form' for the one just when it does for the other: `ends_alike`
 abbrev pub EndsAlike : Type 0
 EndsAlike =
     (rules : Rules) (text words lent left : List ℕ) (level other space : ℕ) (r a b : Answer) (t u : Option Value) →
@@ -307,25 +307,25 @@ EveryRowSpelled = (l : Level) (v : Value) → keeps l v ≡ true → Spellable l
 -- new is stored with an arrow.' The three demands are said for any rules: `both::read_both` has them by today's, and
 -- `both::read_both_old` by the old ones. Request 4's `AcceptsExactly`, too, is said for any
 
--- what changed for a text, and that nothing else did: `arrow-retired`
+-- what changed for a text, and that nothing else did: `arrow_retired`
 abbrev pub ArrowRetired : Type 0
 ArrowRetired =
     (rules : Rules) (bytes lent : List ℕ) (number : ℕ) (old new : Answer) (oldLeft newLeft : List ℕ) →
     Answers (with_arrow rules) bytes lent number old oldLeft → Answers rules bytes lent number new newLeft →
     Retirement rules bytes number old oldLeft new newLeft
 
--- for a text without the arrow nothing did: `nothing-changed`
+-- for a text without the arrow nothing did: `nothing_changed`
 abbrev pub NothingChanged : Type 0
 NothingChanged =
     (rules : Rules) (bytes lent : List ℕ) (number : ℕ) (old new : Answer) (oldLeft newLeft : List ℕ) →
     NoArrows bytes → Answers (with_arrow rules) bytes lent number old oldLeft →
     Answers rules bytes lent number new newLeft → (old ≡ new) × (oldLeft ≡ newLeft)
 
--- and such is every text without these two bytes side by side: `no-such-bytes`
+-- and such is every text without these two bytes side by side: `no_such_bytes`
 abbrev pub NoSuchBytes : Type 0
 NoSuchBytes = (bytes : List ℕ) → ((i : ℕ) → between bytes i (i + 2) ≡ codes "<-" → ⊥) → NoArrows bytes
 
--- 'the old rules' are 01's, 'At one token: 4, 6, 7, 5, 11', as if there were no 15: `old-order`
+-- 'the old rules' are 01's, 'At one token: 4, 6, 7, 5, 11', as if there were no 15: `old_order`
 abbrev pub OldOrder : Type 0
 OldOrder =
     (limits : Limits) (l : Level) (bytes : List ℕ) (ts : List Tok) (t : Token.Token) (n : ℕ) →
@@ -338,13 +338,13 @@ OldOrder =
     ∷ []) n
 
 -- 'demand 2 no longer counts the arrow among the forms': where it is retired, no accepted text has one (the derivation
--- has none by `Derived`, which is the demand's): `none-accepted`
+-- has none by `Derived`, which is the demand's): `none_accepted`
 abbrev pub NoneAccepted : Type 0
 NoneAccepted =
     (rules : Rules) (bytes lent left : List ℕ) (number : ℕ) (r : Answer) → rules.limits.arrow ≡ false →
     Answers rules bytes lent number r left → r.number ≡ 0 → NoArrows bytes
 
--- 'role 3 no longer arises': no node of the table has it: `no-role-3`
+-- 'role 3 no longer arises': no node of the table has it: `no_role_3`
 abbrev pub NoRole3 : Type 0
 NoRole3 =
     (rules : Rules) (bytes lent left : List ℕ) (number i : ℕ) (r : Answer) → rules.limits.arrow ≡ false →
@@ -357,45 +357,45 @@ InOrder =
     (rules : Rules) (text words : List ℕ) (level : ℕ) (out : List ℕ) → rules.limits.arrow ≡ false →
     (x : ReadsBack rules text words level out) → map unspelled (table x.other) ≡ map unspelled (table x.tree)
 
--- 'Nothing new is stored with an arrow': `nothing-new`
+-- 'Nothing new is stored with an arrow': `nothing_new`
 abbrev pub NothingNew : Type 0
 NothingNew =
     (rules : Rules) (text lent left : List ℕ) (r : Answer) → rules.limits.arrow ≡ false →
     Writes rules text lent r left → r.number ≡ 0 → NoArrows text
 
--- and for a text without an arrow the checker accepts exactly what the writer gives today: `stored-alike`
+-- and for a text without an arrow the checker accepts exactly what the writer gives today: `stored_alike`
 abbrev pub StoredAlike : Type 0
 StoredAlike =
     (rules : Rules) (text bytes : List ℕ) (r : Answer) → NoArrows text → Checks (with_arrow rules) text bytes r →
     (r.number ≡ 0 → Produces rules text bytes) × (Produces rules text bytes → r.number ≡ 0)
 
--- the converter has an answer for every level number, text and buffer, and no other: `one-conversion`
+-- the converter has an answer for every level number, text and buffer, and no other: `one_conversion`
 abbrev pub OneConversion : Type 0
 OneConversion =
     (rules : Rules) (text lent : List ℕ) (level : ℕ) →
     (r : Answer) × (left : List ℕ) × Plain.Converts rules text lent level r left ×
     ((s : Answer) (u : List ℕ) → Plain.Converts rules text lent level s u → (r ≡ s) × (left ≡ u))
 
--- 'without 14', and by the old rules without 15: `neither-number`
+-- 'without 14', and by the old rules without 15: `neither_number`
 abbrev pub NeitherNumber : Type 0
 NeitherNumber =
     (rules : Rules) (text lent left : List ℕ) (level : ℕ) (r : Answer) →
     Plain.Converts (with_arrow rules) text lent level r left → (r.number ≡ 14 → ⊥) × (r.number ≡ 15 → ⊥)
 
--- a refusal writes nothing: `nothing-converted`
+-- a refusal writes nothing: `nothing_converted`
 abbrev pub NothingConverted : Type 0
 NothingConverted =
     (rules : Rules) (text lent left : List ℕ) (level : ℕ) (r : Answer) →
     Plain.Converts rules text lent level r left → (r.number ≡ 0 → ⊥) → left ≡ lent
 
--- into a buffer of twice the text's bytes every conversion fits: an 8 is then the reader's own: `converted-room`
+-- into a buffer of twice the text's bytes every conversion fits: an 8 is then the reader's own: `converted_room`
 abbrev pub ConvertedRoom : Type 0
 ConvertedRoom =
     (rules : Rules) (text lent left : List ℕ) (level : ℕ) (r : Answer) → 2 * length text ≤ length lent →
     Plain.Converts rules text lent level r left → r.number ≡ 8 → Reading rules text rules.nodes level r none
 
 -- what was converted is accepted by today's rules, where it keeps the text size, with the same nodes but for what
--- request 5 excepts, and converted again it is the same bytes: `converted-back`
+-- request 5 excepts, and converted again it is the same bytes: `converted_back`
 abbrev pub ConvertedReadsBack : Type 0
 ConvertedReadsBack =
     (rules : Rules) (text lent left : List ℕ) (level : ℕ) (r : Answer) →
@@ -403,7 +403,7 @@ ConvertedReadsBack =
     Converted (with_arrow rules) rules text level (take r.count left)
 
 -- and at every level, whichever the call's, today's reading of it ends like the old reading of the text:
--- `converted-alike`
+-- `converted_alike`
 abbrev pub ConvertedAlike : Type 0
 ConvertedAlike =
     (rules : Rules) (text lent left : List ℕ) (level other space : ℕ) (r a b : Answer) (t u : Option Value) →
@@ -411,7 +411,7 @@ ConvertedAlike =
     Reading (with_arrow rules) text space other a t → Reading rules (take r.count left) space other b u →
     EndAlike a b
 
--- of a text that is accepted by today's rules, with its table, it is request 5's plain form: `converted-as-written`
+-- of a text that is accepted by today's rules, with its table, it is request 5's plain form: `converted_as_written`
 abbrev pub ConvertedAsWritten : Type 0
 ConvertedAsWritten =
     (rules : Rules) (text words lent left : List ℕ) (level : ℕ) (r : Answer) →
@@ -424,11 +424,11 @@ ConvertedAsWritten =
 -- 1 files keep six words. … Request 5's tables have it too, and there it follows the indices.' That a stored file keeps
 -- six of the seven is in `Keeps`, which also says where each of them stands
 
--- 'the smaller of 1,024 and words divided by 7, rounded down': `room-by-seven`
+-- 'the smaller of 1,024 and words divided by 7, rounded down': `room_by_seven`
 abbrev pub RoomBySeven : Type 0
 RoomBySeven = (words : ℕ) → room base words ≡ min 1024 (words / 7)
 
--- 'an accepted reading writes 7 × count words': the table has so many, and behind them is as it was: `seven-each`
+-- 'an accepted reading writes 7 × count words': the table has so many, and behind them is as it was: `seven_each`
 abbrev pub SevenEach : Type 0
 SevenEach =
     (rules : Rules) (bytes lent left : List ℕ) (number : ℕ) (r : Answer) → Answers rules bytes lent number r left →
@@ -437,20 +437,20 @@ SevenEach =
 
 -- 'Of all nodes': of every accepted reading, on the table's own words, that a node's descendants are the nodes between
 -- it and the index that its seventh word tells, that children lie inside, that siblings follow on, that a walk from one
--- to the next meets the children and nothing else, and that the root's word is the count: `own-words`
+-- to the next meets the children and nothing else, and that the root's word is the count: `own_words`
 abbrev pub OwnWords : Type 0
 OwnWords =
     (rules : Rules) (bytes lent left : List ℕ) (number : ℕ) (r : Answer) → Answers rules bytes lent number r left →
     r.number ≡ 0 → Stretches left r.count
 
--- 'Request 5's tables have it too': so it is with a table that is not refused there: `lent-words`
+-- 'Request 5's tables have it too': so it is with a table that is not refused there: `lent_words`
 abbrev pub LentWords : Type 0
 LentWords =
     (rules : Rules) (text words : List ℕ) (level : ℕ) (r : Answer) → Judges rules text words level r → r.number ≡ 0 →
     Stretches words r.count
 
 -- 'and there it follows the indices': `ReadsBack` compares the nodes with their stretches; where no this changes its
--- place with a that, the word is the same in both tables, node for node: `same-skips`
+-- place with a that, the word is the same in both tables, node for node: `same_skips`
 abbrev pub SameSkips : Type 0
 SameSkips =
     (rules : Rules) (text words out lent left : List ℕ) (level : ℕ) (r : Answer) → rules.limits.arrow ≡ false →
@@ -479,14 +479,14 @@ pub record BadLiteral (rules : Rules) (text : List ℕ) (place : ℕ) : Type 0 w
   pub in_call : (form : Form) → kind ≡ Text form → (buffer kept : List ℕ) (c : Answer) →
       TextAnswers rules (between text first end) buffer c kept → c ≡ answer 5 (place - first) 0
 
--- of every text that is refused with 5: `escape-pointed`
+-- of every text that is refused with 5: `escape_pointed`
 abbrev pub EscapePointed : Type 0
 EscapePointed =
     (rules : Rules) (text table left : List ℕ) (level : ℕ) (r : Answer) → Answers rules text table level r left →
     r.number ≡ 5 → BadLiteral rules text r.place
 
 -- and of a text that is a Text literal and nothing else the reader answers 5 just when the Text call does, with the
--- same place: `same-five`
+-- same place: `same_five`
 abbrev pub SameFive : Type 0
 SameFive =
     (rules : Rules) (text table buffer : List ℕ) (level : ℕ) (l : Level) (r c : Answer) (left kept : List ℕ) →
@@ -498,21 +498,21 @@ SameFive =
 -- UTF-8 and keeps the size, it is accepted at the same level with the same kinds, parents, roles, details and skip
 -- words.' The replacement is `Relaid` (layout/specs/Relaid.antt)
 
--- 'Take any accepted text': every one is so related to itself, with nothing replaced: `as-it-stands`
+-- 'Take any accepted text': every one is so related to itself, with nothing replaced: `as_it_stands`
 abbrev pub AsItStands : Type 0
 AsItStands =
     (rules : Rules) (text lent left : List ℕ) (level : ℕ) (r : Answer) → Answers rules text lent level r left →
     r.number ≡ 0 → Relaid text text
 
 -- and the dividing space before any token of it, or behind the last one, 'taken at its full length and not empty', may
--- be any other 'non-empty dividing space': `any-space`
+-- be any other 'non-empty dividing space': `any_space`
 abbrev pub AnySpace : Type 0
 AnySpace =
     (rules : Rules) (text lent left space : List ℕ) (level start from end : ℕ) (r : Answer) (ts : List Tok) →
     Answers rules text lent level r left → r.number ≡ 0 → Front text start → Follow text start ts from →
     Longest text sp from end → Matches sp space → Relaid text (take from text ++ (space ++ drop end text))
 
--- a replacement can be undone: `laid-back`; and two, one after the other, are one: `laid-twice`
+-- a replacement can be undone: `laid_back`; and two, one after the other, are one: `laid_twice`
 abbrev pub LaidBack : Type 0
 LaidBack = (text other : List ℕ) → Relaid text other → Relaid other text
 
@@ -520,14 +520,14 @@ abbrev pub LaidTwice : Type 0
 LaidTwice = (a b c : List ℕ) → Relaid a b → Relaid b c → Relaid a c
 
 -- on derivations, at every level and by any limits: the other text has a derivation of the level with the same nodes
--- but for their places, and the same plain form: `layout-kept`
+-- but for their places, and the same plain form: `layout_kept`
 abbrev pub LayoutKept : Type 0
 LayoutKept =
     (limits : Limits) (text other : List ℕ) (l : Level) (v : Value) → Relaid text other → Accepted limits text l v →
     Kept limits text other l v
 
 -- on the words of two tables of the same length, whatever stood in them, 'If the result is valid UTF-8 and keeps the
--- size': `same-words`
+-- size': `same_words`
 abbrev pub LayoutWords : Type 0
 LayoutWords =
     (rules : Rules) (text other lent space left filled : List ℕ) (level : ℕ) (r s : Answer) → Relaid text other →
@@ -535,7 +535,7 @@ LayoutWords =
     Answers rules text lent level r left → r.number ≡ 0 → Answers rules other space level s filled →
     (s ≡ answer 0 (length other) r.count) × SameWords left filled r.count
 
--- so of two such texts, both UTF-8 and not too long, none is refused where the other is accepted: `accepted-alike`
+-- so of two such texts, both UTF-8 and not too long, none is refused where the other is accepted: `accepted_alike`
 abbrev pub AcceptedAlike : Type 0
 AcceptedAlike =
     (rules : Rules) (text other lent space left filled : List ℕ) (level : ℕ) (r s : Answer) → Relaid text other →
@@ -543,7 +543,7 @@ AcceptedAlike =
     length space ≡ length lent → Answers rules text lent level r left → Answers rules other space level s filled →
     (r.number ≡ 0 → s.number ≡ 0) × (s.number ≡ 0 → r.number ≡ 0)
 
--- beyond the request: calls that write the plain form of both texts write the same bytes: `same-plain-forms`
+-- beyond the request: calls that write the plain form of both texts write the same bytes: `same_plain_forms`
 abbrev pub SamePlainForms : Type 0
 SamePlainForms =
     (rules : Rules) (text other words shown lent buffer left filled : List ℕ) (level : ℕ) (r s : Answer) →
@@ -573,7 +573,7 @@ pub record SameValues (rules : Rules) (text left other filled : List ℕ) (i : �
   pub blob_bytes : word_at left i kind_word ≡ kind_number_of a_blob →
       SameBytes blob_call rules (piece_at text left i) (piece_at other filled i)
 
--- and the value calls give the same values for every node: `same-values`
+-- and the value calls give the same values for every node: `same_values`
 abbrev pub LayoutValues : Type 0
 LayoutValues =
     (rules : Rules) (text other lent space left filled : List ℕ) (level : ℕ) (r s : Answer) → Relaid text other →

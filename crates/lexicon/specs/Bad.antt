@@ -51,7 +51,7 @@ module _ (text : List ℕ) where
     in_further : {i m j : ℕ} → Takes text segment i m → Among text (opt sp then segment) BadFurther m j →
         BadQuoted i j
 
-  -- the same in short: some character of the text is no code point (values/proofs/Short.antt: `short-of`, `of-short`)
+  -- the same in short: some character of the text is no code point (values/proofs/Short.antt: `short_of`, `of_short`)
   pub record BadCharacter (i j : ℕ) : Type 0 where
     pub characters : List ℕ
     pub are : Quoted text i j characters

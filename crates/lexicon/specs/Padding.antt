@@ -1,6 +1,6 @@
 -- Bad base-64 characters in the words of 02, request 3, and of 01. No answer rests on this file: the definition is
 -- `NoBytes` in Bad.antt, and a Blob in base 64 has no bytes exactly if its characters are bad in one of these ways
--- (proofs/Unfit.antt: `bad-no-bytes`, `no-bytes-bad`). Assumes nothing.
+-- (proofs/Unfit.antt: `bad_no_bytes`, `no_bytes_bad`). Assumes nothing.
 use Rattle.std.specs.Prelude.{◌≡◌, cond, List, [], ◌∷◌, ◌++◌, ℕ, ◌+◌, ◌*◌, ◌%◌, ◌<◌, eqb, length, replicate}
 use Rattle.rules.specs.Class.{byte_of}
 use Rattle.lexicon.specs.Expansion.{bits_of}

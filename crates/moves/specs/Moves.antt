@@ -15,7 +15,7 @@ use Rattle.moves.specs.Means.{level_of, mode_of}
 use Rattle.moves.specs.Effects.{Asked, Does}
 
 -- wherever the reader expects what the mode tells, the move is what a token of the kind does, at whatever place. Where
--- some configuration has the mode and the token is asked about there is one such move (`one-move` in
+-- some configuration has the mode and the token is asked about there is one such move (`one_move` in
 -- `proofs/One.antt`); elsewhere, as behind the head of a Lot, the move is free, and no reader asks for it
 pub record Moves (forms : Forms) (mode : Mode) (kind : Kind) (move : Move) : Type 0 where
   pub does : (c : Config) → mode_of c ≡ mode → Asked c kind → (at : Span) →
