@@ -25,7 +25,7 @@ use Rattle.form.specs.Writes.{Rewrites, Writes, Converts, refused, told}
 
 module _ (Judges : Answer → Option Value → Type 0) (text lent : List ℕ) where
   some_rewriting : {a : Answer} (t : Option Value) → Judges a t → (r : Answer) × (left : List ℕ) × Rewrites Judges text lent r left
-  some_rewriting none x = (_, _, refused x)
+  some_rewriting none x = (_, lent, refused x)
   some_rewriting (some v) x = let f = some_filling lent (length text) (plain_form text v) in (_, _, told x f.2)
 
   nothing_rewritten : {r : Answer} {left : List ℕ} → Rewrites Judges text lent r left → (r.number ≡ 0 → ⊥) → left ≡ lent
