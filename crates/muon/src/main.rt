@@ -1,11 +1,11 @@
-// Reads standard input at level 2 and writes the listing. A read or write that fails is said on standard error.
+// Reads standard input at level 2 and writes the listing. A read or write that fails ends the program with its error.
 #![tactic(auto)]
 
 ghost use Rattle.muon.specs.Input.{Within};
 
-use libc::{STDIN_FILENO, STDOUT_FILENO};
 use listing::{LONGEST, list};
 use reading::{TABLE, TEXT};
+use std::io::{self, Read};
 
 const LEVEL: u32 = 2;
 
@@ -16,53 +16,45 @@ const INPUT: usize = TEXT + 1;
 #[derive(Drop)]
 enum Input {
     Bytes(usize),
-    Failed,
+    Failed(io::Error),
 }
 
 // One read into the buffer: no bytes at the end of the input.
-fn read_some(buffer: &mut [u8]) -> Input
+fn read_some(source: &mut impl Read, buffer: &mut [u8]) -> Input
     ensures { Within buffer.new result }
 {
-    let got = libc::read(STDIN_FILENO, buffer);
-    if got < 0 {
-        return Input::Failed;
+    match source.read(buffer) {
+        Ok(n) => Input::Bytes(n),
+        Err(error) => Input::Failed(error),
     }
-    Input::Bytes(io::count(got, buffer))
 }
 
 // Reads until the input ends or the buffer is full, in whatever pieces it comes.
-fn read_all(buffer: &mut [u8]) -> Input
+fn read_all(source: &mut impl Read, buffer: &mut [u8]) -> Input
     ensures { Within buffer.new result }
 {
     let mut n = 0;
     while n < buffer.len() {
-        let some = read_some(&mut buffer[n..]);
-        let Input::Bytes(more) = some else {
-            return Input::Failed;
-        };
-        if more == 0 {
-            return Input::Bytes(n);
+        match read_some(source, &mut buffer[n..]) {
+            Input::Bytes(0) => return Input::Bytes(n),
+            Input::Bytes(more) => n += more,
+            Input::Failed(error) => return Input::Failed(error),
         }
-        n += more;
     }
     Input::Bytes(n)
 }
 
-fn answer(text: &[u8]) {
+fn answer(rt: &impl Print, text: &[u8]) -> io::Result<()> {
     let mut table = [0; TABLE];
     let mut out = [0; LONGEST];
     let n = list(LEVEL, text, &mut table, &mut out);
-    if !io::write_all(STDOUT_FILENO, &out[..n]) {
-        os::fail(b"muon: write");
-    }
+    rt.write_all(&out[..n])
 }
 
-fn main() {
+fn main(rt: HostRuntime) -> io::Result<()> {
     let mut text = [0; INPUT];
-    let input = read_all(&mut text);
-    let Input::Bytes(n) = input else {
-        os::fail(b"muon: read");
-        return;
-    };
-    answer(&text[..n]);
+    match read_all(&mut rt.stdin(), &mut text) {
+        Input::Bytes(n) => answer(&rt, &text[..n]),
+        Input::Failed(error) => Err(error),
+    }
 }

@@ -1,2 +1,0 @@
--- Laws of what was read.
-pub mod Inputs
