@@ -22,7 +22,7 @@ $(foreach name,PREFIX $(WRITTEN),$(if $(filter /%,$($(name))/),,$(error $(name) 
 ifdef MUON_LIB_DIR
 ARCHIVES = $(MUON_LIB_DIR)
 else
-ARCHIVES = $(CURDIR)/target/staticlib
+ARCHIVES = $(CURDIR)/crates/capi/out
 endif
 # as it is installed, or else as rt writes it
 ARCHIVE = $(shell for name in libmuon.a libcapi.a; do if [ -f '$(ARCHIVES)/'$$name ]; then echo '$(ARCHIVES)/'$$name; break; fi; done)
@@ -40,7 +40,7 @@ archive:
 ifdef MUON_LIB_DIR
 	@test -n '$(ARCHIVE)' || { echo 'no libmuon.a and no libcapi.a in $(ARCHIVES)' >&2; exit 1; }
 else
-	rt staticlib capi
+	cd crates/capi && rt lib
 endif
 
 tool: archive

@@ -1,5 +1,5 @@
 //! Links the proved archive: `libmuon.a`, as it is installed, or `libcapi.a`,
-//! as `rt staticlib capi` writes it, from the directory in `MUON_LIB_DIR`.  A
+//! as `rt lib` in crates/capi writes it, from the directory in `MUON_LIB_DIR`.  A
 //! relative one is relative to this package; none is the repository's.  For another
 //! target than x86-64 Linux there is none, and the build stops.
 
@@ -7,7 +7,7 @@ use std::path::{Path, PathBuf};
 use std::{env, process};
 
 const LIBRARIES: [&str; 2] = ["muon", "capi"];
-const OF_THE_REPOSITORY: &str = "../target/staticlib";
+const OF_THE_REPOSITORY: &str = "../crates/capi/out";
 /// What cargo tells of the one target that there is an archive for.
 const SERVED: [(&str, &str); 3] = [
     ("CARGO_CFG_TARGET_ARCH", "x86_64"),
@@ -45,7 +45,7 @@ fn say_what_to_do(directory: &Path) {
     eprintln!(
         "Set MUON_LIB_DIR to the directory of one, best an absolute one: a relative one is relative to the package muon."
     );
-    eprintln!("In the repository `rt staticlib capi` writes libcapi.a, which is found without it.");
+    eprintln!("In the repository `rt lib` in crates/capi writes libcapi.a, which is found without it.");
 }
 
 fn main() {

@@ -37,7 +37,7 @@ impl Repository {
         for entry in fs::read_dir(directory)? {
             let entry = entry?;
             let name = entry.file_name().to_string_lossy().into_owned();
-            if [".git", "target"].contains(&name.as_str()) {
+            if [".git", "target", "out"].contains(&name.as_str()) {
                 continue;
             }
             let path = format!("{below}{name}");
@@ -81,7 +81,7 @@ impl Repository {
     /// `crates/` or a crate; `*` stands for any part of a name.
     pub fn resolve(&self, path: &str) -> Vec<String> {
         let path = path.trim_end_matches('/').replace("NAME", "*");
-        if path.starts_with("target/") && self.root.join(&path).exists() {
+        if path.contains("/out/") && self.root.join(&path).exists() {
             return vec![path];
         }
         let wanted = [
@@ -211,7 +211,7 @@ fn code(text: &str) -> Source {
 }
 
 fn is_modifier(word: &str) -> bool {
-    let word = word.strip_prefix("#[no_mangle]").unwrap_or(word);
+    let word = word.strip_prefix("#[unsafe(no_mangle)]").unwrap_or(word);
     word.is_empty()
         || word.starts_with("pub")
         || ["const", "unsafe", "extern", "\"C\""].contains(&word)
