@@ -5,10 +5,10 @@
 
    The language on one page: docs/SETTINGS.md. A setting read by its name: examples/settings.c.
 
-   The archive is target/staticlib/libcapi.a, written by `rt staticlib capi` (x86-64); it needs no other library, but for memset, which a C
+   The archive is crates/capi/out/libcapi.a, written there by `rt lib` (x86-64); it needs no other library, but for memset, which a C
    compiler's own code needs as well. Linking, with the repository's or, behind `make install`, with the one that is then called libmuon.a:
 
-       cc -Iinclude program.c target/staticlib/libcapi.a
+       cc -Iinclude program.c crates/capi/out/libcapi.a
        cc program.c $(pkg-config --cflags --libs muon)
 
    The contract of every call here is proved for all inputs: any bytes, any level and any lent memory give an answer, and lent memory
@@ -141,7 +141,7 @@ extern "C" {
    The token that 5 is judged at is the literal, wherever in it the place is: `x "\\<0cxD800>"` is 6@2, and `"\\<0cxD800>" $` is 5@2.
    muon_integer: 2, 3, 9, 10 in this order, and no other.
    muon_text, muon_blob: 2, 3, 9, 5, 8 in this order, and no other. A piece that gets 8 is accepted with a buffer of count bytes
-   (proved; `told-room` in `crates/values/proofs/Fits.antt`).
+   (proved; `told_room` in `crates/values/proofs/Fits.antt`).
    muon_bits: the same without 5.
    muon_file_write: those of muon_read at level 2 with a table of MUON_TABLE_MAX words, with their places and counts; so never 1, and 8 with
    the nodes if they are more than MUON_NODES_MAX. Then 8 with the file's bytes if the buffer is shorter.
@@ -352,8 +352,8 @@ MUON_MUST_USE uint32_t muon_integer(const void *piece, size_t piece_len, int64_t
    count      one size_t, written in every case
 
    Accepted, exactly the first *count bytes of the buffer are written, and they are well-formed UTF-8. Refused, none.
-   piece_len bytes are room enough for every piece: the characters of a Text are no more bytes than its literal (proved; `text-bounded`
-   in `crates/values/proofs/Texts.antt` with `enough-room` in `crates/values/proofs/Fits.antt`). */
+   piece_len bytes are room enough for every piece: the characters of a Text are no more bytes than its literal (proved; `text_bounded`
+   in `crates/values/proofs/Texts.antt` with `enough_room` in `crates/values/proofs/Fits.antt`). */
 MUON_MUST_USE uint32_t muon_text(const void *piece, size_t piece_len, void *buffer, size_t buffer_len, size_t *place, size_t *count);
 
 /* The bytes of a Blob literal, from the start of a lent buffer on. The digits are of base 2, 16 or 64: `0xb00000001` has the bytes 01,
@@ -371,7 +371,7 @@ MUON_MUST_USE uint32_t muon_text(const void *piece, size_t piece_len, void *buff
    count      one size_t, written in every case
 
    Accepted, exactly the first *count bytes of the buffer are written. Refused, none.
-   piece_len bytes are room enough for every piece (proved; `blob-bounded` in `crates/values/proofs/BitsAndBlobs.antt` with `enough-room`
+   piece_len bytes are room enough for every piece (proved; `blob_bounded` in `crates/values/proofs/BitsAndBlobs.antt` with `enough_room`
    in `crates/values/proofs/Fits.antt`). */
 MUON_MUST_USE uint32_t muon_blob(const void *piece, size_t piece_len, void *buffer, size_t buffer_len, size_t *place, size_t *count);
 
@@ -385,8 +385,8 @@ MUON_MUST_USE uint32_t muon_blob(const void *piece, size_t piece_len, void *buff
    count      one size_t, written in every case
 
    Accepted, exactly the first *count bytes of the buffer are written. Refused, none.
-   4 * piece_len bytes are room enough for every piece, and so MUON_BITS_MAX are for any (proved; `bits-bounded` in
-   `crates/values/proofs/BitsAndBlobs.antt` with `enough-room` in `crates/values/proofs/Fits.antt`). */
+   4 * piece_len bytes are room enough for every piece, and so MUON_BITS_MAX are for any (proved; `bits_bounded` in
+   `crates/values/proofs/BitsAndBlobs.antt` with `enough_room` in `crates/values/proofs/Fits.antt`). */
 MUON_MUST_USE uint32_t muon_bits(const void *piece, size_t piece_len, void *buffer, size_t buffer_len, size_t *place, size_t *count);
 
 /* Reads a text at level 2, and writes its stored file from the start of a lent buffer on. Nothing is stored with an arrow any more: as a
@@ -399,17 +399,17 @@ MUON_MUST_USE uint32_t muon_bits(const void *piece, size_t piece_len, void *buff
 
    Accepted, exactly the first *count bytes of the buffer are written, and *count is MUON_FILE_BYTES of the nodes. Refused, none.
    MUON_FILE_MAX bytes are room enough for every text that has a file: with as many, 8 is given only where there are more than
-   MUON_NODES_MAX nodes, and the count tells them (proved; `room-enough` in `crates/demands/proofs/Requests.antt`). With fewer, the count
+   MUON_NODES_MAX nodes, and the count tells them (proved; `room_enough` in `crates/demands/proofs/Requests.antt`). With fewer, the count
    alone does not tell whether nodes or bytes are meant. */
 MUON_MUST_USE uint32_t muon_file_write(const void *text, size_t text_len, void *buffer, size_t buffer_len, size_t *place, size_t *count);
 
 /* Tests whether a file is the stored file of a text: it is accepted exactly when muon_file_write would give it for the text, or would have
-   given it before the arrow was retired, all of it and nothing behind it (proved; `accepts-exactly` and `written-accepted` in
+   given it before the arrow was retired, all of it and nothing behind it (proved; `accepts_exactly` and `written_accepted` in
    `crates/demands/proofs/Requests.antt`). Nothing but place and count is written.
 
    So the text is read by the rules of before, and a file that was stored of a text with an arrow is accepted as ever: with the file 46 4E
    54 00 01 00 03 00 06 00 09 00 00 00 06 00 00 00 00 00 00 00 07 00 01 00 02 00 00 00 03 00 02 00 07 00 04 00 05 00 00 00 01 00 02,
-   `(b<-a)` is accepted. Of a text without an arrow it takes exactly what muon_file_write gives (proved, too: `stored-alike`).
+   `(b<-a)` is accepted. Of a text without an arrow it takes exactly what muon_file_write gives (proved, too: `stored_alike`).
 
    The file tells what was read, and not the text's bytes. A text with other bytes, but of the same length and with the same nodes, has the
    same file: `x` has the file 46 4E 54 00 01 00 01 00 01 00 07 00 00 00 01 00 00 00 00 00 02, and so `y` has the file 46 4E 54 00 01 00 01
@@ -439,7 +439,7 @@ MUON_MUST_USE uint32_t muon_file_check(const void *text, size_t text_len, const 
    Read at the same level, a plain form of at most MUON_TEXT_MAX bytes gives the nodes of the text, except that they have other places and
    that a word which was put in quotes has the detail MUON_DETAIL_QUOTED. Its own plain form is itself, byte for byte. At every other level,
    too, text and such a plain form end alike, in number and count, in tables of the same room: so a reader at level 1 takes the one just if
-   it takes the other (proved; `reads-back`, `in-order` and `ends-alike` in `crates/demands/proofs/Requests.antt`).
+   it takes the other (proved; `reads_back`, `in_order` and `ends_alike` in `crates/demands/proofs/Requests.antt`).
 
    level      1 or 2, as it was read; every other number is refused with MUON_REFUSED_LEVEL
    text       text_len bytes, read only; need not end in 0
@@ -450,7 +450,7 @@ MUON_MUST_USE uint32_t muon_file_check(const void *text, size_t text_len, const 
 
    Accepted, exactly the first *count bytes of the buffer are written. Refused, none.
    MUON_PLAIN_BYTES(text_len) bytes are room enough for every text. With as many, 8 is given only where muon_read would give it (proved;
-   `plain-room` in `crates/demands/proofs/Requests.antt`), and the text is written without being measured first. With fewer, the count alone
+   `plain_room` in `crates/demands/proofs/Requests.antt`), and the text is written without being measured first. With fewer, the count alone
    does not tell whether nodes or bytes are meant, but a table that muon_read has just accepted the text with has room for the nodes.
    With the table of `(x,y)`, `(x:y)` is 14@0. */
 MUON_MUST_USE uint32_t muon_plain(uint32_t level, const void *text, size_t text_len, const uint32_t *table, size_t table_len,
@@ -466,8 +466,8 @@ MUON_MUST_USE uint32_t muon_plain(uint32_t level, const void *text, size_t text_
    MUON_TEXT_MAX bytes, is accepted; it has the nodes that the text had by the rules of before, except that they have other places, that a
    this stands before its that, with the indices that follow from it, that the role MUON_ROLE_THAT_BEFORE has become MUON_ROLE_THAT_AFTER,
    and that a word which was put in quotes has the detail MUON_DETAIL_QUOTED. Converted again it is itself, byte for byte. At every other
-   level, too, muon_read ends on it as it ended on the text before, in number and count (proved; `converted-back` and `converted-alike` in
-   `crates/demands/proofs/Requests.antt`; which buffer is long enough: `converted-room`).
+   level, too, muon_read ends on it as it ended on the text before, in number and count (proved; `converted_back` and `converted_alike` in
+   `crates/demands/proofs/Requests.antt`; which buffer is long enough: `converted_room`).
 
    level      1 or 2; every other number is refused with MUON_REFUSED_LEVEL
    text       text_len bytes, read only; need not end in 0

@@ -45,7 +45,9 @@ fn say_what_to_do(directory: &Path) {
     eprintln!(
         "Set MUON_LIB_DIR to the directory of one, best an absolute one: a relative one is relative to the package muon."
     );
-    eprintln!("In the repository `rt lib` in crates/capi writes libcapi.a, which is found without it.");
+    eprintln!(
+        "In the repository `rt lib` in crates/capi writes libcapi.a, which is found without it."
+    );
 }
 
 fn main() {

@@ -164,10 +164,10 @@
 //! # Building
 //!
 //! `MUON_LIB_DIR` names the directory of the archive: `libmuon.a`, as it is
-//! installed, or else `libcapi.a`, as `rt staticlib capi` writes it.  A relative
+//! installed, or else `libcapi.a`, as `rt lib` writes it.  A relative
 //! directory is relative to this package, wherever cargo is started, so an
 //! absolute one is best; without the variable it is the repository's,
-//! `../target/staticlib`.  The archive is for x86-64 Linux: for another target
+//! `../crates/capi/out`.  The archive is for x86-64 Linux: for another target
 //! the build stops and says so.
 //!
 //! The library is `no_std`.  The feature `alloc`, on by default, adds what gives a

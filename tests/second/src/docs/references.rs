@@ -25,7 +25,6 @@ const ROOTS: &[&str] = &[
     "examples/",
     "include/",
     "rust/",
-    "target/",
     "tests/",
 ];
 
