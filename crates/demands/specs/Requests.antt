@@ -1,6 +1,7 @@
 -- What the customer's requests promise of every text, in their order and words. What stands in quotes is document 02's.
 -- Each promise is a statement here, and proofs/Requests.antt proves it under the name beside it. Assumes nothing.
-use Rattle.std.specs.Prelude.{◌≡◌, ◌⊎◌, ◌↔◌, true, false, List, [], ◌∷◌, ◌++◌, map, ℕ, ◌+◌, ◌-◌, ◌*◌, ◌/◌, ◌%◌, ◌^◌, ◌≤◌, ◌<◌, min, length, take, drop}
+use Rattle.std.specs.Prelude.{◌≡◌, ◌⊎◌, ◌↔◌, true, false, List, [], ◌∷◌, ◌++◌, map, length, take, drop}
+use Rattle.std.specs.Prelude.{ℕ, ◌+◌, ◌-◌, ◌*◌, ◌/◌, ◌%◌, ◌^◌, ◌≤◌, ◌<◌, min}
 use Rattle.std.proofs.Math.Option.{Option, none, some}
 use Rattle.rules.specs.Class.{codes}
 use Rattle.rules.specs.Every.{Every}
@@ -24,7 +25,8 @@ use Rattle.grammar.specs.Tokens.{Tok}
 use Rattle.grammar.specs.Tree.{Value}
 use Rattle.grammar.specs.Level.{Level, ◌Within◌, arrowless, keeps}
 use Rattle.grammar.specs.Place.{Wrong}
-use Rattle.grammar.specs.Nodes.{an_integer, aText, a_bits, a_blob, kind_number_of, node_words, kind_word, first_word, end_word}
+use Rattle.grammar.specs.Nodes.{an_integer, aText, a_bits, a_blob, kind_number_of}
+use Rattle.grammar.specs.Nodes.{node_words, kind_word, first_word, end_word}
 use Rattle.grammar.specs.Nodes.{role_word, skip_word, word_at, table, table_words}
 use Rattle.grammar.specs.Stretches.{Stretches}
 use Rattle.reading.specs.declared.Answer.{Answer}

@@ -32,7 +32,8 @@ pub record Files : Type 0 where
   pub byte_behind : (b : ℕ) → Checks old_rules (codes "(x:y)") (pair ++ (b ∷ [])) (answer 14 0 0)
   pub byte_changed : (b : ℕ) → (b ≡ 0x02 → ⊥) →
       Checks old_rules (codes "(x:y)") (take 44 pair ++ (b ∷ [])) (answer 14 0 0)
-  pub text_refused : (rest : List ℕ) → Checks old_rules (codes "(") (codes "FNT" ++ (0x00 ∷ 0x01 ∷ rest)) (answer 14 0 0)
+  pub text_refused : (rest : List ℕ) →
+      Checks old_rules (codes "(") (codes "FNT" ++ (0x00 ∷ 0x01 ∷ rest)) (answer 14 0 0)
   -- whatever the text is
   pub four_bytes : (rules : Rules) (text : List ℕ) → Checks rules text (codes "FNT" ++ (0x00 ∷ [])) (answer 12 0 0)
   pub other_mark : (rules : Rules) (text : List ℕ) →

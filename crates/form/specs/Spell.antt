@@ -13,7 +13,8 @@ use Rattle.grammar.specs.Tokens
 use Rattle.grammar.specs.Tokens.{Span, Class, Mark, Wording, Spelling, atom, text, names, round, curly, square, mark}
 use Rattle.grammar.specs.Tokens.{spelled, quoted, word, code_point_of, integer, boolean}
 use Rattle.grammar.specs.Tree
-use Rattle.grammar.specs.Tree.{Names, one_name, more_names, PlainName, text_name, nesting_name, Name, plain_name, bare_name}
+use Rattle.grammar.specs.Tree.{Names, one_name, more_names}
+use Rattle.grammar.specs.Tree.{PlainName, text_name, nesting_name, Name, plain_name, bare_name}
 use Rattle.grammar.specs.Tree.{Arrow, rightward, leftward, Joiner, Measure, Count, number, truth, Style, Value, Plain}
 use Rattle.grammar.specs.Tree.{Item, Row, Listing, Attributes, Bounds}
 use Rattle.grammar.specs.Yield.{between_mark, side_bound, collection_head}

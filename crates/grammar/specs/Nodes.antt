@@ -229,12 +229,14 @@ abbrev mutual
   nodes_plain (Tree.pair o a k b c) p r n =
       branch aPair (over o c) p r 0 (both (λ i. nodes_plain a n this i) (λ i. nodes b n thatAfter i) (n + 1))
   nodes_plain (Tree.arrowed o a j k b c) p r n =
-      branch aPair (over o c) p r 0 (both (λ i. nodes a n (left_role_of j) i) (λ i. nodes b n (right_role_of j) i) (n + 1))
+      branch aPair (over o c) p r 0
+      (both (λ i. nodes a n (left_role_of j) i) (λ i. nodes b n (right_role_of j) i) (n + 1))
   nodes_plain (Tree.tuple o i c) p r n = branch aTuple (over o c) p r 0 (nodes_attributes i n (n + 1))
   nodes_plain (Tree.lot o i c) p r n = branch aLot (over o c) p r 0 (nodes_listing i n (n + 1))
   nodes_plain (Tree.counted o h s k b i e c) p r n =
       branch (collection_kind h) (over o c) p r 0 (nodes_listing i n (n + 1))
-  nodes_plain (Tree.interval o b c) p r n = branch anInterval (over o c) p r (bounds_detail b) (nodes_bounds b n (n + 1))
+  nodes_plain (Tree.interval o b c) p r n =
+      branch anInterval (over o c) p r (bounds_detail b) (nodes_bounds b n (n + 1))
 
   -- the nodes of what stands between commas, under the parent p
   pub nodes_item : {s : Style} → Item s → ℕ → ℕ → List Node

@@ -24,6 +24,7 @@ unleveled_by Leveled.Nothing = answer 1 0 0
 
 -- the collection of a head, if the level has it
 abbrev pub Collects : Forms → Head → Collection → Type 0
-Collects forms h (Collection.Of style) = (k : Tree.Collection) × (h ≡ collection_head k) × (style ≡ collection_style k) ×
+Collects forms h (Collection.Of style) =
+    (k : Tree.Collection) × (h ≡ collection_head k) × (style ≡ collection_style k) ×
     (has_collection (level_of forms) k ≡ true)
 Collects forms h Collection.Nothing = has_head (level_of forms) h ≡ false

@@ -1,6 +1,7 @@
 -- The values that the grammar gives: the integer of an Integer, the bits of Bits, the bytes of a Blob, the characters
 -- of a Text. Assumes nothing.
-use Rattle.std.specs.Prelude.{◌≡◌, cond, List, [], ◌∷◌, ◌++◌, map, ℕ, zero, suc, ◌+◌, ◌-◌, ◌*◌, ◌<◌, leb, eqb, ℤ, pos, neg_ℤ, get_or}
+use Rattle.std.specs.Prelude.{◌≡◌, cond, List, [], ◌∷◌, ◌++◌, map, get_or}
+use Rattle.std.specs.Prelude.{ℕ, zero, suc, ◌+◌, ◌-◌, ◌*◌, ◌<◌, leb, eqb, ℤ, pos, neg_ℤ}
 use Prim.Native.String.{String}
 use Rattle.rules.specs.Class.{Class, In, byte_of, any_of}
 use Rattle.rules.specs.Rule.{one, ◌then◌, plus, opt, lit, Takes}
@@ -122,8 +123,8 @@ module _ (text : List ℕ) where
   -- one that does: characters and escapes
   pub data Escaped : ℕ → ℕ → ℕ → Type 0 where
     itself : {i j : ℕ} → Takes text unescaped i j → Escaped i j (scalar_at i j)
-    letter : {i j m c : ℕ} → Takes text (lit "\\") i m → Letter (get_or text m 0) c → Takes text (one escape_letter) m j →
-        Escaped i j c
+    letter : {i j m c : ℕ} → Takes text (lit "\\") i m → Letter (get_or text m 0) c →
+        Takes text (one escape_letter) m j → Escaped i j c
     number : {i j m e v : ℕ} → Takes text (lit "\\<") i m → CodeOf m e v → Takes text (lit ">") e j → Escaped i j v
 
   -- characters one after the other
