@@ -6,7 +6,6 @@ use Rattle.rules.specs.Test.{Says}
 use Rattle.rules.proofs.Tests.{says_no}
 use Rattle.lexicon.specs.declared.Form.TheVariants as Form
 use Rattle.lexicon.specs.declared.Kind.{Kind}
-use Rattle.lexicon.specs.declared.Kind.TheVariants as Kind
 use Rattle.lexicon.specs.Token.{Told, Bad}
 use Rattle.decisions.proofs.Tests.{either}
 use Rattle.decisions.proofs.Fractions.{over_zero, over_zero_lem, small_radix, small_radix_lem}

@@ -7,7 +7,6 @@ use Rattle.rules.specs.Rule.{Rule, ◌or◌, many, opt, lit, Takes, more, Among}
 use Rattle.rules.proofs.Chains.{join}
 use Rattle.lexicon.specs.declared.Form.TheVariants as Form
 use Rattle.lexicon.specs.declared.Kind.{Kind}
-use Rattle.lexicon.specs.declared.Kind.TheVariants as Kind
 use Rattle.lexicon.specs.Space.{sp}
 use Rattle.lexicon.specs.Literals.{unescaped, escape, segment}
 use Rattle.lexicon.specs.Bad.{BadEscape, BadSegment, BadFurther, BadQuoted, in_first, in_further, backslash_of, FirstBad}

@@ -10,11 +10,8 @@ use Rattle.rules.specs.Class.{has}
 use Rattle.rules.specs.Rule.{lit}
 use Rattle.rules.proofs.Bools.{clash}
 use Rattle.lexicon.specs.declared.Head.{Head}
-use Rattle.lexicon.specs.declared.Head.TheVariants as Head
 use Rattle.lexicon.specs.declared.Form.{Form}
-use Rattle.lexicon.specs.declared.Form.TheVariants as Form
 use Rattle.lexicon.specs.declared.Kind.{Kind}
-use Rattle.lexicon.specs.declared.Kind.TheVariants as Kind
 use Rattle.lexicon.specs.Literals.{plus_minus}
 use Rattle.lexicon.specs.Token.{Lexeme, an_ignorance, a_boolean, an_integer, a_fraction, a_bits, a_blob, a_quoted, a_word, a_code_point, a_later, a_symbol, head_word, Here, Told}
 use Rattle.decisions.proofs.Cuts.{reaches, takes}

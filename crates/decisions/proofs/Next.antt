@@ -13,9 +13,7 @@ use Rattle.rules.specs.Rule.{one, many, opt, Takes, nothing, right, stop, Longes
 use Rattle.rules.proofs.Matches.{longest_same}
 use Rattle.lexicon.specs.declared.Form.TheVariants as Form
 use Rattle.lexicon.specs.declared.Kind.{Kind}
-use Rattle.lexicon.specs.declared.Kind.TheVariants as Kind
 use Rattle.lexicon.specs.declared.Next.{Next}
-use Rattle.lexicon.specs.declared.Next.TheVariants as Next
 use Rattle.lexicon.specs.Space.{sp, Skips}
 use Rattle.lexicon.specs.Symbols.{Colons}
 use Rattle.lexicon.specs.Token.{Lexeme, an_ignorance, a_boolean, an_integer, a_fraction, a_bits, a_blob, a_quoted, a_word, a_code_point, a_later, a_symbol, rule, Told, Comes}

@@ -14,7 +14,6 @@ use Rattle.rules.proofs.Chains as Chains
 use Rattle.rules.proofs.Chains.{snoc}
 use Rattle.rules.proofs.Ways.{grows, end_takes}
 use Rattle.lexicon.specs.declared.Encoding.{Encoding}
-use Rattle.lexicon.specs.declared.Encoding.TheVariants as Encoding
 use Rattle.lexicon.specs.declared.Tested.{Tested}
 use Rattle.lexicon.specs.Utf8.{sequence, WellFormed, Encoded}
 use Rattle.lexicon.specs.Steps.{eight, Steps, start, eight_bytes, one_sequence, place_of, TestedAs}

@@ -11,7 +11,7 @@ use Rattle.rules.specs.Every.{Every}
 use Rattle.rules.proofs.Every.{every_at}
 use Rattle.grammar.specs.Tree.{Value}
 use Rattle.grammar.specs.Level.{Level, arrowless, keeps}
-use Rattle.grammar.specs.Nodes.{Role, root, this, thatAfter, thatBefore, name, value, count, low, high, single, role_number, role_word, Node, table, word_at}
+use Rattle.grammar.specs.Nodes.{Role, root, this, thatAfter, thatBefore, name, value, count, low, high, single, role_number, role_word, table, word_at}
 use Rattle.grammar.proofs.NodeLaws.{no_node, node_at}
 use Rattle.grammar.proofs.Retired.{no_that_before}
 use Rattle.reading.specs.declared.Answer.{Answer}
@@ -28,7 +28,6 @@ use Rattle.reading.proofs.Unique.{one_reading}
 use Rattle.reading.proofs.Found.{found}
 use Rattle.reading.proofs.Tabled.{held_word}
 use Rattle.reading.proofs.Arrow.{reading_old, old_fifteen, never_fifteen}
-use Rattle.files.specs.Writes as Writes
 use Rattle.files.specs.Writes.{Writes}
 use Rattle.form.specs.Turn.{turn}
 use Rattle.form.specs.Writes.{Converts, refused, told}

@@ -12,7 +12,6 @@ use lib.ListN.{length}
 use Rattle.rules.proofs.Bools.{and_left, and_right, and_both, not_true, clash}
 use Rattle.lexicon.specs.declared.Token as Token
 use Rattle.lexicon.specs.declared.Next.{Next}
-use Rattle.lexicon.specs.declared.Next.TheVariants as Next
 use Rattle.lexicon.specs.Token.{Comes}
 use Rattle.grammar.specs.Tokens.{Span, Tok, tok, Class, atom, text, names, round, curly, square, mark, later, class_kind}
 use Rattle.grammar.specs.Tree.{Value}

@@ -11,15 +11,13 @@ use Rattle.grammar.specs.Tokens.{Span, word}
 use Rattle.grammar.specs.Tree as Tree
 use Rattle.grammar.specs.Tree.{Value}
 use Rattle.grammar.specs.Level.{level2}
-use Rattle.grammar.specs.Nodes.{table}
-use Rattle.reading.specs.declared.Answer.{Answer}
 use Rattle.reading.specs.Sizes.{base_limits, base, room}
 use Rattle.reading.specs.Answers as Answers
 use Rattle.reading.specs.Answers.{answer, second, Accepted, Reading}
 use Rattle.reading.specs.Tabled.{other_table}
 use Rattle.reading.specs.Tabled as Tabled
 use Rattle.form.specs.Writes.{refused}
-use Rattle.examples.specs.Skips.{skipped, before, Skips}
+use Rattle.examples.specs.Skips.{skipped, Skips}
 use Rattle.examples.proofs.Readable.{is_short, is_formed}
 use Rattle.examples.proofs.Reading.{Sound, holds, Right, verdict, verdict_is}
 use Rattle.examples.proofs.Starred.{all_agree, all_hold}

@@ -14,7 +14,6 @@ use Rattle.reading.proofs.Tests.{None, one_test, no_test}
 use Rattle.reading.proofs.Unique.{one_reading}
 use Rattle.files.specs.File.{file}
 use Rattle.files.specs.Writes.{Read, Writes, no_room, written}
-use Rattle.files.specs.Writes as Writes
 use Rattle.files.specs.Checks.{Unmarked, OtherVersion, Stored, tests, Checks, refused, accepted}
 use Rattle.files.proofs.Bytes.{file_length}
 

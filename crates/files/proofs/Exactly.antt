@@ -13,7 +13,6 @@ use Rattle.reading.proofs.Tests.{no_number}
 use Rattle.reading.proofs.Numbers.{refused_number}
 use Rattle.files.specs.File.{file}
 use Rattle.files.specs.Writes.{Writes, no_room, written}
-use Rattle.files.specs.Writes as Writes
 use Rattle.files.specs.Checks.{Stored, tests, Checks, refused, accepted}
 use Rattle.files.proofs.Determined.{one_checking}
 

@@ -14,7 +14,6 @@ use Rattle.reading.specs.Tests.{First}
 use Rattle.reading.proofs.Tests.{None, first_or_none}
 use Rattle.files.specs.File.{file}
 use Rattle.files.specs.Writes.{Read, Writes, no_room, written}
-use Rattle.files.specs.Writes as Writes
 use Rattle.files.specs.Checks.{Stored, tests, Checks, refused, accepted}
 use Rattle.files.proofs.Determined.{no_tree, one_file}
 

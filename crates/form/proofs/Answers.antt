@@ -13,7 +13,6 @@ use Rattle.reading.specs.declared.Answer.{Answer}
 use Rattle.reading.specs.declared.Rules.{Rules}
 use Rattle.reading.specs.Answers.{Reading}
 use Rattle.reading.specs.Tabled.{Holds, Judged, Tabled}
-use Rattle.reading.specs.Tabled as Tabled
 use Rattle.reading.specs.Buffer.{Fills, no_room, written}
 use Rattle.reading.proofs.Unique.{one_reading}
 use Rattle.reading.proofs.Tabled.{one_tabled}

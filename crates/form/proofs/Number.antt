@@ -2,7 +2,7 @@
 use mathlib.Core.Path.{◌≡◌, refl, sym, subst, ap, ◌∙◌}
 use mathlib.Core.Logic.{inl, inr}
 use mathlib.Core.List.{List, [], ◌++◌, append_assoc, append-nil}
-use Prim.Native.Nat.{ℕ, zero, ◌+◌, ◌≤◌, ◌<◌}
+use Prim.Native.Nat.{ℕ, ◌+◌, ◌≤◌, ◌<◌}
 use native.Mathlib.Nat.{le_antisymm}
 use native.Mathlib.Omega.{arith}
 use native.Mathlib.Decide.{dec_le}
@@ -16,7 +16,7 @@ use Rattle.rules.proofs.Plain.{placed, takes_whole}
 use Rattle.lexicon.specs.declared.Base.{Base}
 use Rattle.lexicon.specs.declared.Base.TheVariants.{Two, Eight, Ten, Sixteen}
 use Rattle.lexicon.specs.declared.Kind.TheVariants.{Fraction}
-use Rattle.lexicon.specs.Bytes.{digits, decimal, radix}
+use Rattle.lexicon.specs.Bytes.{digits, decimal}
 use Rattle.lexicon.specs.Literals.{prefix, nonsigned, sign, integer, spaced, point_of_base, nonsigned_point, radix_point, significand, power, fraction}
 use Rattle.lexicon.specs.Values.{Number}
 use Rattle.lexicon.specs.Bad.{ZeroDenominator, SmallRadix}

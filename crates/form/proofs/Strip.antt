@@ -19,7 +19,7 @@ use Rattle.lexicon.specs.Space.{blank, sp, grave, not_grave}
 use Rattle.lexicon.specs.Bytes.{dividing}
 use Rattle.lexicon.specs.Literals.{joint, unit, groups, segment, content}
 use Rattle.lexicon.proofs.Segments.{quote, not_quote, content_bytes as content-allowed}
-use Rattle.form.specs.Bare.{outside, quotes, comment, kept, dropped, bare_from, bare}
+use Rattle.form.specs.Bare.{outside, quotes, comment, dropped, bare_from, bare}
 use Rattle.form.proofs.Fits.{Sub, Mode, Fits, none, one_of, seq, alt, star, space, units, segments, wide, narrow}
 
 -- ---- one byte

@@ -1,10 +1,10 @@
 -- A derivation without the backward arrow is not turned. Assumes nothing.
-use mathlib.Core.Path.{◌≡◌, refl, ap, ◌∙◌}
+use mathlib.Core.Path.{◌≡◌, refl, ap}
 use mathlib.Core.Bool.{true, false, ◌&&◌, false≢true}
 use Rattle.rules.proofs.Bools.{and_left, and_right}
 use Rattle.grammar.specs.Tree
 use Rattle.grammar.specs.Tree.{rightward, leftward, Value, Plain, Style, Item, Row, Listing, Attributes, Bounds}
-use Rattle.grammar.specs.Level.{Level, arrowless, intervals, has_collection, has_arrow_of, has_joiner, keeps, keeps_plain, keeps_item, keeps_row, keeps_listing, keeps_attributes, keeps_bounds}
+use Rattle.grammar.specs.Level.{Level, arrowless, intervals, has_collection, keeps, keeps_plain, keeps_item, keeps_row, keeps_listing, keeps_attributes, keeps_bounds}
 use Rattle.form.specs.Turn.{turn, turn_plain, turn_item, turn_row, turn_listing, turn_attributes, turn_bounds}
 
 module _ (l : Level) where

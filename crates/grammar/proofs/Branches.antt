@@ -1,5 +1,5 @@
 -- A derivation as nodes under nodes: what the node table holds of it, without groups, commas and tokens. Assumes nothing.
-use mathlib.Core.List.{List, [], ◌∷◌, ◌++◌}
+use mathlib.Core.List.{List, [], ◌++◌}
 use Prim.Native.Nat.{ℕ, ◌+◌}
 use lib.ListN.{length}
 use Rattle.grammar.specs.Tokens.{Span}

@@ -10,7 +10,7 @@ use Rattle.grammar.specs.Tree
 use Rattle.grammar.specs.Tree.{Names, one_name, more_names, PlainName, text_name, nesting_name, Name, plain_name, bare_name, Joiner, Measure, Count, number, truth, Style, opening, attribute, member, copy, Value, Plain, Item, Row, Listing, Attributes, Bounds}
 use Rattle.grammar.specs.Yield.{sign, yield_names, yield_plain_name, yield_name, yield_count, yield_value, yield_plain, yield_item, yield_row, yield_listing, yield_attributes, yield_bounds}
 use Rattle.grammar.specs.Level.{Level, intervals, has_collection, has_arrow_of, has_joiner, keeps, keeps_plain, keeps_item, keeps_row, keeps_listing, keeps_attributes, keeps_bounds}
-use Rattle.grammar.proofs.Frames.{Lead, lead_comma, lead_row, Front, start, led, row, Curly, lot_curly, counted_curly, opened, pair_colon, pair_arrow, in_tuple, attribute_name, square_opened, low_and, up_to, Frame, in_round, in_square, Stack, two_commas, Config, want, have, want_count, have_item, last_attribute, last_item, shut}
+use Rattle.grammar.proofs.Frames.{Lead, lead_comma, lead_row, Front, start, led, row, Curly, lot_curly, counted_curly, opened, pair_colon, pair_arrow, in_tuple, attribute_name, square_opened, low_and, up_to, Frame, in_round, in_square, Stack, Config, want, have, want_count, have_item, shut}
 use Rattle.grammar.proofs.Machine.{advance, run, runs}
 use Rattle.grammar.proofs.Places.{name_value, Place, first_place, next_place, lot_place, counted_place, frame_at, item_read, Holder, tuple_holder, curly_holder, place_in, first_in, led_in, row_in, after_first, after_led, after_next, when_true, item_comma, attribute_close, item_close, no_item_close, led_comma, second_comma, arrow_step, join_step, between_step, from_step, up_to_step, head_step, name_step}
 

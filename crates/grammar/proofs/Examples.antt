@@ -7,7 +7,6 @@ use mathlib.Core.Option.{Option, none, some}
 use Prim.Native.Nat.{ℕ, suc}
 use Rattle.lexicon.specs.declared.Bound.TheVariants.{Open, Less, LessEqual}
 use Rattle.lexicon.specs.declared.Head.{Head}
-use Rattle.lexicon.specs.declared.Head.TheVariants as Head
 use Rattle.grammar.specs.Tokens.{Span, Class, tok, atom, text, names, round, curly, square, mark, later, boolean, integer, spelled, head_word, word, quoted, roundClose, curlyClose, squareClose, comma, colon, rightArrow, leftArrow, dots, star}
 use Rattle.grammar.specs.Level.{Level, level1, level2}
 use Rattle.grammar.proofs.Frames.{Config, want, have, want_text, want_curly, want_count, have_item, want_close}

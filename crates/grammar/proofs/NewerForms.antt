@@ -4,7 +4,6 @@ use mathlib.Core.Bool.{Bool, false}
 use mathlib.Core.List.{List, [], ◌∷◌, ◌++◌}
 use mathlib.Core.Option.{Option, none, some}
 use Rattle.lexicon.specs.declared.Head.{Head}
-use Rattle.lexicon.specs.declared.Head.TheVariants as Head
 use Rattle.grammar.specs.Tokens.{Span, Tok}
 use Rattle.grammar.specs.Level.{Level, has_head}
 use Rattle.grammar.specs.Place.{Begins, Beyond, newer_head, newer_bracket, later_literal, Newer}

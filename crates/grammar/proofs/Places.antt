@@ -11,7 +11,7 @@ use Rattle.grammar.specs.Tree.{PlainName, text_name, nesting_name, plain_name, A
 use Rattle.grammar.specs.Yield.{arrow_mark, joiner_mark, side_bound, between_mark, collection_head}
 use Rattle.grammar.specs.Level.{Level, has_collection, has_arrow_of, has_joiner}
 use Rattle.grammar.proofs.Frames.{Lead, lead_comma, lead_row, Front, start, led, row, Curly, lot_curly, counted_curly, opened, pair_colon, pair_arrow, in_tuple, attribute_name, CurlyFrame, member_joined, square_opened, low_and, up_to, Frame, in_round, in_square, Stack, two_commas, bounded, Config, want, have, want_curly, have_item, want_close, next_attribute, last_attribute, next_item, last_item, no_further, shut}
-use Rattle.grammar.proofs.Machine.{when, joined, step}
+use Rattle.grammar.proofs.Machine.{when, step}
 
 -- a name as the value that the machine takes it for at first
 abbrev pub name_value : PlainName → Plain

@@ -11,7 +11,7 @@ use Rattle.grammar.specs.Tree.{Style}
 use Rattle.grammar.specs.Yield.{sign, arrow_mark, joiner_mark, side_bound, between_mark, yield_name, yield_value}
 use Rattle.grammar.specs.Level.{Level, intervals, has_collection, has_arrow_of, has_joiner, keeps, keeps_plain, keeps_row}
 use Rattle.grammar.proofs.Frames.{Lead, lead_comma, lead_row, Front, start, led, row, Curly, lot_curly, counted_curly, RoundFrame, opened, pair_colon, pair_arrow, in_tuple, attribute_name, CurlyFrame, member_joined, SquareFrame, square_opened, low_and, up_to, Frame, in_round, in_square, Stack, Config, want}
-use Rattle.grammar.proofs.Machine.{curly, advance, run, runs}
+use Rattle.grammar.proofs.Machine.{advance, run, runs}
 use Rattle.grammar.proofs.Places.{tuple_holder, curly_holder, place_in, frame_at, when_true, led_comma, arrow_step, join_step, between_step, up_to_step, head_step}
 use Rattle.grammar.proofs.Complete.{onward, run_name, run_value, run_plain, run_row}
 use Rattle.grammar.proofs.Behind.{behind_lead, behind_front, behind_round, behind_curly_frame, behind_square, behind_frame, behind_stack, kept_lead, kept_front, kept_curly, kept_round, kept_curly_frame, kept_square, kept_frame, kept_stack}

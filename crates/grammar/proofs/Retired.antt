@@ -10,20 +10,19 @@ use native.Mathlib.Omega.{arith}
 use Rattle.rules.specs.Every.{Every, none, also}
 use Rattle.rules.proofs.Every.{every_map}
 use Rattle.lexicon.specs.declared.Head.{Head}
-use Rattle.lexicon.specs.declared.Head.TheVariants as Head
 use Rattle.grammar.specs.Tokens
 use Rattle.grammar.specs.Tokens.{Span, Tok, tok, Class}
 use Rattle.grammar.specs.Tree.{Value, Style, leftward}
 use Rattle.grammar.specs.Yield.{yield_value}
 use Rattle.grammar.specs.Level.{Level, Feature, arrays, sets, bags, intervals, leftArrows, arrowless, ◌Within◌, has_head, keeps}
 use Rattle.grammar.specs.Place.{Wrong}
-use Rattle.grammar.specs.Nodes.{Role, thatBefore, Node, table}
+use Rattle.grammar.specs.Nodes.{thatBefore, table}
 use Rattle.grammar.proofs.Frames.{Config, Stack, Front, Curly, lot_curly, counted_curly, RoundFrame, opened, pair_colon, pair_arrow, in_tuple, attribute_name, CurlyFrame, member_joined, Frame, in_round, in_square, want, have, want_text, want_curly, want_count, have_item, want_close}
-use Rattle.grammar.proofs.Machine.{lead_mark, arrow_round, arrow_in, behind_mark, step, advance, run, runs}
+use Rattle.grammar.proofs.Machine.{lead_mark, arrow_round, arrow_in, behind_mark, step, advance, run}
 use Rattle.grammar.proofs.Complete.{accepted}
 use Rattle.grammar.proofs.Accepts.{run_none, reached}
 use Rattle.grammar.proofs.Viable.{wrong_runs, runs_wrong}
-use Rattle.grammar.proofs.SameSteps.{SameForms, step_same}
+use Rattle.grammar.proofs.SameSteps.{step_same}
 use Rattle.grammar.proofs.Nodes.{Told, table_made}
 
 -- the token is not the backward arrow

@@ -3,7 +3,6 @@ use mathlib.Core.Path.{◌≡◌, refl, ap}
 use mathlib.Core.Bool.{Bool}
 use mathlib.Core.List.{[], ◌∷◌}
 use Rattle.lexicon.specs.declared.Head.{Head}
-use Rattle.lexicon.specs.declared.Head.TheVariants as Head
 use Rattle.grammar.specs.Tokens
 use Rattle.grammar.specs.Tokens.{Span, Tok, Mark, Class}
 use Rattle.grammar.specs.Tree

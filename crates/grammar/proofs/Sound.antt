@@ -6,7 +6,6 @@ use mathlib.Core.Option.{Option, none, some}
 use Rattle.lexicon.specs.declared.Bound.{Bound}
 use Rattle.lexicon.specs.declared.Bound.TheVariants.{Open, Less, LessEqual}
 use Rattle.lexicon.specs.declared.Head.{Head}
-use Rattle.lexicon.specs.declared.Head.TheVariants as Head
 use Rattle.grammar.specs.Tokens
 use Rattle.grammar.specs.Tokens.{Span, Tok, tok, Mark, Class, Atom, spelled, head_word}
 use Rattle.grammar.specs.Tree
@@ -14,7 +13,7 @@ use Rattle.grammar.specs.Tree.{Names, Arrow, rightward, leftward, Collection, Me
 use Rattle.grammar.specs.Yield.{sign, arrow_mark, side_bound, between_mark}
 use Rattle.grammar.specs.Level.{Level, intervals, arrays, sets, bags, has_arrow_of, keeps, keeps_plain, keeps_row}
 use Rattle.grammar.proofs.Frames.{Lead, lead_comma, lead_row, Front, start, led, row, Curly, lot_curly, counted_curly, RoundFrame, opened, pair_colon, pair_arrow, in_tuple, attribute_name, CurlyFrame, member_joined, SquareFrame, square_opened, low_and, up_to, Frame, in_round, in_square, Stack, Closing, two_commas, headed, bounded, Config, want, have, want_text, want_curly, want_count, have_item, want_close, next_names, next_attribute, no_further, plain_name_of, name_of, names_of}
-use Rattle.grammar.proofs.Machine.{curly, text_value, empty_round, empty_curly, empty_square, lead_round, lead_curly, star_right, lead_star, lead_mark, want_mark, close_round, close_curly, close_square, comma_pair_of, comma_round, comma_curly, colon_attribute_of, colon_in, colon_curly, low_sign, low_open, star_side, star_square, names_go, count_of, counted, item_mark, closing, head_colon, colon_first_of, colon_round, arrow_round, arrow_in, arrow, behind_mark, have_mark, want_class, have_class, text_class, curly_class, count_class, item_class, close_class, step}
+use Rattle.grammar.proofs.Machine.{text_value, empty_round, empty_curly, empty_square, lead_round, lead_curly, star_right, lead_star, lead_mark, want_mark, close_round, close_curly, close_square, comma_pair_of, comma_round, comma_curly, colon_attribute_of, colon_in, colon_curly, low_sign, low_open, star_side, star_square, names_go, count_of, counted, item_mark, closing, head_colon, colon_first_of, colon_round, arrow_round, arrow_in, arrow, behind_mark, have_mark, want_class, have_class, text_class, curly_class, count_class, item_class, close_class, step}
 use Rattle.grammar.proofs.Behind.{behind_curly, behind_stack, kept_front, kept_curly, kept_stack}
 use Rattle.grammar.proofs.Parts.{shut_behind, none_behind, next_attribute_behind, last_attribute_behind, none_kept, next_attribute_kept, last_attribute_kept, shut_kept, Sound, Takes, goes, sound_when, item_shut, item_next}
 

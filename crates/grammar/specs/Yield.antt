@@ -3,7 +3,6 @@ use Rattle.std.specs.Prelude.{false, List, ◌∷◌}
 use Rattle.lexicon.specs.declared.Bound.{Bound}
 use Rattle.lexicon.specs.declared.Bound.TheVariants.{Open, Less, LessEqual}
 use Rattle.lexicon.specs.declared.Head.{Head}
-use Rattle.lexicon.specs.declared.Head.TheVariants as Head
 use Rattle.grammar.specs.Tokens
 use Rattle.grammar.specs.Tokens.{Span, Tok, tok, Mark, atom, text, names, round, curly, square, mark, boolean}
 use Rattle.grammar.specs.Tokens.{integer, spelled, head_word}

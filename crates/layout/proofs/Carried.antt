@@ -7,7 +7,6 @@ use native.Mathlib.Omega.{arith}
 use lib.ListN.{length, get_or}
 use Rattle.rules.specs.Class.{Class, In}
 use Rattle.rules.specs.Rule.{Rule, one, many, opt, Takes, nothing, byte, both, left, right, stop, more, At, Longest, Fails}
-use Rattle.rules.specs.Plain.{between}
 use Rattle.rules.proofs.Matches.{forward, inside, one_at}
 use Rattle.rules.proofs.Windows.{Window, Moves, shift, same_window, window_more, takes_moves}
 use Rattle.rules.proofs.Chains.{reaches, many_of_opt, many_of_times, each}

@@ -9,7 +9,7 @@ use borrow.Author.Tests.{leb-true, le-leb}
 use lib.Dec.{leb}
 use lib.ListN.{length, get_or, drop, length-drop, length-append}
 use Rattle.rules.specs.Class.{In}
-use Rattle.rules.specs.Rule.{one, Takes, byte, both, At, Longest, Fails}
+use Rattle.rules.specs.Rule.{Takes, byte, both, At, Longest, Fails}
 use Rattle.rules.specs.Plain.{between}
 use Rattle.rules.proofs.Matches.{longest_same, forward}
 use Rattle.rules.proofs.Plain.{placed, byte_is, byte_stands}

@@ -12,13 +12,11 @@ use Rattle.rules.proofs.Matches.{forward, longest_same}
 use Rattle.rules.proofs.Chains.{Single, reaches, longest}
 use Rattle.rules.proofs.Ways.{covers, single, end_takes}
 use Rattle.lexicon.specs.declared.Encoding.{Encoding}
-use Rattle.lexicon.specs.declared.Encoding.TheVariants as Encoding
 use Rattle.lexicon.specs.Utf8.{sequence, WellFormed, BadAt, Encoded}
 use Rattle.lexicon.specs.Front.{Front, first_line}
 use Rattle.lexicon.specs.declared.Kind.{Kind}
 use Rattle.lexicon.specs.declared.Token as Token
 use Rattle.lexicon.specs.declared.Next.{Next}
-use Rattle.lexicon.specs.declared.Next.TheVariants as Next
 use Rattle.lexicon.specs.Space.{sp}
 use Rattle.lexicon.specs.Token.{Is, Bad, Comes}
 use Rattle.lexicon.proofs.Spaces.{skips_same}

@@ -9,7 +9,7 @@ use native.Mathlib.Omega.{arith}
 use lib.ListN.{length}
 use Rattle.rules.specs.Class.{Class, ◌upto◌}
 use Rattle.rules.specs.Every.{Every}
-use Rattle.rules.specs.Rule.{Rule, many, times, At, Takes, nothing, byte, both, left, stop, more, Fails}
+use Rattle.rules.specs.Rule.{Rule, many, times, At, Takes, nothing, byte, both, left, stop, Fails}
 use Rattle.rules.proofs.Classes.{in_first_lem}
 use Rattle.rules.proofs.Every.{every_at}
 use Rattle.rules.proofs.Matches.{starting}

@@ -3,7 +3,6 @@ use Rattle.std.specs.Prelude.{◌≡◌, cond, List, ℕ, ◌+◌, ◌-◌, ◌<
 use Rattle.rules.specs.Class.{Class, byte_of, just}
 use Rattle.rules.specs.Rule.{Rule, ◌then◌, opt, At, Takes}
 use Rattle.lexicon.specs.declared.Set.{Set}
-use Rattle.lexicon.specs.declared.Set.TheVariants as Set
 use Rattle.lexicon.specs.declared.Base.{Base}
 use Rattle.lexicon.specs.declared.Base.TheVariants.{Two, Eight, Ten, Sixteen}
 use Rattle.lexicon.specs.Bytes.{decimal, digits}

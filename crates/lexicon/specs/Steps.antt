@@ -3,7 +3,6 @@
 use Rattle.std.specs.Prelude.{List, ℕ, suc, length}
 use Rattle.rules.specs.Rule.{Rule, times, Takes, Fails}
 use Rattle.lexicon.specs.declared.Encoding.{Encoding}
-use Rattle.lexicon.specs.declared.Encoding.TheVariants as Encoding
 use Rattle.lexicon.specs.declared.Tested.{Tested}
 use Rattle.lexicon.specs.Utf8.{range, sequence, Encoded}
 

@@ -4,9 +4,7 @@ use mathlib.Core.Bool.{true}
 use mathlib.Core.List.{◌∷◌}
 use mathlib.Core.Option.{Option, none, some}
 use Rattle.lexicon.specs.declared.Sign.{Sign}
-use Rattle.lexicon.specs.declared.Sign.TheVariants as Sign
 use Rattle.lexicon.specs.declared.Kind.{Kind}
-use Rattle.lexicon.specs.declared.Kind.TheVariants as Kind
 use Rattle.grammar.specs.Tokens
 use Rattle.grammar.specs.Tokens.{Span, tok, class_sign, class_kind}
 use Rattle.grammar.specs.Tree

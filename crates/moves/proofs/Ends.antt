@@ -13,10 +13,8 @@ use Rattle.grammar.specs.Nodes.{both, nodes, nodes_plain, nodes_plain_name, node
 use Rattle.grammar.proofs.Frames.{Lead, lead_comma, lead_row, Front, row, Curly, lot_curly, counted_curly, RoundFrame, opened, pair_colon, pair_arrow, in_tuple, attribute_name, CurlyFrame, member_joined, SquareFrame, square_opened, low_and, up_to, Frame, in_round, in_square, Stack, have, next_attribute, last_attribute, next_item, last_item, plain_name_of}
 use Rattle.grammar.proofs.Machine as Machine
 use Rattle.moves.specs.declared.Role.{Role}
-use Rattle.moves.specs.declared.Role.TheVariants as Role
 use Rattle.moves.specs.declared.RoundFrame.TheVariants as Round
 use Rattle.moves.specs.declared.Move.{Move}
-use Rattle.moves.specs.declared.Move.TheVariants as Move
 use Rattle.moves.proofs.Model as Model
 use Rattle.moves.specs.Means.{role_of, given, leftward, left_joiner, style_of, round_of, curly_of, square_of, up_to_detail, leading, fronted, then}
 use Rattle.moves.specs.Effects.{Does}

@@ -5,9 +5,7 @@ use Prim.Native.Nat.{◌+◌}
 use Rattle.lexicon.specs.declared.Bound.{Bound}
 use Rattle.lexicon.specs.declared.Bound.TheVariants.{Open, Less, LessEqual}
 use Rattle.lexicon.specs.declared.Sign.{Sign}
-use Rattle.lexicon.specs.declared.Sign.TheVariants as Sign
 use Rattle.lexicon.specs.declared.Kind.{Kind}
-use Rattle.lexicon.specs.declared.Kind.TheVariants as Kind
 use Rattle.grammar.specs.Tokens
 use Rattle.grammar.specs.Tokens.{Span, tok, Mark, class_sign, class_kind}
 use Rattle.grammar.specs.Tree

@@ -4,19 +4,13 @@ use Prim.Native.Nat.{ℕ}
 use Rattle.lexicon.specs.declared.Bound.{Bound}
 use Rattle.lexicon.specs.declared.Bound.TheVariants.{Open, Less, LessEqual}
 use Rattle.lexicon.specs.declared.Sign.{Sign}
-use Rattle.lexicon.specs.declared.Sign.TheVariants as Sign
 use Rattle.lexicon.specs.declared.Kind.{Kind}
-use Rattle.lexicon.specs.declared.Kind.TheVariants as Kind
 use Rattle.grammar.specs.Nodes.{kind_number_of}
 use Rattle.moves.specs.declared.Forms.{Forms}
 use Rattle.moves.specs.declared.Role.{Role}
-use Rattle.moves.specs.declared.Role.TheVariants as Role
 use Rattle.moves.specs.declared.Shape.{Shape}
-use Rattle.moves.specs.declared.Shape.TheVariants as Shape
 use Rattle.moves.specs.declared.Style.{Style}
-use Rattle.moves.specs.declared.Style.TheVariants as Style
 use Rattle.moves.specs.declared.Front.{Front}
-use Rattle.moves.specs.declared.Front.TheVariants as Front
 use Rattle.moves.specs.declared.RoundFrame.{RoundFrame}
 use Rattle.moves.specs.declared.RoundFrame.TheVariants as Round
 use Rattle.moves.specs.declared.CurlyFrame.{CurlyFrame}
@@ -24,11 +18,8 @@ use Rattle.moves.specs.declared.CurlyFrame.TheVariants as Curly
 use Rattle.moves.specs.declared.SquareFrame.{SquareFrame}
 use Rattle.moves.specs.declared.SquareFrame.TheVariants as Square
 use Rattle.moves.specs.declared.Frame.{Frame}
-use Rattle.moves.specs.declared.Frame.TheVariants as Frame
 use Rattle.moves.specs.declared.Mode.{Mode}
-use Rattle.moves.specs.declared.Mode.TheVariants as Mode
 use Rattle.moves.specs.declared.Move.{Move}
-use Rattle.moves.specs.declared.Move.TheVariants as Move
 use Rattle.moves.specs.Means.{kind_of}
 pub use Rattle.moves.specs.Moves.{shut}
 

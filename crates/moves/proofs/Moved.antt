@@ -2,7 +2,6 @@
 use mathlib.Core.Path.{◌≡◌, refl, sym, ap, subst, ◌∙◌}
 use mathlib.Core.Bool.{Bool, true, false}
 use Rattle.lexicon.specs.declared.Kind.{Kind}
-use Rattle.lexicon.specs.declared.Kind.TheVariants as Kind
 use Rattle.grammar.specs.Level as Level
 use Rattle.grammar.specs.Tokens.{tok, class_kind}
 use Rattle.grammar.specs.Nodes as Nodes
@@ -10,13 +9,11 @@ use Rattle.moves.specs.declared.CurlyFrame.{CurlyFrame}
 use Rattle.moves.specs.declared.Forms.{Forms}
 use Rattle.moves.specs.declared.Frame.TheVariants as Frame
 use Rattle.moves.specs.declared.Mode.{Mode}
-use Rattle.moves.specs.declared.Mode.TheVariants as Mode
 use Rattle.moves.specs.declared.Move.{Move}
 use Rattle.moves.specs.declared.Role.{Role}
 use Rattle.moves.specs.declared.RoundFrame.{RoundFrame}
 use Rattle.moves.specs.declared.Shape.{Shape}
 use Rattle.moves.specs.declared.Style.{Style}
-use Rattle.moves.specs.declared.Style.TheVariants as Style
 use Rattle.moves.specs.Means.{level_of, role_of, arrow_of, arrow_sign, items_of}
 use Rattle.moves.specs.Effects.{Does}
 use Rattle.moves.specs.Moves.{Moves}

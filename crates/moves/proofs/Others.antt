@@ -6,9 +6,7 @@ use mathlib.Core.Option.{Option, none, some}
 use Prim.Native.Nat.{ℕ, ◌+◌}
 use lib.ListN.{length}
 use Rattle.lexicon.specs.declared.Sign.{Sign}
-use Rattle.lexicon.specs.declared.Sign.TheVariants as Sign
 use Rattle.lexicon.specs.declared.Kind.{Kind}
-use Rattle.lexicon.specs.declared.Kind.TheVariants as Kind
 use Rattle.grammar.specs.Tokens
 use Rattle.grammar.specs.Tokens.{Span, tok, Atom, Wording, class_sign, class_kind}
 use Rattle.grammar.specs.Tree
@@ -21,7 +19,6 @@ use Rattle.grammar.proofs.Machine.{step, count_of, counted}
 use Rattle.moves.specs.declared.Forms.{Forms}
 use Rattle.moves.specs.declared.Role.TheVariants as Role
 use Rattle.moves.specs.declared.Move.{Move}
-use Rattle.moves.specs.declared.Move.TheVariants as Move
 use Rattle.moves.proofs.Model as Model
 use Rattle.moves.specs.Means.{collection_style, style_of, mode_of, fronted, then}
 use Rattle.moves.specs.Effects.{counting, Does}

@@ -11,27 +11,21 @@ use Rattle.lexicon.specs.contracts.Bound as BoundType
 use Rattle.lexicon.specs.contracts.Kind as KindType
 use Rattle.lexicon.specs.contracts.Sign as SignType
 use Rattle.lexicon.specs.declared.Bound.{Bound}
-use Rattle.lexicon.specs.declared.Bound.TheVariants as Bound
 use Rattle.lexicon.specs.declared.Form.{Form}
 use Rattle.lexicon.specs.declared.Head.{Head}
 use Rattle.lexicon.specs.declared.Kind.{Kind}
-use Rattle.lexicon.specs.declared.Kind.TheVariants as Kind
 use Rattle.lexicon.specs.declared.Sign.{Sign}
-use Rattle.lexicon.specs.declared.Sign.TheVariants as Sign
 use Rattle.moves.specs.contracts.RoundFrame as RoundType
 use Rattle.moves.specs.contracts.Shape as ShapeType
 use Rattle.moves.specs.contracts.SquareFrame as SquareType
 use Rattle.moves.specs.contracts.Style as StyleType
 use Rattle.moves.specs.declared.Move.{Move}
-use Rattle.moves.specs.declared.Move.TheVariants as Move
 use Rattle.moves.specs.declared.RoundFrame.{RoundFrame}
 use Rattle.moves.specs.declared.RoundFrame.TheVariants as Round
 use Rattle.moves.specs.declared.Shape.{Shape}
-use Rattle.moves.specs.declared.Shape.TheVariants as Shape
 use Rattle.moves.specs.declared.SquareFrame.{SquareFrame}
 use Rattle.moves.specs.declared.SquareFrame.TheVariants as Square
 use Rattle.moves.specs.declared.Style.{Style}
-use Rattle.moves.specs.declared.Style.TheVariants as Style
 use Rattle.moves.proofs.Model as Model
 
 -- A is asked where the arm has the variant

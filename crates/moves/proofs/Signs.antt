@@ -18,11 +18,9 @@ use Rattle.grammar.proofs.Machine as Machine
 use Rattle.grammar.proofs.Machine.{step}
 use Rattle.moves.specs.declared.Forms.{Forms}
 use Rattle.moves.specs.declared.Role.{Role}
-use Rattle.moves.specs.declared.Role.TheVariants as Role
 use Rattle.moves.specs.declared.RoundFrame.TheVariants as Round
 use Rattle.moves.specs.declared.Mode.TheVariants as Mode
 use Rattle.moves.specs.declared.Move.{Move}
-use Rattle.moves.specs.declared.Move.TheVariants as Move
 use Rattle.moves.proofs.Model as Model
 use Rattle.moves.specs.Means.{level_of, given, name_shape, shape_of, leftward, style_of, round_of, curly_of, square_of, frame_of, frame_span, framed, leading, fronted, then}
 use Rattle.moves.specs.Effects.{flat, head_bare, opening_frame, told, Does}

@@ -18,10 +18,8 @@ use Rattle.grammar.proofs.Frames.{Config, want, have, want_close, Stack, Closing
 use Rattle.grammar.proofs.Machine.{step}
 use Rattle.grammar.proofs.NodeLaws.{some_node}
 use Rattle.moves.specs.declared.Role.{Role}
-use Rattle.moves.specs.declared.Role.TheVariants as Role
 use Rattle.moves.specs.declared.Shape.TheVariants as Shape
 use Rattle.moves.specs.declared.Mode.{Mode}
-use Rattle.moves.specs.declared.Mode.TheVariants as Mode
 use Rattle.moves.specs.declared.Move.TheVariants as Move
 use Rattle.moves.proofs.Model as Model
 use Rattle.moves.specs.Means.{shape_of, style_of, frame_of, mode_of, curly_span, frame_span, open_of, below, framed, before}

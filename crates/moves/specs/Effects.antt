@@ -2,7 +2,6 @@
 use Rattle.std.specs.Prelude.{◌≡◌, Bool, true, false, List, [], ◌∷◌, ◌++◌, ◌⊎◌, ℕ}
 use Rattle.std.proofs.Math.Option.{none, some}
 use Rattle.lexicon.specs.declared.Kind.{Kind}
-use Rattle.lexicon.specs.declared.Kind.TheVariants as Kind
 use Rattle.grammar.specs.Tokens
 use Rattle.grammar.specs.Tokens.{Span, Tok, Class, Mark, Atom}
 use Rattle.grammar.specs.Tree
@@ -14,18 +13,14 @@ use Rattle.grammar.proofs.Frames as Frames
 use Rattle.grammar.proofs.Frames.{Config, Stack, names_of}
 use Rattle.grammar.proofs.Machine.{step}
 use Rattle.moves.specs.declared.Role.{Role}
-use Rattle.moves.specs.declared.Role.TheVariants as Role
 use Rattle.moves.specs.declared.Shape.TheVariants as Shape
 use Rattle.moves.specs.declared.Style.{Style}
 use Rattle.moves.specs.declared.Front.TheVariants as Front
 use Rattle.moves.specs.declared.RoundFrame.TheVariants as Round
 use Rattle.moves.specs.declared.CurlyFrame.TheVariants as Curly
 use Rattle.moves.specs.declared.Frame.{Frame}
-use Rattle.moves.specs.declared.Frame.TheVariants as Frame
 use Rattle.moves.specs.declared.Mode.{Mode}
-use Rattle.moves.specs.declared.Mode.TheVariants as Mode
 use Rattle.moves.specs.declared.Move.{Move}
-use Rattle.moves.specs.declared.Move.TheVariants as Move
 use Rattle.moves.specs.Means.{given, role_of, shape_of, mode_of, inside}
 use Rattle.moves.specs.Means.{open_of, below, before, last, children, roled}
 

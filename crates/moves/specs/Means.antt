@@ -3,7 +3,6 @@
 use Rattle.std.specs.Prelude.{Bool, true, false, List, [], ◌∷◌, ◌++◌, ℕ, ◌+◌, length}
 use Rattle.std.proofs.Math.Option.{Option, none, some}
 use Rattle.lexicon.specs.declared.Sign.{Sign}
-use Rattle.lexicon.specs.declared.Sign.TheVariants as Sign
 use Rattle.grammar.specs.Tokens.{Span}
 use Rattle.grammar.specs.Tree
 use Rattle.grammar.specs.Tree.{Arrow, Joiner, Collection, Side, Value}
@@ -17,13 +16,9 @@ pub use Rattle.grammar.proofs.NodeLaws.{roled}
 use Rattle.grammar.proofs.Frames.{Config, Stack, plain_name_of}
 use Rattle.moves.specs.declared.Forms.{Forms}
 use Rattle.moves.specs.declared.Role.{Role}
-use Rattle.moves.specs.declared.Role.TheVariants as Role
 use Rattle.moves.specs.declared.Shape.{Shape}
-use Rattle.moves.specs.declared.Shape.TheVariants as Shape
 use Rattle.moves.specs.declared.Style.{Style}
-use Rattle.moves.specs.declared.Style.TheVariants as Style
 use Rattle.moves.specs.declared.Front.{Front}
-use Rattle.moves.specs.declared.Front.TheVariants as Front
 use Rattle.moves.specs.declared.RoundFrame.{RoundFrame}
 use Rattle.moves.specs.declared.RoundFrame.TheVariants as Round
 use Rattle.moves.specs.declared.CurlyFrame.{CurlyFrame}
@@ -31,9 +26,7 @@ use Rattle.moves.specs.declared.CurlyFrame.TheVariants as Curly
 use Rattle.moves.specs.declared.SquareFrame.{SquareFrame}
 use Rattle.moves.specs.declared.SquareFrame.TheVariants as Square
 use Rattle.moves.specs.declared.Frame.{Frame}
-use Rattle.moves.specs.declared.Frame.TheVariants as Frame
 use Rattle.moves.specs.declared.Mode.{Mode}
-use Rattle.moves.specs.declared.Mode.TheVariants as Mode
 
 -- the level that has the forms
 abbrev pub level_of : Forms → Level

@@ -7,10 +7,8 @@ use Rattle.grammar.proofs.Frames.{Config}
 use Rattle.moves.specs.declared.Forms.{Forms}
 use Rattle.moves.specs.declared.Mode.{Mode}
 use Rattle.moves.specs.declared.Move.{Move}
-use Rattle.moves.specs.declared.Move.TheVariants as Move
 use Rattle.moves.specs.declared.Role.{Role}
 use Rattle.moves.specs.declared.Style.{Style}
-use Rattle.moves.specs.declared.Style.TheVariants as Style
 use Rattle.moves.specs.Means.{level_of, mode_of}
 use Rattle.moves.specs.Effects.{Asked, Does}
 

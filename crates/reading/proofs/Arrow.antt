@@ -3,7 +3,7 @@
 use mathlib.Core.Path.{◌≡◌, refl, sym, ap, subst, ◌∙◌}
 use mathlib.Core.Bool.{false, true}
 use mathlib.Core.Logic.{◌⊎◌, inl, inr, ◌↔◌}
-use mathlib.Core.List.{List, [], ◌∷◌, ◌++◌}
+use mathlib.Core.List.{List, [], ◌∷◌}
 use mathlib.Core.Option.{Option}
 use Prim.Native.Nat.{ℕ, ◌+◌, ◌≤◌, ◌<◌}
 use native.Mathlib.Omega.{arith}
@@ -17,7 +17,6 @@ use Rattle.rules.proofs.Bools.{clash}
 use Rattle.rules.proofs.Every.{every_first, every_append}
 use Rattle.lexicon.specs.declared.Sign.TheVariants as Sign
 use Rattle.lexicon.specs.declared.Kind.{Kind}
-use Rattle.lexicon.specs.declared.Kind.TheVariants as Kind
 use Rattle.lexicon.specs.declared.Token as Token
 use Rattle.lexicon.specs.declared.Next.TheVariants as Next
 use Rattle.lexicon.specs.Utf8.{WellFormed}
@@ -35,8 +34,8 @@ use Rattle.reading.specs.declared.Rules.{Rules}
 use Rattle.reading.specs.Sizes.{with_arrow}
 use Rattle.reading.specs.Tokens.{seen, Follow, open_behind, opened}
 use Rattle.reading.specs.Tests.{test, First}
-use Rattle.reading.specs.Faults.{NewerAt, Retired, TooDeep, tests, Fault, no_token, wrong_end, at_token, Passed, begun, passed, FirstFault, AllPassed}
-use Rattle.reading.specs.Answers.{LevelOf, answer, Accepted, Reading, Answers, no_level, too_long, not_utf8, faulty, no_room, accepted}
+use Rattle.reading.specs.Faults.{NewerAt, Retired, TooDeep, tests, Fault, no_token, wrong_end, at_token, Passed, begun, passed, FirstFault}
+use Rattle.reading.specs.Answers.{LevelOf, Accepted, Reading, Answers, no_level, too_long, not_utf8, faulty, no_room, accepted}
 use Rattle.reading.specs.Arrow.{IsArrow, NoArrows, FirstArrow, Retirement}
 use Rattle.reading.proofs.Placed.{placed_first, at_first, no_test_holds}
 use Rattle.reading.proofs.Tests.{None, no_test, behind as others, no_number, Alike, alike_back, first_alike, none_alike}

@@ -10,7 +10,6 @@ use native.Mathlib.Omega.{arith}
 use Rattle.rules.proofs.Bools.{clash}
 use Rattle.lexicon.specs.declared.Token as Token
 use Rattle.lexicon.specs.declared.Next.{Next}
-use Rattle.lexicon.specs.declared.Next.TheVariants as Next
 use Rattle.lexicon.specs.Token.{Comes}
 use Rattle.grammar.specs.Tokens
 use Rattle.grammar.specs.Tokens.{Mark, Class, Tok}

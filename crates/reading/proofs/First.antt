@@ -1,20 +1,18 @@
 -- The first faulty token is one: no text has two first faults, and a text whose tokens all pass has none. Assumes nothing.
 use mathlib.Core.Path.{◌≡◌, refl, sym, ap, subst}
-use mathlib.Core.Bool.{true}
 use mathlib.Core.List.{List, [], ◌∷◌}
 use Prim.Native.Nat.{ℕ, ◌≤◌, ◌<◌}
 use native.Mathlib.Omega.{arith}
 use lib.ListN.{length, length-append}
 use Rattle.lexicon.specs.declared.Token as Token
 use Rattle.lexicon.specs.declared.Next.{Next}
-use Rattle.lexicon.specs.declared.Next.TheVariants as Next
 use Rattle.lexicon.specs.Front.{Front}
 use Rattle.lexicon.specs.Token.{Comes}
 use Rattle.rules.proofs.Matches.{forward}
 use Rattle.lexicon.proofs.Determined.{one_front}
 use Rattle.grammar.specs.Tokens.{Tok}
 use Rattle.grammar.specs.Level.{Level}
-use Rattle.grammar.specs.Place.{Wrong, WrongEnd}
+use Rattle.grammar.specs.Place.{WrongEnd}
 use Rattle.reading.specs.declared.Limits.{Limits}
 use Rattle.reading.specs.Tokens.{seen, Follow, nothing, next}
 use Rattle.reading.specs.Faults.{tests, PlaceOf, Fault, no_token, wrong_end, at_token, Passed, begun, passed, FirstFault, AllPassed}

@@ -8,7 +8,6 @@ use Rattle.rules.specs.Every.{Every, none, also}
 use Rattle.rules.proofs.Matches.{forward}
 use Rattle.lexicon.specs.declared.Token as Token
 use Rattle.lexicon.specs.declared.Next.{Next}
-use Rattle.lexicon.specs.declared.Next.TheVariants as Next
 use Rattle.lexicon.specs.Token.{Comes}
 use Rattle.lexicon.proofs.Unique.{token_forward}
 use Rattle.lexicon.proofs.Determined.{one_answer}

@@ -21,7 +21,7 @@ use Rattle.grammar.proofs.Viable as Viable
 use Rattle.grammar.proofs.Viable.{Final, one_more, stuck_wrong, wrong_stuck, Wants, value_wants}
 use Rattle.reading.specs.declared.Limits.{Limits}
 use Rattle.reading.specs.Tokens.{seen}
-use Rattle.reading.specs.Faults.{NewerAt, Retired, TooDeep, tests, of_value, Fault, no_token, wrong_end, at_token, Passed, begun, passed, FirstFault}
+use Rattle.reading.specs.Faults.{NewerAt, Retired, TooDeep, of_value, Fault, no_token, wrong_end, at_token, Passed, begun, passed, FirstFault}
 use Rattle.reading.proofs.Placed.{at_first}
 use Rattle.reading.proofs.Decide.{faultless, no_step}
 

@@ -2,7 +2,6 @@
 -- Assumes nothing.
 use Rattle.std.specs.Prelude.{◌≡◌, Bool, true, false, ◌&&◌, ◌||◌, List, [], ◌∷◌, ℕ, leb}
 use Prim.Native.Char.{Char, code}
-use Prim.Native.String as String
 use Prim.Native.String.{String}
 
 -- the byte of an ASCII character

@@ -1,7 +1,7 @@
 -- The bits of Bits and the bytes of a Blob: they are determined, Bits have some, and it is settled whether a Blob has. So the two calls have
 -- exactly one answer, and there is a buffer that is always enough. Assumes nothing.
 use mathlib.Core.Path.{refl, sym, ◌∙◌}
-use mathlib.Core.Logic.{◌⊎◌, inl, inr, ⊎_elim}
+use mathlib.Core.Logic.{inl, inr, ⊎_elim}
 use mathlib.Core.List.{List}
 use Prim.Native.Nat.{ℕ}
 use native.Mathlib.Omega.{arith}
@@ -9,7 +9,6 @@ use lib.ListN.{length}
 use Rattle.lexicon.specs.Values.{BlobOf}
 use Rattle.lexicon.proofs.Contents.{has_bits, bits_same, bits_short, blob_same, blob_short}
 use Rattle.lexicon.proofs.Unfit.{bytes_or_none}
-use Rattle.decisions.proofs.Tests.{settled}
 use Rattle.values.specs.Bits.{bits_call}
 use Rattle.values.specs.Blob.{blob_call}
 use Rattle.values.proofs.BytesDetermined.{Good, Settled}

@@ -6,7 +6,6 @@ use Prim.Native.Nat.{ℕ, ◌≤◌}
 use native.Mathlib.Omega.{arith}
 use lib.ListN.{length}
 use Rattle.lexicon.specs.declared.Encoding.{Encoding}
-use Rattle.lexicon.specs.declared.Encoding.TheVariants as Encoding
 use Rattle.lexicon.specs.Utf8.{WellFormed, Encoded}
 use Rattle.decisions.proofs.Tests.{settled, at_most}
 use Rattle.decisions.proofs.Cuts.{takes}

@@ -7,7 +7,6 @@ use native.Mathlib.Omega.{arith}
 use lib.IntN.{ℤ, pos, negsuc}
 use lib.ListN.{length}
 use Rattle.lexicon.specs.declared.Encoding.{Encoding}
-use Rattle.lexicon.specs.declared.Encoding.TheVariants as Encoding
 use Rattle.lexicon.specs.Utf8.{WellFormed, Encoded}
 use Rattle.lexicon.specs.Literals.{integer}
 use Rattle.lexicon.specs.Values.{IntegerOf}

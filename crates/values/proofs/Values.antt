@@ -14,7 +14,7 @@ use Rattle.rules.proofs.Matches.{move_at}
 use Rattle.rules.proofs.Ways.{never, never_takes, begins_within}
 use Rattle.lexicon.specs.declared.Base.{Base}
 use Rattle.lexicon.specs.Space.{sp}
-use Rattle.lexicon.specs.Literals.{unescaped, restricted, escape_letter, escape, content, segment, quoted, code_of_base, code_point_of}
+use Rattle.lexicon.specs.Literals.{unescaped, restricted, escape_letter, escape, segment, quoted, code_of_base, code_point_of}
 use Rattle.lexicon.specs.Values.{Letter, CodeOf, Plain, Escaped, Row, done, Segment, Quoted, last_segment, next_segment}
 use Rattle.lexicon.specs.Values as Values
 use Rattle.lexicon.specs.Bad.{Scalar, BadEscape, BadSegment, BadFurther, BadQuoted, in_first, in_further}
