@@ -61,7 +61,7 @@ fn less(high: Bound) -> Move
 }
 
 // `<=` before the star.
-fn less_equal_lem(high: Bound) -> Move
+fn less_equal(high: Bound) -> Move
     ensures { (forms : Forms) (shape : Shape) → Moves forms (Mode.Have (Frame.Square SquareFrame.Opened) shape) (Kind.Symbol (Sign.Star Bound.LessEqual high)) result }
 {
     match high {
@@ -81,7 +81,7 @@ fn star(frame: SquareFrame, low: Bound, high: Bound) -> Move
     match low {
         Bound::Open => Move::Wrong,
         Bound::Less => less(high),
-        Bound::LessEqual => less_equal_lem(high),
+        Bound::LessEqual => less_equal(high),
     }
 }
 
