@@ -11,7 +11,6 @@ use Rattle.grammar.specs.Tree.{Value}
 use Rattle.grammar.specs.Nodes as Nodes
 use Rattle.grammar.specs.Nodes.{Node, words, node_words, parent_word, role_word, skip_word, word_at, words_from, nodes}
 use Rattle.grammar.proofs.NodeLaws.{words_length, some_node}
-use Rattle.grammar.proofs.Stretches as Siblings
 use Rattle.grammar.proofs.Stretches.{Siblings, next, siblings}
 use Rattle.table.specs.Over.{largest_word, capped, under, lifted, raised, Raised, Reserved, Written}
 use Rattle.table.proofs.Shifted.{placed, shifted, parented, reparent, shift}

@@ -8,7 +8,6 @@ use Rattle.rules.specs.Over.{over}
 use Rattle.rules.proofs.Over.{over_first, over_one}
 use Rattle.grammar.specs.Nodes.{role_number, node_words, parent_word, role_word, skip_word}
 use Rattle.moves.specs.declared.Role.{Role}
-use Rattle.moves.specs.declared.Role.TheVariants as Role
 use Rattle.moves.specs.Means.{role_of}
 use Rattle.table.specs.declared.Entry.{Entry}
 use Rattle.table.specs.Over.{entry_words, Stored, Assigned}

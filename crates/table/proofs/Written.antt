@@ -10,7 +10,6 @@ use Rattle.rules.proofs.Over.{over_nothing, over_append, over_swap, over_set, ov
 use Rattle.grammar.specs.Nodes.{Node, words, node_words, role_word, words_from, table_words, role_number}
 use Rattle.grammar.proofs.NodeLaws.{words_length, table_words_length, words_append}
 use Rattle.moves.specs.declared.Role.{Role}
-use Rattle.moves.specs.declared.Role.TheVariants as Role
 use Rattle.moves.specs.Means.{role_of, roled}
 use Rattle.table.specs.declared.Entry.{Entry}
 use Rattle.table.specs.Over.{entry_words, Tells, Stored, Put, Assigned, Written}

@@ -4,7 +4,6 @@ use Rattle.rules.specs.Over.{over}
 use Rattle.grammar.specs.Nodes.{Node, kind_number_of, role_number, words, node_words, parent_word, role_word, skip_word}
 use Rattle.grammar.specs.Nodes.{word_at, words_from}
 use Rattle.moves.specs.declared.Role.{Role}
-use Rattle.moves.specs.declared.Role.TheVariants as Role
 use Rattle.moves.specs.Means.{role_of}
 use Rattle.table.specs.declared.Entry.{Entry}
 
