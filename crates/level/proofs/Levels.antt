@@ -1,20 +1,14 @@
 -- The forms of a level. Assumes nothing.
 use mathlib.Core.Path.{◌≡◌, refl, sym, subst}
 use mathlib.Core.Bool.{true, false}
-use mathlib.Core.List.{List, [], ◌∷◌}
 use Prim.Native.Nat.{ℕ}
-use types.Run.{OneOf, miss}
-use denote.Enum.Declared.{tag_of}
-use Rattle.lexicon.specs.contracts.Head as HeadType
 use Rattle.lexicon.specs.declared.Head.{Head}
-use Rattle.lexicon.specs.declared.Head.TheVariants as Head
 use Rattle.grammar.specs.Level.{Feature, Level, has_head, level1, level2, arrays, sets, bags, intervals, leftArrows}
 use Rattle.reading.specs.Answers.{LevelOf, first, second}
 use Rattle.moves.specs.declared.Forms.{Forms}
 use Rattle.moves.specs.declared.Style.{Style}
 use Rattle.moves.specs.Means.{level_of}
 use Rattle.level.specs.declared.Collection.{Collection}
-use Rattle.level.specs.declared.Collection.TheVariants as Collection
 use Rattle.level.specs.Levels.{Collects}
 
 -- a level by its number and its forms
@@ -41,32 +35,9 @@ second_level e = level_same e by second
     by intervals = refl
     by leftArrows = refl
 
-pub no_level_lem : {n : ℕ} → (n ≡ 1 → ⊥) → (n ≡ 2 → ⊥) → (l : Level) → LevelOf n l → ⊥
-no_level_lem a b l first = a refl
-no_level_lem a b l second = b refl
-
 pub collects : (forms : Forms) (h : Head) {r : Collection} {style : Style} → r ≡ Collection.Of style → Collects forms h r →
     Collects forms h (Collection.Of style)
 collects forms h e x = subst (λ (y : Collection). Collects forms h y) e x
 
 pub lacks : (forms : Forms) (h : Head) {r : Collection} → r ≡ Collection.Nothing → Collects forms h r → has_head (level_of forms) h ≡ false
 lacks forms h e x = subst (λ (y : Collection). Collects forms h y) e x
-
--- a head that no level has yet; the keys are the heads' places in their enum
-abbrev pub later : List ℕ
-later = 3 ∷ 4 ∷ 5 ∷ 6 ∷ 7 ∷ 8 ∷ 9 ∷ 10 ∷ 11 ∷ 12 ∷ []
-
-pub later_head : (l : Level) (h : Head) → OneOf later (tag_of HeadType.the_type h) → has_head l h ≡ false
-later_head l Head.Array x = absurd (miss later 0 tt x)
-later_head l Head.Set x = absurd (miss later 1 tt x)
-later_head l Head.Bag x = absurd (miss later 2 tt x)
-later_head l Head.Mix x = refl
-later_head l Head.IntervalSet x = refl
-later_head l Head.IntervalBag x = refl
-later_head l Head.TupleArray x = refl
-later_head l Head.Relation x = refl
-later_head l Head.TupleBag x = refl
-later_head l Head.Article x = refl
-later_head l Head.Excuse x = refl
-later_head l Head.Heading x = refl
-later_head l Head.Renaming x = refl

@@ -9,9 +9,7 @@ use Rattle.reading.specs.Answers.{LevelOf, answer}
 use Rattle.moves.specs.declared.Forms.{Forms}
 use Rattle.moves.specs.Means.{level_of, collection_style}
 use Rattle.level.specs.declared.Leveled.{Leveled}
-use Rattle.level.specs.declared.Leveled.TheVariants as Leveled
 use Rattle.level.specs.declared.Collection.{Collection}
-use Rattle.level.specs.declared.Collection.TheVariants as Collection
 
 abbrev pub LevelFound : ℕ → Leveled → Type 0
 LevelFound n (Leveled.Has forms) = LevelOf n (level_of forms)
