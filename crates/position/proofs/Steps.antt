@@ -1,14 +1,14 @@
 -- One step of each loop, over a byte of a line and over a character; and what both tell. Assumes nothing.
 use mathlib.Core.Path.{◌≡◌, refl, sym, subst}
 use mathlib.Core.List.{List}
-use Prim.Native.Nat.{ℕ, suc, min, ◌+◌, ◌<◌}
+use Prim.Native.Nat.{ℕ, min, ◌+◌, ◌<◌}
 use native.Mathlib.Omega.{arith}
 use lib.ListN.{length, get_or}
 use Rattle.rules.specs.Rule.{byte, Fails}
 use Rattle.rules.proofs.Classes.{is_just, just_is}
 use Rattle.rules.proofs.Matches.{byte_at}
 use Rattle.lexicon.specs.Utf8.{sequence}
-use Rattle.values.specs.Position.{feed, Lines, next, same, Character, single, Characters, more, Before, Position, stands}
+use Rattle.values.specs.Position.{Lines, next, same, Character, single, Characters, more, Before, Position, stands}
 
 module _ {text : List ℕ} where
   placed : {i j l m b c : ℕ} → i ≡ j → l ≡ m → b ≡ c → Lines text i l b → Lines text j m c
