@@ -11,8 +11,7 @@ use Rattle.marks.specs.declared.Attributes.{Attributes}
 use Rattle.marks.specs.declared.Attributes.TheVariants as Attributes
 use Rattle.marks.specs.ByNumber.{last_comma_of}
 use Rattle.marks.specs.contracts.Attributes as AttributesType
-use Rattle.marks.proofs.last_comma.Statement.{statement}
-use Rattle.marks.proofs.last_comma.Tie as tie
+use Rattle.marks.proofs.last_comma.Goals as goal
 
 -- the keys are the places of Name and One in their enum, and of No and More
 single : (done : Attributes) → OneOf (1 ∷ 2 ∷ []) (tag_of AttributesType.the_type done) → codes "," ≡ last_comma_of done
@@ -27,17 +26,8 @@ other Attributes.Name k = absurd (miss (0 ∷ 3 ∷ []) 1 tt k)
 other Attributes.One k = absurd (miss (0 ∷ 3 ∷ []) 2 tt k)
 other Attributes.More k = refl
 
-put-requires : tie.Need-put-requires
-put-requires c κs = search rules
+pub returns-in-Name : goal.returns-in-Name
+returns-in-Name c = puts_same (single c.args.done c.in-Name.keys1) c.put.ensures
 
-same_length : tie.Need-same-length
-same_length c = search rules
-
-returns : tie.Need-returns
-returns c = puts_same (single c.before.before.before.before.before.before.args.done c.before.before.before.before.match.keys1) c.before.before.put.ensures
-
-returns-2 : tie.Need-returns-2
-returns-2 c = puts_same (other c.before.before.args.done c.match.keys2) (puts_none _ _ (omega arith) (omega arith))
-
-pub last-comma-spec : {M : Type 1} → statement M
-last-comma-spec = tie.close (tie.spec put-requires same_length returns returns-2)
+pub returns-in-No : goal.returns-in-No
+returns-in-No c = puts_same (other c.args.done c.in-No.keys2) (puts_none _ _ (omega arith) (omega arith))

@@ -10,8 +10,7 @@ use Rattle.marks.specs.declared.Attributes.{Attributes}
 use Rattle.marks.specs.declared.Attributes.TheVariants as Attributes
 use Rattle.marks.specs.ByNumber.{member, counted_by}
 use Rattle.marks.specs.contracts.Attributes as AttributesType
-use Rattle.marks.proofs.counted.Statement.{statement}
-use Rattle.marks.proofs.counted.Tie as tie
+use Rattle.marks.proofs.counted.Goals as goal
 
 -- the keys are the places of One and More in their enum
 enough : (done : Attributes) (role : ℕ) → OneOf (2 ∷ 3 ∷ []) (tag_of AttributesType.the_type done) → Attributes.More ≡ member done role
@@ -27,35 +26,21 @@ alone done role n e = e ∙ sym (passed_by role 3 _ _ n)
 at_told : {x y : Attributes} (role : ℕ) → x ≡ y → member y role ≡ member x role
 at_told role e = sym (ap (λ (z : Attributes). member z role) e)
 
-returns : tie.Need-returns
-returns c = sym (chosen c.before.args.role 3 _ _ c.if1.true)
+pub returns-then-role-eq-THAT_BEFORE : goal.returns-then-role-eq-THAT_BEFORE
+returns-then-role-eq-THAT_BEFORE c = sym (chosen c.args.role 3 _ _ c.if-role-eq-THAT_BEFORE.true)
 
-enum_told : tie.Need-enum-told
-enum_told c = search rules
+pub returns-then-role-eq-NAME : goal.returns-then-role-eq-NAME
+returns-then-role-eq-NAME c = let a = c.args in
+    alone a.done a.role c.if-role-eq-THAT_BEFORE.false (sym (chosen a.role 4 _ _ c.if-role-eq-NAME.true) ∙ at_told a.role c.in-No.is)
 
-enum-told-2 : tie.Need-enum-told-2
-enum-told-2 c = search rules
+pub returns-else-role-eq-NAME : goal.returns-else-role-eq-NAME
+returns-else-role-eq-NAME c = let a = c.args in
+    alone a.done a.role c.if-role-eq-THAT_BEFORE.false (sym (passed_by a.role 4 _ _ c.if-role-eq-NAME.false) ∙ at_told a.role c.in-No.is)
 
-returns-2 : tie.Need-returns-2
-returns-2 c =
-    let a = c.before.before.before.before.args in
-    alone a.done a.role c.before.before.before.if1.false (sym (chosen a.role 4 _ _ c.if2.true) ∙ at_told a.role c.before.enum_told.given.1)
+pub returns-in-Name : goal.returns-in-Name
+returns-in-Name c = let a = c.args in
+    alone a.done a.role c.if-role-eq-THAT_BEFORE.false (at_told a.role c.in-Name.is)
 
-returns-3 : tie.Need-returns-3
-returns-3 c =
-    let a = c.before.before.before.before.args in
-    alone a.done a.role c.before.before.before.if1.false (sym (passed_by a.role 4 _ _ c.if2.false) ∙ at_told a.role c.before.enum_told.given.1)
-
-returns-4 : tie.Need-returns-4
-returns-4 c =
-    let a = c.before.before.before.args in
-    alone a.done a.role c.before.before.if1.false (at_told a.role c.enum-told2.given.1)
-
-returns-5 : tie.Need-returns-5
-returns-5 c =
-    let a = c.before.before.args in
-    alone a.done a.role c.before.if1.false (enough a.done a.role c.match.keys3)
-
-pub counted_spec : {M : Type 1} → statement M
-counted_spec =
-    tie.close (tie.spec returns enum_told enum-told-2 returns-2 returns-3 returns-4 returns-5)
+pub returns-in-One : goal.returns-in-One
+returns-in-One c = let a = c.args in
+    alone a.done a.role c.if-role-eq-THAT_BEFORE.false (enough a.done a.role c.in-One.keys3)
