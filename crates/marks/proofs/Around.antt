@@ -12,7 +12,6 @@ use Rattle.grammar.specs.Nodes.{NodeKind, Role, kind_number_of, role_number}
 use Rattle.grammar.proofs.Branches.{Branch, Branches, none, more}
 use Rattle.form.proofs.Walk.{opening, closing, lead, tail, role_of, one_attribute}
 use Rattle.marks.specs.declared.Attributes.{Attributes}
-use Rattle.marks.specs.declared.Attributes.TheVariants as Attributes
 use Rattle.marks.specs.ByNumber.{opening_by, closing_by, lead_by, member, counted_by, last_comma_of, tail_by}
 
 -- ---- what opens and closes

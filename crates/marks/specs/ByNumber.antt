@@ -4,7 +4,6 @@ use Rattle.std.specs.Prelude.{cond, List, [], ℕ, eqb}
 use Rattle.rules.specs.Class.{codes}
 use Rattle.form.proofs.Walk.{sign_bytes, comma, last_sign_of}
 use Rattle.marks.specs.declared.Attributes.{Attributes}
-use Rattle.marks.specs.declared.Attributes.TheVariants as Attributes
 
 -- ---- by the kind
 
