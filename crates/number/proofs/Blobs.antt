@@ -33,7 +33,6 @@ use Rattle.lexicon.proofs.Unfit.{state_says, binary_bytes, hexadecimal_bytes}
 use Rattle.lexicon.proofs.Paddings.{unfit}
 use Rattle.number.specs.Tally.{tally_of, tallies}
 use Rattle.number.specs.declared.groups.Groups.{Groups}
-use Rattle.number.specs.declared.groups.Groups.TheVariants as Groups
 use Rattle.number.specs.Groups.{Grouped}
 use Rattle.number.specs.Blob.{TailOf, digits_stand, none_stand}
 

@@ -19,7 +19,6 @@ use Rattle.rules.proofs.Tests.{says_no, there, not_there}
 use Rattle.lexicon.specs.declared.Base.{Base}
 use Rattle.lexicon.specs.declared.Found as Answer
 use Rattle.lexicon.specs.declared.Literal.{Literal}
-use Rattle.lexicon.specs.declared.Literal.TheVariants as Literal
 use Rattle.lexicon.specs.Bytes.{digits, decimal, radix}
 use Rattle.lexicon.specs.Space.{Skips}
 use Rattle.lexicon.specs.Found.{Finds, Judges}

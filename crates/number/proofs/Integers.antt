@@ -11,7 +11,6 @@ use Rattle.lexicon.specs.Parts.{SomeNumeral, Start}
 use Rattle.lexicon.proofs.Integers.{of_integer, to_integer}
 use Rattle.text.proofs.Searches.{fails_end}
 use Rattle.number.specs.declared.integer.Number.{Number}
-use Rattle.number.specs.declared.integer.Number.TheVariants as Number
 use Rattle.number.specs.Number.{IsNumber, NoNumber, Numbered}
 
 module _ (text : List ℕ) where

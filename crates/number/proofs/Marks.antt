@@ -23,13 +23,10 @@ use Rattle.lexicon.proofs.Spaces.{skips_same, landed}
 use Rattle.lexicon.proofs.Groups.{digits_most, digits_forward, digits_unit, digits_at}
 use Rattle.lexicon.proofs.Numbers.{clear, in_marks, bare_short, aligned, same_base}
 use Rattle.text.specs.declared.digit.Lettered.{Lettered}
-use Rattle.text.specs.declared.digit.Lettered.TheVariants as Lettered
 use Rattle.text.specs.Letters.{Letters}
 use Rattle.number.specs.declared.integer.Number.{Number}
-use Rattle.number.specs.declared.integer.Number.TheVariants as Number
 use Rattle.number.specs.Tally.{tally_of, tallies}
 use Rattle.number.specs.declared.groups.Groups.{Groups}
-use Rattle.number.specs.declared.groups.Groups.TheVariants as Groups
 use Rattle.number.specs.Groups.{Row, Grouped}
 use Rattle.number.specs.Number.{HasMark, NoMark, Marks, OfBase, IsNumber, NoNumber, NoMarked, MarkedNumber, Numbered}
 

@@ -4,7 +4,6 @@ use Rattle.rules.specs.Rule.{Takes, Fails, ◌then◌}
 use Rattle.lexicon.specs.declared.Base.{Base}
 use Rattle.lexicon.specs.declared.Found as Found
 use Rattle.lexicon.specs.declared.Literal.{Literal}
-use Rattle.lexicon.specs.declared.Literal.TheVariants as Literal
 use Rattle.lexicon.specs.Bytes.{digits, digit_set_of}
 use Rattle.lexicon.specs.Space.{Skips}
 use Rattle.lexicon.specs.Found.{Finds, Judges}

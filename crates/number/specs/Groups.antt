@@ -2,7 +2,6 @@
 use Rattle.std.specs.Prelude.{◌≡◌, List, ℕ}
 use Rattle.rules.specs.Rule.{Fails}
 use Rattle.lexicon.specs.declared.Set.{Set}
-use Rattle.lexicon.specs.declared.Set.TheVariants as Set
 use Rattle.lexicon.specs.Bytes.{members}
 use Rattle.lexicon.specs.Literals.{unit}
 use Rattle.lexicon.specs.Values.{Digits}
