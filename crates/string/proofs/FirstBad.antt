@@ -11,7 +11,6 @@ use Rattle.rules.proofs.Matches.{forward, starting}
 use Rattle.rules.proofs.Chains.{move, join, snoc}
 use Rattle.rules.proofs.Tests.{refuted}
 use Rattle.lexicon.specs.declared.Found.{Found}
-use Rattle.lexicon.specs.declared.Found.TheVariants as Found
 use Rattle.lexicon.specs.declared.Literal as Literal
 use Rattle.lexicon.specs.Found.{Judges}
 use Rattle.lexicon.specs.Space.{Skips}
@@ -20,7 +19,6 @@ use Rattle.lexicon.specs.Bad.{BadEscape, BadSegment, BadFurther, BadQuoted, in_f
 use Rattle.lexicon.proofs.Segments.{quote, further, segment_single, space_ends, further_single, bad_takes}
 use Rattle.lexicon.proofs.Places.{in_segment_lem, one_first_bad}
 use Rattle.string.specs.declared.segment.Walk.{Walk}
-use Rattle.string.specs.declared.segment.Walk.TheVariants as Walk
 use Rattle.string.specs.Parts.{item, plain_rest}
 use Rattle.string.specs.FirstBad.{met, marked_at, sooner_of, place_or, Stops, Points, RestWalked, SegmentWalked, QuotedWalked}
 use Rattle.string.proofs.Among.{place, found, said, beyond, at_end_lem}

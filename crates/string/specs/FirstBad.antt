@@ -3,13 +3,11 @@
 use Rattle.std.specs.Prelude.{◌≡◌, Bool, true, false, List, ℕ, ◌+◌}
 use Rattle.rules.specs.Rule.{many, Takes, Fails, Among}
 use Rattle.lexicon.specs.declared.Found.{Found}
-use Rattle.lexicon.specs.declared.Found.TheVariants as Found
 use Rattle.lexicon.specs.declared.Literal.TheVariants as Literal
 use Rattle.lexicon.specs.Found.{Judges}
 use Rattle.lexicon.specs.Literals.{segment, quoted}
 use Rattle.lexicon.specs.Bad.{BadEscape, BadSegment, BadQuoted, FirstBad}
 use Rattle.string.specs.declared.segment.Walk.{Walk}
-use Rattle.string.specs.declared.segment.Walk.TheVariants as Walk
 use Rattle.string.specs.Parts.{item, escaped_rest, BadRest}
 
 -- ---- the bad escape that was met first, if one was

@@ -19,7 +19,7 @@ use string::quoted::first_bad;
 use utf8::utf8;
 
 // How a Text is written.
-#[derive(Drop)]
+#[derive(Clone, Copy)]
 enum Shape {
     Quoted,
     Word,
