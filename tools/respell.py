@@ -20,8 +20,11 @@ BESIDE = set(
     """leftRole rightRole hasArrow isClose numberCount truthCount aloneRole lastComma lastSign nextState commaPair colonAttribute colonFirst
     codePoint digitSet signNumber starNumber headNumber detailNumber kindNumber formNumber isLiteral""".split()
 )
+END = r"[,};]"
 SKIPPED = ("out", ".git", "target")
 DECLARED = re.compile(r"^ *(?:(?:pub|abbrev|unfoldable|data|record) )*([^\s(){}.;,@\"«»:]+)(?: [({][^:]*:[^)}]*[)}])* :(?= |$)", re.M)
+SEVERAL = re.compile(r"^ *([^(){}:=→.,;\"\n]+ [^(){}:=→.,;\"\n ]+) :(?= |$)", re.M)
+BOUND = re.compile(r"[({]([^(){}:→=]*) : ")
 USE = re.compile(r"\b(?:ghost )?use ([^\s;{]+?)\.?(?:\{([^}]*)\})?(?: as (\S+?))?;?$", re.M)
 # strings, comments and all else of an .antt or .rt file, in order
 ANTT = re.compile(r'"(?:[^"\\\n]|\\.)*"|(?<![^\s(){}.;,@"«»])--[^\n]*|\{-.*?-\}', re.S)
@@ -58,11 +61,26 @@ def is_lemma_file(path):
 
 
 def declared(root):
-    """The names that definitions and lemmas declare, but for those of a function's own proof."""
+    """The names that definitions and lemmas declare, constructors of one line among them and what has capitals in binders, but for those
+    of a function's own proof."""
     found = collections.Counter()
     for path in files(os.path.join(root, "crates"), ".antt"):
         if is_lemma_file(path):
-            found.update(DECLARED.findall(ANTT.sub(" ", read(path))))
+            text = ANTT.sub(" ", read(path))
+            found.update(DECLARED.findall(text))
+            for row in SEVERAL.findall(text):
+                found.update(row.split())
+            for row in BOUND.findall(text):
+                found.update(it for it in row.split() if "-" not in it)
+    return found
+
+
+def renamed(root):
+    """What ghost imports of code are renamed to."""
+    found = set()
+    for path in files(os.path.join(root, "crates"), ".rt"):
+        for use in re.findall(r"ghost use [^;]*;", RUST.sub(" ", read(path))):
+            found.update(re.findall(r" as ([a-z]+[A-Z]\w*)[,};]", use))
     return found
 
 
@@ -119,7 +137,7 @@ class Turner:
                 return word
             return new
 
-        return re.sub(NAME, one, text)
+        return re.sub(rf"({NAME}) as \1(?={END})", r"\1", re.sub(NAME, one, text))
 
     def code(self, path, text, quiet):
         kept = from_libraries(text)
@@ -140,7 +158,7 @@ class Turner:
         new = {}
         for word in own:
             new.setdefault(self.words(word, kept), set()).add(word)
-        self.clashes += [f"{path}: {' and '.join(sorted(olds))} would both be {it}" for it, olds in new.items() if len(olds) > 1]
+        self.clashes += [f"{path}: {' and '.join(sorted(olds))} would both be {it}" for it, olds in new.items() if len(olds) > 1 and not any(f"{a} as {b}" in text for a in olds for b in olds)]
         return "".join(out)
 
     def edit(self, root, path, text):
@@ -162,7 +180,8 @@ def main(argv):
     check = "--check" in argv
     rest = [a for a in argv if a != "--check"]
     root = rest[0] if rest else os.path.dirname(os.path.dirname(os.path.abspath(__file__)))
-    turner = Turner(table(declared(root)))
+    turned = table(declared(root))
+    turner = Turner({**{it: snake(it) for it in renamed(root)}, **turned})
     texts = {}
     for path in files(os.path.join(root, "crates"), ".antt", ".rt"):
         texts[path] = turner.code(path, read(path), ANTT if path.endswith(".antt") else RUST)

@@ -2,8 +2,8 @@
 #![tactic(auto)]
 
 ghost use Rattle.std.specs.Prelude.{◌≡◌};
-ghost use Rattle.grammar.specs.Level as Level;
-ghost use Rattle.grammar.specs.Nodes as Nodes;
+ghost use Rattle.grammar.specs.Level;
+ghost use Rattle.grammar.specs.Nodes;
 ghost use Rattle.moves.specs.Means.{level_of, role_of, arrow_of};
 
 use moves::{Forms, Role};

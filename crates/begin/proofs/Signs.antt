@@ -58,14 +58,14 @@ marks = 1 ∷ 3 ∷ 5 ∷ 6 ∷ 7 ∷ 8 ∷ 9 ∷ 10 ∷ []
 
 pub sign_mark : (s : Sign) → OneOf marks (tag_of SignType.the_type s) → (m : Mark) × (class_sign s ≡ Tokens.mark m)
 sign_mark Sign.RoundOpen x = absurd (miss marks 0 tt x)
-sign_mark Sign.RoundClose x = (Tokens.roundClose, refl)
+sign_mark Sign.RoundClose x = (Tokens.round_close, refl)
 sign_mark Sign.CurlyOpen x = absurd (miss marks 2 tt x)
-sign_mark Sign.CurlyClose x = (Tokens.curlyClose, refl)
+sign_mark Sign.CurlyClose x = (Tokens.curly_close, refl)
 sign_mark Sign.SquareOpen x = absurd (miss marks 4 tt x)
-sign_mark Sign.SquareClose x = (Tokens.squareClose, refl)
+sign_mark Sign.SquareClose x = (Tokens.square_close, refl)
 sign_mark Sign.Comma x = (Tokens.comma, refl)
-sign_mark Sign.ArrowRight x = (Tokens.rightArrow, refl)
-sign_mark Sign.ArrowLeft x = (Tokens.leftArrow, refl)
+sign_mark Sign.ArrowRight x = (Tokens.right_arrow, refl)
+sign_mark Sign.ArrowLeft x = (Tokens.left_arrow, refl)
 sign_mark Sign.Dots x = (Tokens.dots, refl)
 sign_mark (Sign.Star a b) x = (Tokens.star _ _, refl)
 
@@ -119,20 +119,20 @@ no_close_lem Sign.ArrowLeft x = refl
 no_close_lem Sign.Dots x = refl
 no_close_lem (Sign.Star a b) x = refl
 
-pub close_class_lem : (k : Class) → is_close_of k ≡ true → k ≡ Tokens.mark Tokens.roundClose
+pub close_class_lem : (k : Class) → is_close_of k ≡ true → k ≡ Tokens.mark Tokens.round_close
 close_class_lem (Tokens.atom a) e = absurd (false≢true e)
 close_class_lem (Tokens.text w) e = absurd (false≢true e)
 close_class_lem Tokens.names e = absurd (false≢true e)
 close_class_lem Tokens.round e = absurd (false≢true e)
 close_class_lem Tokens.curly e = absurd (false≢true e)
 close_class_lem Tokens.square e = absurd (false≢true e)
-close_class_lem (Tokens.mark Tokens.roundClose) e = refl
-close_class_lem (Tokens.mark Tokens.curlyClose) e = absurd (false≢true e)
-close_class_lem (Tokens.mark Tokens.squareClose) e = absurd (false≢true e)
+close_class_lem (Tokens.mark Tokens.round_close) e = refl
+close_class_lem (Tokens.mark Tokens.curly_close) e = absurd (false≢true e)
+close_class_lem (Tokens.mark Tokens.square_close) e = absurd (false≢true e)
 close_class_lem (Tokens.mark Tokens.comma) e = absurd (false≢true e)
 close_class_lem (Tokens.mark Tokens.colon) e = absurd (false≢true e)
-close_class_lem (Tokens.mark Tokens.rightArrow) e = absurd (false≢true e)
-close_class_lem (Tokens.mark Tokens.leftArrow) e = absurd (false≢true e)
+close_class_lem (Tokens.mark Tokens.right_arrow) e = absurd (false≢true e)
+close_class_lem (Tokens.mark Tokens.left_arrow) e = absurd (false≢true e)
 close_class_lem (Tokens.mark Tokens.dots) e = absurd (false≢true e)
 close_class_lem (Tokens.mark (Tokens.star a c)) e = absurd (false≢true e)
 close_class_lem Tokens.later e = absurd (false≢true e)

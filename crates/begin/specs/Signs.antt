@@ -15,13 +15,13 @@ no_mark (Tokens.mark m) = false
 no_mark Tokens.later = true
 
 abbrev pub closes_mark : Mark → Bool
-closes_mark Tokens.roundClose = true
-closes_mark Tokens.curlyClose = false
-closes_mark Tokens.squareClose = false
+closes_mark Tokens.round_close = true
+closes_mark Tokens.curly_close = false
+closes_mark Tokens.square_close = false
 closes_mark Tokens.comma = false
 closes_mark Tokens.colon = false
-closes_mark Tokens.rightArrow = false
-closes_mark Tokens.leftArrow = false
+closes_mark Tokens.right_arrow = false
+closes_mark Tokens.left_arrow = false
 closes_mark Tokens.dots = false
 closes_mark (Tokens.star a b) = false
 

@@ -1,8 +1,8 @@
 // The members: where the next is wanted, and what stands behind the last.
 ghost use Rattle.std.specs.Prelude.{◌≡◌};
-ghost use Rattle.grammar.specs.Nodes as Nodes;
+ghost use Rattle.grammar.specs.Nodes;
 ghost use Rattle.moves.specs.Means.{role_of, items_of};
-ghost use Rattle.moves.specs.Moves as Moves;
+ghost use Rattle.moves.specs.Moves;
 ghost use Rattle.moves.specs.Moves.{Moves};
 
 use lexicon::{Kind, Sign};

@@ -37,8 +37,8 @@ module _ (text : List ℕ) where
   best [] i = none
   best (l ∷ ls) i = against l (ends_at text (rule l) i) (best ls i)
 
-  abbrev pub bestAt : ℕ → Option Match
-  bestAt i = best lexemes i
+  abbrev pub best_at : ℕ → Option Match
+  best_at i = best lexemes i
 
   -- no match of one of these reaches further
   record Furthest (ls : List Lexeme) (i : ℕ) (m : Match) : Type 0 where
@@ -90,8 +90,8 @@ module _ (text : List ℕ) where
   HereOr i none = (n : Lexeme) (k : ℕ) → Takes text (rule n) i k → ⊥
   HereOr i (some m) = Here text m.lexeme i m.end
 
-  pub best_here : (i : ℕ) → HereOr i (bestAt i)
-  best_here i = go (bestAt i) (best_is lexemes i)
+  pub best_here : (i : ℕ) → HereOr i (best_at i)
+  best_here i = go (best_at i) (best_is lexemes i)
     where
       go : (m : Option Match) → Best lexemes i m → HereOr i m
       go none w = λ n k t. w n k (listed n) t

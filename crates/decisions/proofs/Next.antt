@@ -20,7 +20,7 @@ use Rattle.lexicon.specs.Token.{Lexeme, an_ignorance, a_boolean, an_integer, a_f
 use Rattle.decisions.proofs.Ends.{furthest, furthest_longest}
 use Rattle.decisions.proofs.Bad.{bad_of, bad_is}
 use Rattle.decisions.proofs.Heads.{kind_of, told}
-use Rattle.decisions.proofs.Lexemes.{Match, bestAt, HereOr, best_here}
+use Rattle.decisions.proofs.Lexemes.{Match, best_at, HereOr, best_here}
 
 abbrev colon : Class
 colon = any_of ":"
@@ -91,7 +91,7 @@ module _ (text : List ℕ) where
   lexed i (some m) = token_of i (sorted (kind_of text m.lexeme i m.end) m.end)
 
   abbrev token_at : ℕ → Option Sort → Next
-  token_at i none = lexed i (bestAt text i)
+  token_at i none = lexed i (best_at text i)
   token_at i (some s) = token_of i s
 
   abbrev inside : ℕ → Next
@@ -116,7 +116,7 @@ module _ (text : List ℕ) where
     runs_is h true b c x y z = token_is h (sorted Kind.Colon (i + 1)) (refl, inl (colons_are i 1 x))
     runs_is h false true c x y z = token_is h (sorted Kind.TwoColons (i + 2)) (refl, colons_are i 2 y)
     runs_is h false false true x y z = token_is h (sorted Kind.Colon (i + 1)) (refl, inr (colons_are i 3 z))
-    runs_is h false false false x y z = lexed_is h (record { one_not = x; two_not = y; three_not = z }) (bestAt text i) (best_here text i)
+    runs_is h false false false x y z = lexed_is h (record { one_not = x; two_not = y; three_not = z }) (best_at text i) (best_here text i)
 
     from_is : (b : Bool) → ltb i (length text) ≡ b → Comes text at (next_from b i)
     from_is true e = runs_is (ltb-true i (length text) e) (eqb (colons_end i) (i + 1)) (eqb (colons_end i) (i + 2)) (eqb (colons_end i) (i + 3)) refl refl refl

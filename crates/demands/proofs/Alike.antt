@@ -12,7 +12,7 @@ use Rattle.rules.proofs.Bools.{decide, clash}
 use Rattle.lexicon.specs.Utf8.{WellFormed}
 use Rattle.lexicon.proofs.Determined.{formed_or_bad}
 use Rattle.grammar.specs.Tree.{Value}
-use Rattle.grammar.specs.Level.{Level, leftArrows, keeps, ◌Within◌}
+use Rattle.grammar.specs.Level.{Level, left_arrows, keeps, ◌Within◌}
 use Rattle.grammar.specs.Nodes.{table}
 use Rattle.grammar.proofs.OneTree.{every_form, all_values}
 use Rattle.reading.specs.declared.Answer.{Answer}
@@ -36,7 +36,7 @@ use Rattle.form.proofs.SameForms.{same_forms}
 use Rattle.form.proofs.Answered.{again_by, same_many}
 
 -- every level of 01 has the arrow `<-`
-has_arrow : {n : ℕ} {l : Level} → LevelOf n l → l leftArrows ≡ true
+has_arrow : {n : ℕ} {l : Level} → LevelOf n l → l left_arrows ≡ true
 has_arrow first = refl
 has_arrow second = refl
 

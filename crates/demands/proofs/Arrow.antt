@@ -11,7 +11,7 @@ use Rattle.rules.specs.Every.{Every}
 use Rattle.rules.proofs.Every.{every_at}
 use Rattle.grammar.specs.Tree.{Value}
 use Rattle.grammar.specs.Level.{Level, arrowless, keeps}
-use Rattle.grammar.specs.Nodes.{Role, root, this, thatAfter, thatBefore, name, value, count, low, high, single, role_number, role_word, table, word_at}
+use Rattle.grammar.specs.Nodes.{Role, root, this, that_after, that_before, name, value, count, low, high, single, role_number, role_word, table, word_at}
 use Rattle.grammar.proofs.NodeLaws.{no_node, node_at}
 use Rattle.grammar.proofs.Retired.{no_that_before}
 use Rattle.reading.specs.declared.Answer.{Answer}
@@ -36,11 +36,11 @@ use Rattle.demands.proofs.Exists.{some_reading}
 
 -- ---- roles
 
-role_3 : (r : Role) → role_number r ≡ 3 → r ≡ thatBefore
+role_3 : (r : Role) → role_number r ≡ 3 → r ≡ that_before
 role_3 root e = absurd (omega (arith, e))
 role_3 this e = absurd (omega (arith, e))
-role_3 thatAfter e = absurd (omega (arith, e))
-role_3 thatBefore e = refl
+role_3 that_after e = absurd (omega (arith, e))
+role_3 that_before e = refl
 role_3 name e = absurd (omega (arith, e))
 role_3 value e = absurd (omega (arith, e))
 role_3 count e = absurd (omega (arith, e))
@@ -60,7 +60,7 @@ module _ (rules : Rules) (text : List ℕ) where
     without : {room number : ℕ} {r : Answer} {v : Value} → Reading rules text room number r (some v) → (l : Level) × (keeps (arrowless l) v ≡ true)
     without {v = v} (accepted {l = l} o h w a m) = (l, subst (λ (b : Bool). keeps (readable b l) v ≡ true) arrow (accepted_derived rules.limits text a).of_level)
 
-    no_that_before_lem : {room number : ℕ} {r : Answer} {v : Value} → Reading rules text room number r (some v) → Every (λ n. n.role ≡ thatBefore → ⊥) (table v)
+    no_that_before_lem : {room number : ℕ} {r : Answer} {v : Value} → Reading rules text room number r (some v) → Every (λ n. n.role ≡ that_before → ⊥) (table v)
     no_that_before_lem {v = v} x = let w = without x in no_that_before w.0 v w.1
 
     pub unturned : {words : List ℕ} {level : ℕ} {r : Answer} {v : Value} → Tabled rules text words level r (some v) → turn v ≡ v

@@ -64,15 +64,15 @@ every_decision rules bytes lent number r left a =
     record { decides = decides rules bytes lent number a; values = λ v c. pieces rules bytes c.short c.formed c.derived }
 
 pub old_and_new : Demand3
-old_and_new rules bytes lent old new oldLeft newLeft a b = levels_agree rules bytes lent a b
+old_and_new rules bytes lent old new old_left new_left a b = levels_agree rules bytes lent a b
 
-pub all_demands : {rules : Rules} {bytes first second oldLeft newLeft : List ℕ} {old new : Answer} →
-    Answers rules bytes first 1 old oldLeft → Answers rules bytes second 2 new newLeft → Demands rules bytes first second old oldLeft new newLeft
-all_demands {rules} {bytes} {first} {second} {oldLeft} {newLeft} {old} {new} a b =
+pub all_demands : {rules : Rules} {bytes first second old_left new_left : List ℕ} {old new : Answer} →
+    Answers rules bytes first 1 old old_left → Answers rules bytes second 2 new new_left → Demands rules bytes first second old old_left new new_left
+all_demands {rules} {bytes} {first} {second} {old_left} {new_left} {old} {new} a b =
     record {
       old_answered = answered rules bytes first a;
       new_answered = answered rules bytes second b;
-      old_derives = every_decision rules bytes first 1 old oldLeft a;
-      new_derives = every_decision rules bytes second 2 new newLeft b;
-      agree = λ e. levels_agree rules bytes first a (subst (λ (t : List ℕ). Answers rules bytes t 2 new newLeft) (sym e) b);
+      old_derives = every_decision rules bytes first 1 old old_left a;
+      new_derives = every_decision rules bytes second 2 new new_left b;
+      agree = λ e. levels_agree rules bytes first a (subst (λ (t : List ℕ). Answers rules bytes t 2 new new_left) (sym e) b);
     }

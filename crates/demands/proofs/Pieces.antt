@@ -25,8 +25,8 @@ use Rattle.grammar.specs.Tokens as Tokens
 use Rattle.grammar.specs.Tree.{Value}
 use Rattle.grammar.specs.Yield.{yield_value}
 use Rattle.grammar.specs.Level.{Level}
-use Rattle.grammar.specs.Nodes.{NodeKind, Node, an_ignorance, a_boolean, an_integer, a_fraction, a_bits, a_blob, aText, aNesting, atom_kind}
-use Rattle.grammar.specs.Nodes.{aPair, aTuple, aLot, anArray, aSet, aBag, anInterval}
+use Rattle.grammar.specs.Nodes.{NodeKind, Node, an_ignorance, a_boolean, an_integer, a_fraction, a_bits, a_blob, a_text, a_nesting, atom_kind}
+use Rattle.grammar.specs.Nodes.{a_pair, a_tuple, a_lot, an_array, a_set, a_bag, an_interval}
 use Rattle.grammar.specs.Leaves.{Written, is_literal_of}
 use Rattle.grammar.specs.Leaves as Leaves
 use Rattle.grammar.proofs.Nodes.{TokenOf, IfLiteral, table_leaves}
@@ -100,18 +100,18 @@ module _ (text : List ℕ) (i j : ℕ) where
   Exact an_integer = Takes text integer i j
   Exact a_bits = Good bits_call
   Exact a_blob = Good blob_call
-  Exact aText = Good text_call
+  Exact a_text = Good text_call
   Exact an_ignorance = Unit {0}
   Exact a_boolean = Unit {0}
   Exact a_fraction = Unit {0}
-  Exact aNesting = Unit {0}
-  Exact aPair = Unit {0}
-  Exact aTuple = Unit {0}
-  Exact aLot = Unit {0}
-  Exact anArray = Unit {0}
-  Exact aSet = Unit {0}
-  Exact aBag = Unit {0}
-  Exact anInterval = Unit {0}
+  Exact a_nesting = Unit {0}
+  Exact a_pair = Unit {0}
+  Exact a_tuple = Unit {0}
+  Exact a_lot = Unit {0}
+  Exact an_array = Unit {0}
+  Exact a_set = Unit {0}
+  Exact a_bag = Unit {0}
+  Exact an_interval = Unit {0}
 
   -- the same of a token of a class
   abbrev ExactClass : Class → Type 0
@@ -197,7 +197,7 @@ module _ (rules : Rules) (bytes : List ℕ) (n : Node) (l : Lone rules bytes n) 
             subst (λ (m : ℕ). GivesBytes bytes n.at call lent (answer 0 m (length bs)) (bs ++ drop (length bs) lent)) (sym size)
             (GivesBytes.accepted (bytes-there bs v) o)
 
-  text_given : n.kind ≡ aText → Gives text_call rules bytes n
+  text_given : n.kind ≡ a_text → Gives text_call rules bytes n
   text_given e =
       bytes_given text_call (exact e)
       (λ bs y. record { characters = y.characters; are = text_there bytes _ l.there y.are; bytes_are = y.bytes_are })

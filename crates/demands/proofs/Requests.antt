@@ -239,10 +239,10 @@ spellable l v k = Spellable.spellable l v k
 -- ---- 6. The backward arrow
 
 pub arrow_retired : ArrowRetired
-arrow_retired rules bytes lent number old new oldLeft newLeft x y = retirement rules bytes lent x y
+arrow_retired rules bytes lent number old new old_left new_left x y = retirement rules bytes lent x y
 
 pub nothing_changed : NothingChanged
-nothing_changed rules bytes lent number old new oldLeft newLeft n x y = (retirement rules bytes lent x y).alike (never_fifteen rules bytes n y.reading)
+nothing_changed rules bytes lent number old new old_left new_left n x y = (retirement rules bytes lent x y).alike (never_fifteen rules bytes n y.reading)
 
 pub no_such_bytes : NoSuchBytes
 no_such_bytes bytes h = Arrow.no_such_bytes bytes h

@@ -19,7 +19,7 @@ use Rattle.lexicon.proofs.Pieces.{token_within}
 use Rattle.grammar.specs.Tokens.{Span}
 use Rattle.grammar.specs.Tree.{Value}
 use Rattle.grammar.specs.Level.{Level}
-use Rattle.grammar.specs.Nodes.{Node, NodeKind, kind_number_of, an_integer, a_bits, a_blob, aText, table, word_at, kind_word, first_word, end_word}
+use Rattle.grammar.specs.Nodes.{Node, NodeKind, kind_number_of, an_integer, a_bits, a_blob, a_text, table, word_at, kind_word, first_word, end_word}
 use Rattle.grammar.specs.Leaves.{is_literal_of}
 use Rattle.grammar.proofs.NodeLaws.{no_node, node_at, one_kind}
 use Rattle.grammar.proofs.Moved.{move_span, move_node, move, table_moved}
@@ -137,7 +137,7 @@ module _ (rules : Rules) (text other : List ℕ) (g : ℕ → ℕ) (n : Node) (o
   bytes_same call settled e x y f =
       same_bytes call settled rules here there (f (own.literal e) (its.literal e) (same e)) (λ lent left a u. given_told (x lent a left u)) (λ lent left a u. given_told (y lent a left u))
 
-  texts_same : n.kind ≡ aText → SameBytes text_call rules here there
+  texts_same : n.kind ≡ a_text → SameBytes text_call rules here there
   texts_same e =
       bytes_same text_call text_settled (ap is_literal_of e) (own.text e) (its.text e)
       (λ p q u bs y.

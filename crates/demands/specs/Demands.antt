@@ -88,18 +88,18 @@ Demand2 =
 -- `old_and_new`: `Agree` has the last three sentences above as its three fields
 abbrev pub Demand3 : Type 0
 Demand3 =
-    (rules : Rules) (bytes lent : List ℕ) (old new : Answer) (oldLeft newLeft : List ℕ) →
-    Answers rules bytes lent 1 old oldLeft → Answers rules bytes lent 2 new newLeft →
-    Agree level1 bytes old oldLeft new newLeft
+    (rules : Rules) (bytes lent : List ℕ) (old new : Answer) (old_left new_left : List ℕ) →
+    Answers rules bytes lent 1 old old_left → Answers rules bytes lent 2 new new_left →
+    Agree level1 bytes old old_left new new_left
 
 -- ---- all three, of one text read at level 1 into the table `first` and at level 2 into the table `second`:
 -- `all_demands`
 
-pub record Demands (rules : Rules) (bytes first second : List ℕ) (old : Answer) (oldLeft : List ℕ) (new : Answer)
-    (newLeft : List ℕ) : Type 0 where
-  pub old_answered : Answered rules bytes first 1 old oldLeft
-  pub new_answered : Answered rules bytes second 2 new newLeft
-  pub old_derives : Derives rules bytes first 1 old oldLeft
-  pub new_derives : Derives rules bytes second 2 new newLeft
+pub record Demands (rules : Rules) (bytes first second : List ℕ) (old : Answer) (old_left : List ℕ) (new : Answer)
+    (new_left : List ℕ) : Type 0 where
+  pub old_answered : Answered rules bytes first 1 old old_left
+  pub new_answered : Answered rules bytes second 2 new new_left
+  pub old_derives : Derives rules bytes first 1 old old_left
+  pub new_derives : Derives rules bytes second 2 new new_left
   -- with tables of the same length and the same words
-  pub agree : first ≡ second → Agree level1 bytes old oldLeft new newLeft
+  pub agree : first ≡ second → Agree level1 bytes old old_left new new_left

@@ -10,7 +10,7 @@ use Rattle.lexicon.specs.Values.{IntegerOf}
 use Rattle.lexicon.specs.Token.{Is, Bad}
 use Rattle.grammar.specs.Tokens.{Span, class_kind}
 use Rattle.grammar.specs.Tree.{Value}
-use Rattle.grammar.specs.Nodes.{Node, an_integer, a_bits, a_blob, aText, table}
+use Rattle.grammar.specs.Nodes.{Node, an_integer, a_bits, a_blob, a_text, table}
 use Rattle.grammar.specs.Leaves.{Written, is_literal_of}
 use Rattle.reading.specs.declared.Answer.{Answer}
 use Rattle.reading.specs.declared.Rules.{Rules}
@@ -68,7 +68,7 @@ pub record NodePiece (rules : Rules) (bytes : List ℕ) (n : Node) : Type 0 wher
   pub literal : is_literal_of n.kind ≡ true → Lone rules bytes n
   pub integer : n.kind ≡ an_integer → (r : IntegerAnswer) →
       IntegerAnswers rules (piece bytes n.at) r → GivesInteger bytes n.at r
-  pub text : n.kind ≡ aText → Gives text_call rules bytes n
+  pub text : n.kind ≡ a_text → Gives text_call rules bytes n
   pub bits : n.kind ≡ a_bits → Gives bits_call rules bytes n
   pub blob : n.kind ≡ a_blob → Gives blob_call rules bytes n
 

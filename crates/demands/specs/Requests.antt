@@ -25,7 +25,7 @@ use Rattle.grammar.specs.Tokens.{Tok}
 use Rattle.grammar.specs.Tree.{Value}
 use Rattle.grammar.specs.Level.{Level, ◌Within◌, arrowless, keeps}
 use Rattle.grammar.specs.Place.{Wrong}
-use Rattle.grammar.specs.Nodes.{an_integer, aText, a_bits, a_blob, kind_number_of}
+use Rattle.grammar.specs.Nodes.{an_integer, a_text, a_bits, a_blob, kind_number_of}
 use Rattle.grammar.specs.Nodes.{node_words, kind_word, first_word, end_word}
 use Rattle.grammar.specs.Nodes.{role_word, skip_word, word_at, table, table_words}
 use Rattle.grammar.specs.Stretches.{Stretches}
@@ -312,16 +312,16 @@ EveryRowSpelled = (l : Level) (v : Value) → keeps l v ≡ true → Spellable l
 -- what changed for a text, and that nothing else did: `arrow_retired`
 abbrev pub ArrowRetired : Type 0
 ArrowRetired =
-    (rules : Rules) (bytes lent : List ℕ) (number : ℕ) (old new : Answer) (oldLeft newLeft : List ℕ) →
-    Answers (with_arrow rules) bytes lent number old oldLeft → Answers rules bytes lent number new newLeft →
-    Retirement rules bytes number old oldLeft new newLeft
+    (rules : Rules) (bytes lent : List ℕ) (number : ℕ) (old new : Answer) (old_left new_left : List ℕ) →
+    Answers (with_arrow rules) bytes lent number old old_left → Answers rules bytes lent number new new_left →
+    Retirement rules bytes number old old_left new new_left
 
 -- for a text without the arrow nothing did: `nothing_changed`
 abbrev pub NothingChanged : Type 0
 NothingChanged =
-    (rules : Rules) (bytes lent : List ℕ) (number : ℕ) (old new : Answer) (oldLeft newLeft : List ℕ) →
-    NoArrows bytes → Answers (with_arrow rules) bytes lent number old oldLeft →
-    Answers rules bytes lent number new newLeft → (old ≡ new) × (oldLeft ≡ newLeft)
+    (rules : Rules) (bytes lent : List ℕ) (number : ℕ) (old new : Answer) (old_left new_left : List ℕ) →
+    NoArrows bytes → Answers (with_arrow rules) bytes lent number old old_left →
+    Answers rules bytes lent number new new_left → (old ≡ new) × (old_left ≡ new_left)
 
 -- and such is every text without these two bytes side by side: `no_such_bytes`
 abbrev pub NoSuchBytes : Type 0
@@ -568,7 +568,7 @@ pub record SameValues (rules : Rules) (text left other filled : List ℕ) (i : �
   pub integer : word_at left i kind_word ≡ kind_number_of an_integer → (a b : IntegerAnswer) →
       IntegerAnswers rules (piece_at text left i) a → IntegerAnswers rules (piece_at other filled i) b →
       (a.number ≡ b.number) × (a.value ≡ b.value)
-  pub text_bytes : word_at left i kind_word ≡ kind_number_of aText →
+  pub text_bytes : word_at left i kind_word ≡ kind_number_of a_text →
       SameBytes text_call rules (piece_at text left i) (piece_at other filled i)
   pub bits : word_at left i kind_word ≡ kind_number_of a_bits →
       SameBytes bits_call rules (piece_at text left i) (piece_at other filled i)

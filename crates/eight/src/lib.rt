@@ -7,7 +7,7 @@ ghost use Rattle.rules.specs.Test.{Says};
 ghost use Rattle.rules.specs.Rule.{Takes};
 ghost use Rattle.lexicon.specs.Space.{not_grave};
 ghost use Rattle.lexicon.specs.Literals.{unit, plain_byte};
-ghost use Rattle.lexicon.specs.Steps as Steps;
+ghost use Rattle.lexicon.specs.Steps;
 ghost use Rattle.eight.specs.Joined.{Joins};
 
 // Times a byte, that byte eight times.

@@ -108,7 +108,7 @@ module _ (bytes : List ℕ) where
         let a = plain_split p _ (rest_of ps) in
         let b = value_split v _ (rest_of a.rest) in
         record {
-          adds = λ q l. some round_lone (a.adds _ (some (mark_lone Tokens.colon) (b.adds _ (some (mark_lone Tokens.roundClose) l))));
+          adds = λ q l. some round_lone (a.adds _ (some (mark_lone Tokens.colon) (b.adds _ (some (mark_lone Tokens.round_close) l))));
           rest = rest_of b.rest;
         }
     plain_split (Tree.arrowed o v x k w c) r ps =
@@ -116,26 +116,26 @@ module _ (bytes : List ℕ) where
         let b = value_split w _ (rest_of a.rest) in
         record {
           adds = λ q l. some round_lone
-              (either_adds x (λ z. spell bytes v z) (λ z. spell bytes w z) (λ z i. a.adds z i) (λ z i. b.adds z i) _ (some (mark_lone Tokens.roundClose) l));
+              (either_adds x (λ z. spell bytes v z) (λ z. spell bytes w z) (λ z i. a.adds z i) (λ z i. b.adds z i) _ (some (mark_lone Tokens.round_close) l));
           rest = rest_of b.rest;
         }
     plain_split (Tree.tuple o i c) r ps =
         let a = attributes_split i _ (rest_of ps) in
-        record { adds = λ q l. some round_lone (a.adds _ (some (mark_lone Tokens.roundClose) l)); rest = rest_of a.rest }
+        record { adds = λ q l. some round_lone (a.adds _ (some (mark_lone Tokens.round_close) l)); rest = rest_of a.rest }
     plain_split (Tree.lot o i c) r ps =
         let a = listing_split i _ (rest_of ps) in
-        record { adds = λ q l. some curly_lone (a.adds _ (some (mark_lone Tokens.curlyClose) l)); rest = rest_of a.rest }
+        record { adds = λ q l. some curly_lone (a.adds _ (some (mark_lone Tokens.curly_close) l)); rest = rest_of a.rest }
     plain_split (Tree.counted o h s k b i e c) r ps =
         let a = listing_split i _ (rest_of (rest_of (rest_of (rest_of ps)))) in
         record {
           adds = λ q l. some round_lone
               (some (head_self bytes (collection_head h) s (first_of (rest_of ps)))
-              (some (mark_lone Tokens.colon) (some curly_lone (a.adds _ (some (mark_lone Tokens.curlyClose) (some (mark_lone Tokens.roundClose) l))))));
+              (some (mark_lone Tokens.colon) (some curly_lone (a.adds _ (some (mark_lone Tokens.curly_close) (some (mark_lone Tokens.round_close) l))))));
           rest = rest_of (rest_of a.rest);
         }
     plain_split (Tree.interval o b c) r ps =
         let a = bounds_split b _ (rest_of ps) in
-        record { adds = λ q l. some square_lone (a.adds _ (some (mark_lone Tokens.squareClose) l)); rest = rest_of a.rest }
+        record { adds = λ q l. some square_lone (a.adds _ (some (mark_lone Tokens.square_close) l)); rest = rest_of a.rest }
 
     item_split : {s : Style} (i : Item s) (r : List Tok) → Pieces (yield_item i r) → Split (λ q. spell_item bytes i q) r
     item_split (Tree.alone v) r ps = let a = value_split v r ps in record { adds = λ q l. a.adds q l; rest = a.rest }

@@ -81,17 +81,17 @@ row_and_item o i = row_more o (grow_item i none) (item_some i none)
 
 module _ (bytes : List ℕ) where
   pub one_behind_lem : {cs : Branches} {f : List Spelt → List Spelt} → one_attribute cs ≡ true → Members bytes cs f →
-      Inside bytes Nodes.aTuple 0 cs (λ ws. f (Spell.comma ws))
+      Inside bytes Nodes.a_tuple 0 cs (λ ws. f (Spell.comma ws))
   one_behind_lem {cs} {f} e m =
       inside bytes (all_members bytes m)
       (puts_as (ap (λ (b : Bool). m.are ++ cond b (codes ",") []) (sym e)) (puts_both m.puts (puts_one (mark Tokens.comma) (codes ","))))
 
-  pub more_behind : {cs : Branches} {f : List Spelt → List Spelt} → one_attribute cs ≡ false → Members bytes cs f → Inside bytes Nodes.aTuple 0 cs f
+  pub more_behind : {cs : Branches} {f : List Spelt → List Spelt} → one_attribute cs ≡ false → Members bytes cs f → Inside bytes Nodes.a_tuple 0 cs f
   more_behind e m = inside_plain bytes (ap (λ (b : Bool). cond b (codes ",") []) e) (all_members bytes m) m.puts
 
   -- a comma behind a row of one only
   pub trailing : (o : Row Tree.opening Tree.attribute) → Members bytes (grow_row o none) (λ ws. spell_row bytes o ws) →
-      Inside bytes Nodes.aTuple 0 (grow_row o none) (λ ws. spell_row bytes o (after_one o ws))
+      Inside bytes Nodes.a_tuple 0 (grow_row o none) (λ ws. spell_row bytes o (after_one o ws))
   trailing (Tree.row_first i c) m = one_behind_lem (opening_one i) m
   trailing (Tree.row_led b i c) m = one_behind_lem (attribute_one i) m
   trailing (Tree.row_next o i c) m = more_behind (row_and_item o i) m

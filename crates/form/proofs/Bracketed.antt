@@ -24,7 +24,7 @@ abbrev pub Untailed : NodeKind → Type 0
 Untailed k = (cs : Branches) → tail k 0 cs ≡ []
 
 -- a counted collection is a bracket, with nothing behind the last child
-counted_number : (h : Collection) → kind_number_of Nodes.aPair ≤ kind_number_of (collection_kind h)
+counted_number : (h : Collection) → kind_number_of Nodes.a_pair ≤ kind_number_of (collection_kind h)
 counted_number Tree.array = omega arith
 counted_number Tree.set = omega arith
 counted_number Tree.bag = omega arith
@@ -49,7 +49,7 @@ module _ (bytes : List ℕ) where
       Listed bytes d 0 cs ms → Puts f ms → Inside k d cs f
   inside_plain {ms = ms} e l p = inside l (puts_as (sym (append-nil ms) ∙ ap (λ (t : List ℕ). ms ++ t) (sym e)) p)
 
-  pub in_bracket : {k : NodeKind} {s : Span} {r : Role} {d : ℕ} {cs : Branches} {f g h : List Spelt → List Spelt} → kind_number_of Nodes.aPair ≤ kind_number_of k →
+  pub in_bracket : {k : NodeKind} {s : Span} {r : Role} {d : ℕ} {cs : Branches} {f g h : List Spelt → List Spelt} → kind_number_of Nodes.a_pair ≤ kind_number_of k →
       Puts f (opening k) → Inside k d cs g → Puts h (closing k) → Said bytes (branch k s r d cs) (λ ws. f (g (h ws)))
   in_bracket {k} {d = d} {cs = cs} n o x c =
       record {
@@ -60,13 +60,13 @@ module _ (bytes : List ℕ) where
 
   -- ---- Pairs and counted collections
 
-  pub a_pair : (j : Joiner) {s : Span} {role : Role} {a b : Branch} {f g : List Spelt → List Spelt} →
+  pub a_pair_lem : (j : Joiner) {s : Span} {role : Role} {a b : Branch} {f g : List Spelt → List Spelt} →
       Child bytes (joiner_left j) a f → Child bytes (joiner_right j) b g →
-      Said bytes (branch Nodes.aPair s role 0 (more a (more b none))) (λ ws. put round (codes "(") (joiner j f g (sign Tokens.roundClose ws)))
-  a_pair j x y =
+      Said bytes (branch Nodes.a_pair s role 0 (more a (more b none))) (λ ws. put round (codes "(") (joiner j f g (sign Tokens.round_close ws)))
+  a_pair_lem j x y =
       let m = whole bytes (joined bytes j x y) in
       in_bracket (omega arith) (puts_one round (codes "(")) (inside_plain refl (all_members bytes m) m.puts)
-      (puts_one (mark Tokens.roundClose) (codes ")"))
+      (puts_one (mark Tokens.round_close) (codes ")"))
 
   abbrev open_counted : Collection → List Spelt → List Spelt
   open_counted h ws =
@@ -78,13 +78,13 @@ module _ (bytes : List ℕ) where
   counted_opening Tree.set = record { bytes_are = λ ws. refl }
   counted_opening Tree.bag = record { bytes_are = λ ws. refl }
 
-  counted_closing : (h : Collection) → Puts (λ ws. sign Tokens.curlyClose (sign Tokens.roundClose ws)) (closing (collection_kind h))
+  counted_closing : (h : Collection) → Puts (λ ws. sign Tokens.curly_close (sign Tokens.round_close ws)) (closing (collection_kind h))
   counted_closing Tree.array = record { bytes_are = λ ws. refl }
   counted_closing Tree.set = record { bytes_are = λ ws. refl }
   counted_closing Tree.bag = record { bytes_are = λ ws. refl }
 
   pub a_counted : (h : Collection) {s : Span} {role : Role} {cs : Branches} {f : List Spelt → List Spelt} → Inside (collection_kind h) 0 cs f →
-      Said bytes (branch (collection_kind h) s role 0 cs) (λ ws. open_counted h (f (sign Tokens.curlyClose (sign Tokens.roundClose ws))))
+      Said bytes (branch (collection_kind h) s role 0 cs) (λ ws. open_counted h (f (sign Tokens.curly_close (sign Tokens.round_close ws))))
   a_counted h x = in_bracket (counted_number h) (counted_opening h) x (counted_closing h)
 
   -- ---- the members of a Lot or a counted collection

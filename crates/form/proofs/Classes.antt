@@ -68,7 +68,7 @@ module _ (bytes : List ℕ) where
   -- ---- two joined
 
   pair_same : (a : Arrow) (o k c : Span) (x y : Plain) (f g : List Spelt → List Spelt) → Same (λ r. yield_plain x r) f → Same (λ r. yield_plain y r) g →
-      Same (λ r. yield_plain (pair_up a o x k y c) r) (λ q. put round (codes "(") (either a f g (sign Tokens.roundClose q)))
+      Same (λ r. yield_plain (pair_up a o x k y c) r) (λ q. put round (codes "(") (either a f g (sign Tokens.round_close q)))
   pair_same rightward o k c x y f g h i r q e = also round (h _ _ (also _ (i _ _ (also _ e))))
   pair_same leftward o k c x y f g h i r q e = also round (i _ _ (also _ (h _ _ (also _ e))))
 

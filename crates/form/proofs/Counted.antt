@@ -40,7 +40,7 @@ mutual
   plain_size (Tree.text x s) r q = refl
   plain_size (Tree.nesting n) r q = refl
   plain_size (Tree.group o v c) r q = value_size v r q
-  plain_size (Tree.pair o p k v c) r q = omega (arith, plain_size p Nodes.this Nodes.this, value_size v Nodes.thatAfter Nodes.thatAfter)
+  plain_size (Tree.pair o p k v c) r q = omega (arith, plain_size p Nodes.this Nodes.this, value_size v Nodes.that_after Nodes.that_after)
   plain_size (Tree.arrowed o v rightward k w c) r q =
       omega (arith, value_size v (Nodes.left_role_of rightward) (Nodes.left_role_of rightward), value_size w (Nodes.right_role_of rightward) (Nodes.right_role_of rightward))
   plain_size (Tree.arrowed o v leftward k w c) r q =

@@ -123,11 +123,11 @@ module _ (d : ℕ) where
       plain_deep (Tree.text w s) n r h = text_deep w s n r h.0 h.1
       plain_deep (Tree.nesting x) n r h = names_deep x n r h
       plain_deep (Tree.group o v c) n r h =
-          let a = value_deep v (suc n) (Yield.sign Tokens.roundClose c r) h.1 in
+          let a = value_deep v (suc n) (Yield.sign Tokens.round_close c r) h.1 in
           record { rest = a.rest.1; spelt = λ m q e y. a.spelt m q (omega (arith, e)) y }
       plain_deep (Tree.pair o p k v c) n r h =
-          let a = plain_deep p (suc n) (Yield.sign Tokens.colon k (yield_value v (Yield.sign Tokens.roundClose c r))) h.1 in
-          let b = value_deep v (suc n) (Yield.sign Tokens.roundClose c r) a.rest.1 in
+          let a = plain_deep p (suc n) (Yield.sign Tokens.colon k (yield_value v (Yield.sign Tokens.round_close c r))) h.1 in
+          let b = value_deep v (suc n) (Yield.sign Tokens.round_close c r) a.rest.1 in
           record {
             rest = b.rest.1;
             spelt = λ m q e y. (
@@ -137,39 +137,39 @@ module _ (d : ℕ) where
             );
           }
       plain_deep (Tree.arrowed o v x k w c) n r h =
-          let a = value_deep v (suc n) (Yield.sign (arrow_mark x) k (yield_value w (Yield.sign Tokens.roundClose c r))) h.1 in
-          let b = value_deep w (suc n) (Yield.sign Tokens.roundClose c r)
-          (past_arrow x k (suc n) (yield_value w (Yield.sign Tokens.roundClose c r)) a.rest) in
+          let a = value_deep v (suc n) (Yield.sign (arrow_mark x) k (yield_value w (Yield.sign Tokens.round_close c r))) h.1 in
+          let b = value_deep w (suc n) (Yield.sign Tokens.round_close c r)
+          (past_arrow x k (suc n) (yield_value w (Yield.sign Tokens.round_close c r)) a.rest) in
           record {
             rest = b.rest.1;
             spelt = λ m q e y. (
               omega (arith, e, h.0),
               either_deep x (suc n) (λ z. spell bytes v z) (λ z. spell bytes w z) b.rest.0 a.spelt
-                  b.spelt (suc m) (sign Tokens.roundClose q) (omega (arith, e)) (omega (arith, e, b.rest.0), y),
+                  b.spelt (suc m) (sign Tokens.round_close q) (omega (arith, e)) (omega (arith, e, b.rest.0), y),
             );
           }
       plain_deep (Tree.tuple o l c) n r h =
-          let a = attributes_deep l (suc n) (Yield.sign Tokens.roundClose c r) h.1 in
+          let a = attributes_deep l (suc n) (Yield.sign Tokens.round_close c r) h.1 in
           record {
             rest = a.rest.1;
             spelt = λ m q e y. (
               omega (arith, e, h.0),
-              a.spelt (suc m) (sign Tokens.roundClose q) (omega (arith, e))
+              a.spelt (suc m) (sign Tokens.round_close q) (omega (arith, e))
                   (omega (arith, e, a.rest.0), y),
             );
           }
       plain_deep (Tree.lot o l c) n r h =
-          let a = listing_deep l (suc n) (Yield.sign Tokens.curlyClose c r) h.1 in
+          let a = listing_deep l (suc n) (Yield.sign Tokens.curly_close c r) h.1 in
           record {
             rest = a.rest.1;
             spelt = λ m q e y. (
               omega (arith, e, h.0),
-              a.spelt (suc m) (sign Tokens.curlyClose q) (omega (arith, e))
+              a.spelt (suc m) (sign Tokens.curly_close q) (omega (arith, e))
                   (omega (arith, e, a.rest.0), y),
             );
           }
       plain_deep (Tree.counted o x s k b l e c) n r h =
-          let a = listing_deep l (suc (suc n)) (Yield.sign Tokens.curlyClose e (Yield.sign Tokens.roundClose c r)) h.1.1.1.1 in
+          let a = listing_deep l (suc (suc n)) (Yield.sign Tokens.curly_close e (Yield.sign Tokens.round_close c r)) h.1.1.1.1 in
           record {
             rest = a.rest.1.1;
             spelt = λ m q i y. (
@@ -180,7 +180,7 @@ module _ (d : ℕ) where
                   omega (arith, i, h.1.0),
                   (
                     omega (arith, i, h.1.0),
-                    a.spelt (suc (suc m)) (sign Tokens.curlyClose (sign Tokens.roundClose q)) (omega (arith, i))
+                    a.spelt (suc (suc m)) (sign Tokens.curly_close (sign Tokens.round_close q)) (omega (arith, i))
                         (omega (arith, i, a.rest.0), (omega (arith, i, h.1.0), y)),
                   ),
                 ),
@@ -188,12 +188,12 @@ module _ (d : ℕ) where
             );
           }
       plain_deep (Tree.interval o b c) n r h =
-          let a = bounds_deep b (suc n) (Yield.sign Tokens.squareClose c r) h.1 in
+          let a = bounds_deep b (suc n) (Yield.sign Tokens.square_close c r) h.1 in
           record {
             rest = a.rest.1;
             spelt = λ m q e y. (
               omega (arith, e, h.0),
-              a.spelt (suc m) (sign Tokens.squareClose q) (omega (arith, e))
+              a.spelt (suc m) (sign Tokens.square_close q) (omega (arith, e))
                   (omega (arith, e, a.rest.0), y),
             );
           }

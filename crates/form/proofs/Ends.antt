@@ -165,7 +165,7 @@ module _ (bytes : List ℕ) where
       }
 
   pub text_said : (w : Wording) (s : Span) {role : Role} {r : List Tok} {p q : ℕ} → FirstThere (text w) s r p q →
-      Said (end Nodes.aText s role (wording_detail w)) (λ ws. spell_wording bytes w s ws)
+      Said (end Nodes.a_text s role (wording_detail w)) (λ ws. spell_wording bytes w s ws)
   text_said w s x =
       let y = text_chain w s (at_first x) in
       one x (Leaf.wording (subst (Named bytes s.first s.end) (append-nil y.are) (y.named s.end [] (omega arith) ended))) y.puts
@@ -202,7 +202,7 @@ module _ (bytes : List ℕ) where
   names_first (more_names n s w t) = refl
 
   chain_said : (n : Names) {role : Role} → Chain (names_start n).first (names_span n).end (λ ws. spell_names bytes n ws) →
-      Said (end Nodes.aNesting (names_span n) role 0) (λ ws. spell_names bytes n ws)
+      Said (end Nodes.a_nesting (names_span n) role 0) (λ ws. spell_names bytes n ws)
   chain_said n x =
       let e = names_first n in
       record {
@@ -214,5 +214,5 @@ module _ (bytes : List ℕ) where
       }
 
   pub nesting_said : (n : Names) (r : List Tok) {role : Role} {p q : ℕ} → Follow bytes p (yield_names n r) q →
-      Said (end Nodes.aNesting (names_span n) role 0) (λ ws. spell_names bytes n ws) × Follow bytes (names_span n).end r q
+      Said (end Nodes.a_nesting (names_span n) role 0) (λ ws. spell_names bytes n ws) × Follow bytes (names_span n).end r q
   nesting_said n r f = let x = names_chain n r (names_from_first n r f) in (chain_said n x.0, x.1)

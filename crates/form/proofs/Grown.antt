@@ -55,13 +55,13 @@ mutual
   plain_grown (Tree.nesting n) r = refl
   plain_grown (Tree.group o v c) r = value_grown v r
   plain_grown (Tree.pair o p k v c) r =
-      ap (λ (b : Branches). branch Nodes.aPair nowhere r 0 b) (both (plain_grown p Nodes.this) (both (value_grown v Nodes.thatAfter) refl))
+      ap (λ (b : Branches). branch Nodes.a_pair nowhere r 0 b) (both (plain_grown p Nodes.this) (both (value_grown v Nodes.that_after) refl))
   plain_grown (Tree.arrowed o v rightward k w c) r =
-      ap (λ (b : Branches). branch Nodes.aPair nowhere r 0 b) (both (value_grown v Nodes.this) (both (value_grown w Nodes.thatAfter) refl))
+      ap (λ (b : Branches). branch Nodes.a_pair nowhere r 0 b) (both (value_grown v Nodes.this) (both (value_grown w Nodes.that_after) refl))
   plain_grown (Tree.arrowed o v leftward k w c) r =
-      ap (λ (b : Branches). branch Nodes.aPair nowhere r 0 b) (both (value_grown w Nodes.this) (both (value_grown v Nodes.thatAfter) refl))
-  plain_grown (Tree.tuple o l c) r = ap (λ (b : Branches). branch Nodes.aTuple nowhere r 0 b) (attributes_grown l none none refl)
-  plain_grown (Tree.lot o l c) r = ap (λ (b : Branches). branch Nodes.aLot nowhere r 0 b) (listing_grown l none none refl)
+      ap (λ (b : Branches). branch Nodes.a_pair nowhere r 0 b) (both (value_grown w Nodes.this) (both (value_grown v Nodes.that_after) refl))
+  plain_grown (Tree.tuple o l c) r = ap (λ (b : Branches). branch Nodes.a_tuple nowhere r 0 b) (attributes_grown l none none refl)
+  plain_grown (Tree.lot o l c) r = ap (λ (b : Branches). branch Nodes.a_lot nowhere r 0 b) (listing_grown l none none refl)
   plain_grown (Tree.counted o h s k b l e c) r =
       ap (λ (x : Branches). branch (Nodes.collection_kind h) nowhere r (other_detail (Nodes.collection_kind h) 0) x) (listing_grown l none none refl)
   plain_grown (Tree.interval o b c) r = bounds_grown b o c r
@@ -105,15 +105,15 @@ mutual
       bleach (grow_plain (Tree.interval o (norm_bounds b) c) r) ≡ bleach (grow_plain (Tree.interval o (turn_bounds b) c) r)
   bounds_grown Tree.empty o c r = refl
   bounds_grown (Tree.single v) o c r =
-      ap (λ (x : Branches). branch Nodes.anInterval nowhere r (Nodes.bounds_detail (Tree.single (turn v))) x) (both (value_grown v Nodes.single) refl)
+      ap (λ (x : Branches). branch Nodes.an_interval nowhere r (Nodes.bounds_detail (Tree.single (turn v))) x) (both (value_grown v Nodes.single) refl)
   bounds_grown (Tree.between v b k w) o c r =
-      ap (λ (x : Branches). branch Nodes.anInterval nowhere r (Nodes.bounds_detail (Tree.between (turn v) b k (turn w))) x)
+      ap (λ (x : Branches). branch Nodes.an_interval nowhere r (Nodes.bounds_detail (Tree.between (turn v) b k (turn w))) x)
       (both (value_grown v Nodes.low) (both (value_grown w Nodes.high) refl))
   bounds_grown (Tree.from v a k) o c r =
-      ap (λ (x : Branches). branch Nodes.anInterval nowhere r (Nodes.bounds_detail (Tree.from (turn v) a k)) x) (both (value_grown v Nodes.low) refl)
+      ap (λ (x : Branches). branch Nodes.an_interval nowhere r (Nodes.bounds_detail (Tree.from (turn v) a k)) x) (both (value_grown v Nodes.low) refl)
   bounds_grown (Tree.up_to Tree.less k v) o c r =
-      ap (λ (x : Branches). branch Nodes.anInterval nowhere r (Nodes.bounds_detail (Tree.up_to Tree.less k (turn v))) x) (both (value_grown v Nodes.high) refl)
+      ap (λ (x : Branches). branch Nodes.an_interval nowhere r (Nodes.bounds_detail (Tree.up_to Tree.less k (turn v))) x) (both (value_grown v Nodes.high) refl)
   bounds_grown (Tree.up_to Tree.less_equal k v) o c r =
-      ap (λ (x : Branches). branch Nodes.anInterval nowhere r (Nodes.bounds_detail (Tree.up_to Tree.less_equal k (turn v))) x)
+      ap (λ (x : Branches). branch Nodes.an_interval nowhere r (Nodes.bounds_detail (Tree.up_to Tree.less_equal k (turn v))) x)
       (both (value_grown v Nodes.high) refl)
   bounds_grown (Tree.all k) o c r = refl

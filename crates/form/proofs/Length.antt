@@ -84,13 +84,13 @@ module _ (bytes : List ℕ) where
       )
 
   mark_fair : (m : Mark) (s : Span) → Piece bytes (mark m) s → length (mark_bytes m) ≤ cost s
-  mark_fair Tokens.roundClose s p = same_short s _ (row_matches (codes ")") (plain bytes p.is.told.takes))
-  mark_fair Tokens.curlyClose s p = same_short s _ (row_matches (codes "}") (plain bytes p.is.told.takes))
-  mark_fair Tokens.squareClose s p = same_short s _ (row_matches (codes "]") (plain bytes p.is.told.takes))
+  mark_fair Tokens.round_close s p = same_short s _ (row_matches (codes ")") (plain bytes p.is.told.takes))
+  mark_fair Tokens.curly_close s p = same_short s _ (row_matches (codes "}") (plain bytes p.is.told.takes))
+  mark_fair Tokens.square_close s p = same_short s _ (row_matches (codes "]") (plain bytes p.is.told.takes))
   mark_fair Tokens.comma s p = same_short s _ (row_matches (codes ",") (plain bytes p.is.told.takes))
   mark_fair Tokens.colon s p = omega (arith, p.is.told.0)
-  mark_fair Tokens.rightArrow s p = same_short s _ (row_matches (codes "->") (plain bytes p.is.told.takes))
-  mark_fair Tokens.leftArrow s p = same_short s _ (row_matches (codes "<-") (plain bytes p.is.told.takes))
+  mark_fair Tokens.right_arrow s p = same_short s _ (row_matches (codes "->") (plain bytes p.is.told.takes))
+  mark_fair Tokens.left_arrow s p = same_short s _ (row_matches (codes "<-") (plain bytes p.is.told.takes))
   mark_fair Tokens.dots s p = same_short s _ (row_matches (codes "..") (plain bytes p.is.told.takes))
   mark_fair (Tokens.star a b) s p = same_short s _ (star_is a b (plain bytes p.is.told.takes))
 

@@ -25,13 +25,13 @@ use Rattle.form.proofs.Ends.{Said}
 -- of the first child of a member: a comma stands in front, if it is not the first member
 record Opens (r : Role) : Type 0 where
   led : (before : ℕ) → eqb before (role_number Nodes.name) ≡ false → lead 0 before r ≡ comma before
-  straight : r ≡ Nodes.thatBefore → ⊥
+  straight : r ≡ Nodes.that_before → ⊥
 
 -- of the last child of a member
 record Closes (r : Role) : Type 0 where
   some : eqb (role_number r) 0 ≡ false
   no_name : eqb (role_number r) (role_number Nodes.name) ≡ false
-  straight : r ≡ Nodes.thatBefore → ⊥
+  straight : r ≡ Nodes.that_before → ⊥
 
 opens_this : Opens Nodes.this
 opens_this = record { led = λ before e. refl; straight = λ e. omega (arith, ap role_number e) }
@@ -45,7 +45,7 @@ opens_value = record { led = λ before e. ap (λ (b : Bool). cond b (codes ":") 
 closes_this : Closes Nodes.this
 closes_this = record { some = refl; no_name = refl; straight = λ e. omega (arith, ap role_number e) }
 
-closes_that : Closes Nodes.thatAfter
+closes_that : Closes Nodes.that_after
 closes_that = record { some = refl; no_name = refl; straight = λ e. omega (arith, ap role_number e) }
 
 closes_value : Closes Nodes.value
@@ -72,7 +72,7 @@ module _ (bytes : List ℕ) where
     pub said : Said bytes a f
     pub role_is : role_of a ≡ r
 
-  pub child_as : {d before : ℕ} {r : Role} {a : Branch} {cs : Branches} {f : List Spelt → List Spelt} {ms : List ℕ} (x : Child r a f) → (r ≡ Nodes.thatBefore → ⊥) →
+  pub child_as : {d before : ℕ} {r : Role} {a : Branch} {cs : Branches} {f : List Spelt → List Spelt} {ms : List ℕ} (x : Child r a f) → (r ≡ Nodes.that_before → ⊥) →
       Listed bytes d (role_number r) cs ms → Listed bytes d before (more a cs) (lead d before r ++ (x.said.are ++ ms))
   child_as {d} {before} {r} {a} {cs} {ms = ms} x n l =
       subst (Listed bytes d before (more a cs)) (append_assoc (lead d before r) x.said.are ms)
@@ -136,7 +136,7 @@ module _ (bytes : List ℕ) where
           puts = puts_both x.said.puts (puts_both (puts_one (mark Tokens.colon) (codes ":")) (puts_both y.said.puts rest.puts));
         }
 
-    this_that : {a b : Branch} {f g : List Spelt → List Spelt} → Child Nodes.this a f → Child Nodes.thatAfter b g →
+    this_that : {a b : Branch} {f g : List Spelt → List Spelt} → Child Nodes.this a f → Child Nodes.that_after b g →
         Members (more a (more b cs)) (λ ws. f (sign Tokens.colon (g (h ws))))
     this_that x y = two opens_this closes_that refl x y
 
@@ -149,7 +149,7 @@ module _ (bytes : List ℕ) where
     value_count x y = two opens_value closes_count refl x y
 
     -- `b<-a`
-    that_this : {a b : Branch} {f g : List Spelt → List Spelt} → Child Nodes.thatBefore a f → Said bytes b g →
+    that_this : {a b : Branch} {f g : List Spelt → List Spelt} → Child Nodes.that_before a f → Said bytes b g →
         Members (more a (more b cs)) (λ ws. g (sign Tokens.colon (f (h ws))))
     that_this {a} {b} x y =
         record {
@@ -158,7 +158,7 @@ module _ (bytes : List ℕ) where
               subst (Listed bytes 0 before (more a (more b cs))) (append_assoc (comma before) (y.are ++ codes ":" ++ x.said.are) rest.are)
               (subst (λ (r : Role). Listed bytes 0 before (more a (more b cs)) (lead 0 before r ++ (y.are ++ codes ":" ++ x.said.are) ++ rest.are)) x.role_is
               (turned x.role_is x.said.walked y.walked
-              (subst (λ (r : Role). Listed bytes 0 (role_number r) cs rest.are) (sym x.role_is) (rest.listed Nodes.thatBefore refl refl))));
+              (subst (λ (r : Role). Listed bytes 0 (role_number r) cs rest.are) (sym x.role_is) (rest.listed Nodes.that_before refl refl))));
           puts = puts_both (puts_both (puts_both y.puts (puts_one (mark Tokens.colon) (codes ":"))) x.said.puts) rest.puts;
         }
 

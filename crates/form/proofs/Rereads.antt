@@ -14,7 +14,7 @@ use Rattle.grammar.specs.Tokens.{Tok}
 use Rattle.grammar.specs.Tree
 use Rattle.grammar.specs.Tree.{Value, Collection, array, set, bag}
 use Rattle.grammar.specs.Yield.{yield_value}
-use Rattle.grammar.specs.Level.{Level, Feature, arrays, sets, bags, intervals, leftArrows, arrowless, ◌Within◌, has_collection}
+use Rattle.grammar.specs.Level.{Level, Feature, arrays, sets, bags, intervals, left_arrows, arrowless, ◌Within◌, has_collection}
 use Rattle.grammar.proofs.Retired.{arrowless_within}
 use Rattle.reading.specs.declared.Limits.{Limits}
 use Rattle.reading.specs.Tokens.{Follow, opened}
@@ -66,7 +66,7 @@ readable_too false l m w-in = record { has_too = too }
     too sets e = w-in.has_too sets e
     too bags e = w-in.has_too bags e
     too intervals e = w-in.has_too intervals e
-    too leftArrows e = absurd (false≢true e)
+    too left_arrows e = absurd (false≢true e)
 
 -- a text with a derivation at the level l, and its plain form read at m, which has the forms of l, by limits of at least its depth; neither need have `<-`
 module _ (limits other : Limits) (l m : Level) (text : List ℕ) (v : Value) (d : Derived limits l text v) (depth : limits.depth ≤ other.depth)

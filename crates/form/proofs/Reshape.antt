@@ -134,23 +134,23 @@ mutual
       let x0 = reshape_names n r ts e in
       (Tree.nesting x0.0, x0.1, cc x0.2, x0.3, λ i. Tree.nesting (x0.4 i))
   reshape_plain (Tree.group o v c) r ts e =
-      let x0 = pop Tokens.round (yield_value v (tok (Tokens.mark Tokens.roundClose) c ∷ r)) ts e in
-      let x1 = reshape v (tok (Tokens.mark Tokens.roundClose) c ∷ r) x0.rest x0.alike in
-      let x2 = pop (Tokens.mark Tokens.roundClose) r x1.1 x1.3 in
+      let x0 = pop Tokens.round (yield_value v (tok (Tokens.mark Tokens.round_close) c ∷ r)) ts e in
+      let x1 = reshape v (tok (Tokens.mark Tokens.round_close) c ∷ r) x0.rest x0.alike in
+      let x2 = pop (Tokens.mark Tokens.round_close) r x1.1 x1.3 in
       (Tree.group x0.at x1.0 x2.at, x2.rest, cc (x0.begins, x1.2, x2.begins), x2.alike, λ i. Tree.group nowhere (x1.4 i) nowhere)
   reshape_plain (Tree.pair o p k v c) r ts e =
-      let x0 = pop Tokens.round (yield_plain p (tok (Tokens.mark Tokens.colon) k ∷ (yield_value v (tok (Tokens.mark Tokens.roundClose) c ∷ r)))) ts e in
-      let x1 = reshape_plain p (tok (Tokens.mark Tokens.colon) k ∷ (yield_value v (tok (Tokens.mark Tokens.roundClose) c ∷ r))) x0.rest x0.alike in
-      let x2 = pop (Tokens.mark Tokens.colon) (yield_value v (tok (Tokens.mark Tokens.roundClose) c ∷ r)) x1.1 x1.3 in
-      let x3 = reshape v (tok (Tokens.mark Tokens.roundClose) c ∷ r) x2.rest x2.alike in
-      let x4 = pop (Tokens.mark Tokens.roundClose) r x3.1 x3.3 in
+      let x0 = pop Tokens.round (yield_plain p (tok (Tokens.mark Tokens.colon) k ∷ (yield_value v (tok (Tokens.mark Tokens.round_close) c ∷ r)))) ts e in
+      let x1 = reshape_plain p (tok (Tokens.mark Tokens.colon) k ∷ (yield_value v (tok (Tokens.mark Tokens.round_close) c ∷ r))) x0.rest x0.alike in
+      let x2 = pop (Tokens.mark Tokens.colon) (yield_value v (tok (Tokens.mark Tokens.round_close) c ∷ r)) x1.1 x1.3 in
+      let x3 = reshape v (tok (Tokens.mark Tokens.round_close) c ∷ r) x2.rest x2.alike in
+      let x4 = pop (Tokens.mark Tokens.round_close) r x3.1 x3.3 in
       (Tree.pair x0.at x1.0 x2.at x3.0 x4.at, x4.rest, cc (x0.begins, x1.2, x2.begins, x3.2, x4.begins), x4.alike, λ i. Tree.pair nowhere (x1.4 i) nowhere (x3.4 i) nowhere)
   reshape_plain (Tree.arrowed o v a k w c) r ts e =
-      let x0 = pop Tokens.round (yield_value v (tok (Tokens.mark (arrow_mark a)) k ∷ (yield_value w (tok (Tokens.mark Tokens.roundClose) c ∷ r)))) ts e in
-      let x1 = reshape v (tok (Tokens.mark (arrow_mark a)) k ∷ (yield_value w (tok (Tokens.mark Tokens.roundClose) c ∷ r))) x0.rest x0.alike in
-      let x2 = pop (Tokens.mark (arrow_mark a)) (yield_value w (tok (Tokens.mark Tokens.roundClose) c ∷ r)) x1.1 x1.3 in
-      let x3 = reshape w (tok (Tokens.mark Tokens.roundClose) c ∷ r) x2.rest x2.alike in
-      let x4 = pop (Tokens.mark Tokens.roundClose) r x3.1 x3.3 in (
+      let x0 = pop Tokens.round (yield_value v (tok (Tokens.mark (arrow_mark a)) k ∷ (yield_value w (tok (Tokens.mark Tokens.round_close) c ∷ r)))) ts e in
+      let x1 = reshape v (tok (Tokens.mark (arrow_mark a)) k ∷ (yield_value w (tok (Tokens.mark Tokens.round_close) c ∷ r))) x0.rest x0.alike in
+      let x2 = pop (Tokens.mark (arrow_mark a)) (yield_value w (tok (Tokens.mark Tokens.round_close) c ∷ r)) x1.1 x1.3 in
+      let x3 = reshape w (tok (Tokens.mark Tokens.round_close) c ∷ r) x2.rest x2.alike in
+      let x4 = pop (Tokens.mark Tokens.round_close) r x3.1 x3.3 in (
         Tree.arrowed x0.at x1.0 a x2.at x3.0 x4.at,
         x4.rest,
         cc (x0.begins, x1.2, x2.begins, x3.2, x4.begins),
@@ -158,30 +158,30 @@ mutual
         λ i. Tree.arrowed nowhere (x1.4 i) a nowhere (x3.4 i) nowhere,
       )
   reshape_plain (Tree.tuple o l c) r ts e =
-      let x0 = pop Tokens.round (yield_attributes l (tok (Tokens.mark Tokens.roundClose) c ∷ r)) ts e in
-      let x1 = reshape_attributes l (tok (Tokens.mark Tokens.roundClose) c ∷ r) x0.rest x0.alike in
-      let x2 = pop (Tokens.mark Tokens.roundClose) r x1.1 x1.3 in
+      let x0 = pop Tokens.round (yield_attributes l (tok (Tokens.mark Tokens.round_close) c ∷ r)) ts e in
+      let x1 = reshape_attributes l (tok (Tokens.mark Tokens.round_close) c ∷ r) x0.rest x0.alike in
+      let x2 = pop (Tokens.mark Tokens.round_close) r x1.1 x1.3 in
       (Tree.tuple x0.at x1.0 x2.at, x2.rest, cc (x0.begins, x1.2, x2.begins), x2.alike, λ i. Tree.tuple nowhere (x1.4 i) nowhere)
   reshape_plain (Tree.lot o l c) r ts e =
-      let x0 = pop Tokens.curly (yield_listing l (tok (Tokens.mark Tokens.curlyClose) c ∷ r)) ts e in
-      let x1 = reshape_listing l (tok (Tokens.mark Tokens.curlyClose) c ∷ r) x0.rest x0.alike in
-      let x2 = pop (Tokens.mark Tokens.curlyClose) r x1.1 x1.3 in
+      let x0 = pop Tokens.curly (yield_listing l (tok (Tokens.mark Tokens.curly_close) c ∷ r)) ts e in
+      let x1 = reshape_listing l (tok (Tokens.mark Tokens.curly_close) c ∷ r) x0.rest x0.alike in
+      let x2 = pop (Tokens.mark Tokens.curly_close) r x1.1 x1.3 in
       (Tree.lot x0.at x1.0 x2.at, x2.rest, cc (x0.begins, x1.2, x2.begins), x2.alike, λ i. Tree.lot nowhere (x1.4 i) nowhere)
   reshape_plain (Tree.counted o h s k b l d c) r ts e =
       let x0 = pop Tokens.round (tok
       (Tokens.text (Tokens.head_word (collection_head h))) s ∷ (tok
       (Tokens.mark Tokens.colon) k ∷ (tok Tokens.curly b ∷ (yield_listing l
-      (tok (Tokens.mark Tokens.curlyClose) d ∷ (tok (Tokens.mark Tokens.roundClose) c ∷ r)))))) ts e in
+      (tok (Tokens.mark Tokens.curly_close) d ∷ (tok (Tokens.mark Tokens.round_close) c ∷ r)))))) ts e in
       let x1 = pop (Tokens.text (Tokens.head_word (collection_head h)))
       (tok (Tokens.mark Tokens.colon) k ∷ (tok Tokens.curly b ∷ (yield_listing l
-      (tok (Tokens.mark Tokens.curlyClose) d ∷ (tok (Tokens.mark Tokens.roundClose) c ∷ r))))) x0.rest x0.alike in
+      (tok (Tokens.mark Tokens.curly_close) d ∷ (tok (Tokens.mark Tokens.round_close) c ∷ r))))) x0.rest x0.alike in
       let x2 = pop (Tokens.mark Tokens.colon)
-      (tok Tokens.curly b ∷ (yield_listing l (tok (Tokens.mark Tokens.curlyClose) d ∷ (tok (Tokens.mark Tokens.roundClose) c ∷ r)))) x1.rest
+      (tok Tokens.curly b ∷ (yield_listing l (tok (Tokens.mark Tokens.curly_close) d ∷ (tok (Tokens.mark Tokens.round_close) c ∷ r)))) x1.rest
       x1.alike in
-      let x3 = pop Tokens.curly (yield_listing l (tok (Tokens.mark Tokens.curlyClose) d ∷ (tok (Tokens.mark Tokens.roundClose) c ∷ r))) x2.rest x2.alike in
-      let x4 = reshape_listing l (tok (Tokens.mark Tokens.curlyClose) d ∷ (tok (Tokens.mark Tokens.roundClose) c ∷ r)) x3.rest x3.alike in
-      let x5 = pop (Tokens.mark Tokens.curlyClose) (tok (Tokens.mark Tokens.roundClose) c ∷ r) x4.1 x4.3 in
-      let x6 = pop (Tokens.mark Tokens.roundClose) r x5.rest x5.alike in (
+      let x3 = pop Tokens.curly (yield_listing l (tok (Tokens.mark Tokens.curly_close) d ∷ (tok (Tokens.mark Tokens.round_close) c ∷ r))) x2.rest x2.alike in
+      let x4 = reshape_listing l (tok (Tokens.mark Tokens.curly_close) d ∷ (tok (Tokens.mark Tokens.round_close) c ∷ r)) x3.rest x3.alike in
+      let x5 = pop (Tokens.mark Tokens.curly_close) (tok (Tokens.mark Tokens.round_close) c ∷ r) x4.1 x4.3 in
+      let x6 = pop (Tokens.mark Tokens.round_close) r x5.rest x5.alike in (
         Tree.counted x0.at h x1.at x2.at x3.at x4.0 x5.at x6.at,
         x6.rest,
         cc
@@ -190,9 +190,9 @@ mutual
         λ i. Tree.counted nowhere h nowhere nowhere nowhere (x4.4 i) nowhere nowhere,
       )
   reshape_plain (Tree.interval o b c) r ts e =
-      let x0 = pop Tokens.square (yield_bounds b (tok (Tokens.mark Tokens.squareClose) c ∷ r)) ts e in
-      let x1 = reshape_bounds b (tok (Tokens.mark Tokens.squareClose) c ∷ r) x0.rest x0.alike in
-      let x2 = pop (Tokens.mark Tokens.squareClose) r x1.1 x1.3 in
+      let x0 = pop Tokens.square (yield_bounds b (tok (Tokens.mark Tokens.square_close) c ∷ r)) ts e in
+      let x1 = reshape_bounds b (tok (Tokens.mark Tokens.square_close) c ∷ r) x0.rest x0.alike in
+      let x2 = pop (Tokens.mark Tokens.square_close) r x1.1 x1.3 in
       (Tree.interval x0.at x1.0 x2.at, x2.rest, cc (x0.begins, x1.2, x2.begins), x2.alike, λ i. Tree.interval nowhere (x1.4 i) nowhere)
 
   reshape_item : {s : Style} (x : Item s) (r ts : List Tok) → classes ts ≡ classes (yield_item x r) →

@@ -9,7 +9,7 @@ use Rattle.lexicon.specs.Token.{Comes}
 use Rattle.grammar.specs.Tokens.{Span, Tok}
 use Rattle.grammar.specs.Tree
 use Rattle.grammar.specs.Tree.{plain_name, bare_name, Arrow, rightward, leftward, Joiner, Style, Value, Plain, Item, Row, Listing, Attributes, Bounds}
-use Rattle.grammar.specs.Level.{Level, intervals, leftArrows, has_collection, has_arrow_of, has_joiner, keeps, keeps_plain, keeps_item, keeps_row, keeps_listing, keeps_attributes, keeps_bounds}
+use Rattle.grammar.specs.Level.{Level, intervals, left_arrows, has_collection, has_arrow_of, has_joiner, keeps, keeps_plain, keeps_item, keeps_row, keeps_listing, keeps_attributes, keeps_bounds}
 use Rattle.grammar.proofs.OneTree.{one_tree}
 use Rattle.grammar.proofs.Moved.{keeps_moved}
 use Rattle.reading.specs.declared.Limits.{Limits}
@@ -55,15 +55,15 @@ module _ (l : Level) where
   tuple_forms (Tree.row_led b i c) = opened_forms i
   tuple_forms (Tree.row_next o i c) = refl
 
-  module _ (arrows : l leftArrows ≡ true) where
+  module _ (arrows : l left_arrows ≡ true) where
     pair_forms : (a : Arrow) (o k c : Span) (x y : Plain) → keeps_plain l (pair_up a o x k y c) ≡ (keeps_plain l x && has_arrow_of l a && keeps_plain l y)
     pair_forms rightward o k c x y = with_true (keeps_plain l x) (keeps_plain l y)
-    pair_forms leftward o k c x y = with_true (keeps_plain l y) (keeps_plain l x) ∙ swapped (keeps_plain l x) (keeps_plain l y) (l leftArrows) arrows
+    pair_forms leftward o k c x y = with_true (keeps_plain l y) (keeps_plain l x) ∙ swapped (keeps_plain l x) (keeps_plain l y) (l left_arrows) arrows
 
     join_forms : (j : Joiner) (k : Span) (x y : Plain) → keeps_item l (join_up j x k y) ≡ (keeps_plain l x && has_joiner l j && keeps_plain l y)
     join_forms Tree.colon k x y = refl
     join_forms (Tree.arrow rightward) k x y = refl
-    join_forms (Tree.arrow leftward) k x y = swapped (keeps_plain l x) (keeps_plain l y) (l leftArrows) arrows
+    join_forms (Tree.arrow leftward) k x y = swapped (keeps_plain l x) (keeps_plain l y) (l left_arrows) arrows
 
     mutual
       value_forms : (v : Value) → keeps_plain l (norm v) ≡ keeps l v
@@ -136,7 +136,7 @@ module _ (bytes : List ℕ) where
 
 module _ (limits : Limits) (l : Level) (text : List ℕ) (v : Value) (a : Accepted limits text l v) where
   -- whichever limits and level accept the plain form
-  pub same_forms : (other : Limits) {b : Level} {w : Value} → Accepted other (plain_form text v) b w → (m : Level) → m leftArrows ≡ true → keeps m w ≡ keeps m v
+  pub same_forms : (other : Limits) {b : Level} {w : Value} → Accepted other (plain_form text v) b w → (m : Level) → m left_arrows ≡ true → keeps m w ≡ keeps m v
   same_forms other {b} {w} x m arrows =
       let ps = derived_pieces limits l text v (accepted_derived limits text a) in
       let t = plain_tree text v in

@@ -132,11 +132,11 @@ module _ (bytes : List ℕ) where
     plain_paid (Tree.text w s) r h = text_paid w s r h
     plain_paid (Tree.nesting n) r h = names_paid n r h
     plain_paid (Tree.group o v c) r h =
-        let a = value_paid v (Yield.sign Tokens.roundClose c r) h.1 in
+        let a = value_paid v (Yield.sign Tokens.round_close c r) h.1 in
         record { rest = a.rest.1; pays = λ q. omega (arith, a.pays q) }
     plain_paid (Tree.pair o p k v c) r h =
-        let a = plain_paid p (Yield.sign Tokens.colon k (yield_value v (Yield.sign Tokens.roundClose c r))) h.1 in
-        let b = value_paid v (Yield.sign Tokens.roundClose c r) a.rest.1 in
+        let a = plain_paid p (Yield.sign Tokens.colon k (yield_value v (Yield.sign Tokens.round_close c r))) h.1 in
+        let b = value_paid v (Yield.sign Tokens.round_close c r) a.rest.1 in
         record {
           rest = b.rest.1;
           pays = λ q. omega (
@@ -144,26 +144,26 @@ module _ (bytes : List ℕ) where
             h.0,
             a.rest.0,
             b.rest.0,
-            a.pays (sign Tokens.colon (spell bytes v (sign Tokens.roundClose q))),
+            a.pays (sign Tokens.colon (spell bytes v (sign Tokens.round_close q))),
             b.pays
-                (sign Tokens.roundClose q),
+                (sign Tokens.round_close q),
           );
         }
     plain_paid (Tree.arrowed o v x k w c) r h =
-        let a = value_paid v (Yield.sign (arrow_mark x) k (yield_value w (Yield.sign Tokens.roundClose c r))) h.1 in
-        let b = value_paid w (Yield.sign Tokens.roundClose c r) a.rest.1 in
-        let e = either_pays x k (mark (arrow_mark x)) (yield_value v (Yield.sign (arrow_mark x) k (yield_value w (Yield.sign Tokens.roundClose c r))))
-        (yield_value w (Yield.sign Tokens.roundClose c r)) (Yield.sign Tokens.roundClose c r)
+        let a = value_paid v (Yield.sign (arrow_mark x) k (yield_value w (Yield.sign Tokens.round_close c r))) h.1 in
+        let b = value_paid w (Yield.sign Tokens.round_close c r) a.rest.1 in
+        let e = either_pays x k (mark (arrow_mark x)) (yield_value v (Yield.sign (arrow_mark x) k (yield_value w (Yield.sign Tokens.round_close c r))))
+        (yield_value w (Yield.sign Tokens.round_close c r)) (Yield.sign Tokens.round_close c r)
         (λ z. spell bytes v z) (λ z. spell bytes w z) (arrow_one x k a.rest.0) a.pays b.pays in
-        record { rest = b.rest.1; pays = λ q. omega (arith, h.0, b.rest.0, e (sign Tokens.roundClose q)) }
+        record { rest = b.rest.1; pays = λ q. omega (arith, h.0, b.rest.0, e (sign Tokens.round_close q)) }
     plain_paid (Tree.tuple o i c) r h =
-        let a = attributes_paid i (Yield.sign Tokens.roundClose c r) h.1 in
-        record { rest = a.rest.1; pays = λ q. omega (arith, h.0, a.rest.0, a.pays (sign Tokens.roundClose q)) }
+        let a = attributes_paid i (Yield.sign Tokens.round_close c r) h.1 in
+        record { rest = a.rest.1; pays = λ q. omega (arith, h.0, a.rest.0, a.pays (sign Tokens.round_close q)) }
     plain_paid (Tree.lot o i c) r h =
-        let a = listing_paid i (Yield.sign Tokens.curlyClose c r) h.1 in
-        record { rest = a.rest.1; pays = λ q. omega (arith, h.0, a.rest.0, a.pays (sign Tokens.curlyClose q)) }
+        let a = listing_paid i (Yield.sign Tokens.curly_close c r) h.1 in
+        record { rest = a.rest.1; pays = λ q. omega (arith, h.0, a.rest.0, a.pays (sign Tokens.curly_close q)) }
     plain_paid (Tree.counted o x s k b i e c) r h =
-        let a = listing_paid i (Yield.sign Tokens.curlyClose e (Yield.sign Tokens.roundClose c r)) h.1.1.1.1 in
+        let a = listing_paid i (Yield.sign Tokens.curly_close e (Yield.sign Tokens.round_close c r)) h.1.1.1.1 in
         record {
           rest = a.rest.1.1;
           pays = λ q. omega (
@@ -175,12 +175,12 @@ module _ (bytes : List ℕ) where
             a.rest.0,
             a.rest.1.0,
             a.pays
-                (sign Tokens.curlyClose (sign Tokens.roundClose q)),
+                (sign Tokens.curly_close (sign Tokens.round_close q)),
           );
         }
     plain_paid (Tree.interval o b c) r h =
-        let a = bounds_paid b (Yield.sign Tokens.squareClose c r) h.1 in
-        record { rest = a.rest.1; pays = λ q. omega (arith, h.0, a.rest.0, a.pays (sign Tokens.squareClose q)) }
+        let a = bounds_paid b (Yield.sign Tokens.square_close c r) h.1 in
+        record { rest = a.rest.1; pays = λ q. omega (arith, h.0, a.rest.0, a.pays (sign Tokens.square_close q)) }
 
     item_paid : {s : Style} (i : Item s) (r : List Tok) → Fairs (yield_item i r) → Paid (yield_item i r) r (λ q. spell_item bytes i q)
     item_paid (Tree.alone v) r h = value_paid v r h

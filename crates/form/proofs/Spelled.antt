@@ -78,14 +78,14 @@ colon_rest g = cons refl (lead_next (mark Tokens.colon) [] ok g)
 pub comma_rest : (s : List Spelt) → neighbours s ≡ true → Rest (comma s)
 comma_rest s n = cons refl (free_next (mark Tokens.comma) [] (λ d. refl) s n)
 
-pub close_round_lem : (s : List Spelt) → neighbours s ≡ true → Rest (sign Tokens.roundClose s)
-close_round_lem s n = cons refl (free_next (mark Tokens.roundClose) [] (λ d. refl) s n)
+pub close_round_lem : (s : List Spelt) → neighbours s ≡ true → Rest (sign Tokens.round_close s)
+close_round_lem s n = cons refl (free_next (mark Tokens.round_close) [] (λ d. refl) s n)
 
-pub close_curly_lem : (s : List Spelt) → neighbours s ≡ true → Rest (sign Tokens.curlyClose s)
-close_curly_lem s n = cons refl (free_next (mark Tokens.curlyClose) [] (λ d. refl) s n)
+pub close_curly_lem : (s : List Spelt) → neighbours s ≡ true → Rest (sign Tokens.curly_close s)
+close_curly_lem s n = cons refl (free_next (mark Tokens.curly_close) [] (λ d. refl) s n)
 
-pub close_square_lem : (s : List Spelt) → neighbours s ≡ true → Rest (sign Tokens.squareClose s)
-close_square_lem s n = cons refl (free_next (mark Tokens.squareClose) [] (λ d. refl) s n)
+pub close_square_lem : (s : List Spelt) → neighbours s ≡ true → Rest (sign Tokens.square_close s)
+close_square_lem s n = cons refl (free_next (mark Tokens.square_close) [] (λ d. refl) s n)
 
 pub between_rest : (b : Between) {s : List Spelt} → Good s → Rest (sign (between_mark b) s)
 between_rest Tree.two_dots {s} g = cons refl (free_next (mark Tokens.dots) [] (λ d. refl) s (good_fine g))
@@ -94,7 +94,7 @@ between_rest (Tree.star_sign Tree.less Tree.less_equal) {s} g = cons refl (free_
 between_rest (Tree.star_sign Tree.less_equal Tree.less) {s} g = cons refl (free_next (mark (Tokens.star LessEqual Less)) [] (λ d. refl) s (good_fine g))
 between_rest (Tree.star_sign Tree.less_equal Tree.less_equal) {s} g = cons refl (free_next (mark (Tokens.star LessEqual LessEqual)) [] (λ d. refl) s (good_fine g))
 
-pub from_rest : (a : Side) (s : List Spelt) → neighbours s ≡ true → Rest (sign (Tokens.star (side_bound a) Open) (sign Tokens.squareClose s))
+pub from_rest : (a : Side) (s : List Spelt) → neighbours s ≡ true → Rest (sign (Tokens.star (side_bound a) Open) (sign Tokens.square_close s))
 from_rest Tree.less s n = cons refl (rest_fine (close_square_lem s n))
 from_rest Tree.less_equal s n = cons refl (rest_fine (close_square_lem s n))
 
@@ -182,9 +182,9 @@ module _ (bytes : List ℕ) where
     plain_good (Tree.tuple o l c) r h = bracket round _ refl (λ d. refl) _ (attributes_fine l _ (close_round_lem r (rest_fine h)))
     plain_good (Tree.lot o l c) r h = bracket curly _ refl (λ d. refl) _ (listing_fine l _ (close_curly_lem r (rest_fine h)))
     plain_good (Tree.counted o x s k b l e c) r h =
-        let m = listing_fine l (sign Tokens.curlyClose (sign Tokens.roundClose r))
-        (close_curly_lem (sign Tokens.roundClose r) (rest_fine (close_round_lem r (rest_fine h)))) in
-        let n = bracket curly (codes "{") refl (λ d. refl) (spell_listing bytes l (sign Tokens.curlyClose (sign Tokens.roundClose r))) m in
+        let m = listing_fine l (sign Tokens.curly_close (sign Tokens.round_close r))
+        (close_curly_lem (sign Tokens.round_close r) (rest_fine (close_round_lem r (rest_fine h)))) in
+        let n = bracket curly (codes "{") refl (λ d. refl) (spell_listing bytes l (sign Tokens.curly_close (sign Tokens.round_close r))) m in
         bracket round _ refl (λ d. refl) _ (good_fine (text_next (Tokens.head_word (collection_head x)) (codes (head_word (collection_head x))) (colon_rest n)))
     plain_good (Tree.interval o b c) r h = bracket square _ refl (λ d. refl) _ (bounds_fine b r (rest_fine h))
 
@@ -215,7 +215,7 @@ module _ (bytes : List ℕ) where
     attributes_fine (Tree.trailing_comma o) r h = good_fine (row_good o _ (one_rest o r h))
     attributes_fine (Tree.last_attribute o i) r h = good_fine (row_good o _ (comma_rest _ (good_fine (item_good i r h))))
 
-    bounds_fine : (b : Bounds) (r : List Spelt) → neighbours r ≡ true → neighbours (spell_bounds bytes b (sign Tokens.squareClose r)) ≡ true
+    bounds_fine : (b : Bounds) (r : List Spelt) → neighbours r ≡ true → neighbours (spell_bounds bytes b (sign Tokens.square_close r)) ≡ true
     bounds_fine Tree.empty r n = rest_fine (close_square_lem r n)
     bounds_fine (Tree.single v) r n = good_fine (value_good v _ (close_square_lem r n))
     bounds_fine (Tree.between v b k w) r n = good_fine (value_good v _ (between_rest b (value_good w _ (close_square_lem r n))))

@@ -21,15 +21,15 @@ twice Nodes.an_integer d = refl
 twice Nodes.a_fraction d = refl
 twice Nodes.a_bits d = refl
 twice Nodes.a_blob d = refl
-twice Nodes.aText d = refl
-twice Nodes.aNesting d = refl
-twice Nodes.aPair d = refl
-twice Nodes.aTuple d = refl
-twice Nodes.aLot d = refl
-twice Nodes.anArray d = refl
-twice Nodes.aSet d = refl
-twice Nodes.aBag d = refl
-twice Nodes.anInterval d = refl
+twice Nodes.a_text d = refl
+twice Nodes.a_nesting d = refl
+twice Nodes.a_pair d = refl
+twice Nodes.a_tuple d = refl
+twice Nodes.a_lot d = refl
+twice Nodes.an_array d = refl
+twice Nodes.a_set d = refl
+twice Nodes.a_bag d = refl
+twice Nodes.an_interval d = refl
 
 mutual
   pub flat_same : (b : Branch) (p n : ℕ) → map unspelled (flat b p n) ≡ map unspelled (flat (bleach b) p n)

@@ -30,15 +30,15 @@ opening Nodes.an_integer = []
 opening Nodes.a_fraction = []
 opening Nodes.a_bits = []
 opening Nodes.a_blob = []
-opening Nodes.aText = []
-opening Nodes.aNesting = []
-opening Nodes.aPair = codes "("
-opening Nodes.aTuple = codes "("
-opening Nodes.aLot = codes "{"
-opening Nodes.anArray = codes "(Array:{"
-opening Nodes.aSet = codes "(Set:{"
-opening Nodes.aBag = codes "(Bag:{"
-opening Nodes.anInterval = codes "["
+opening Nodes.a_text = []
+opening Nodes.a_nesting = []
+opening Nodes.a_pair = codes "("
+opening Nodes.a_tuple = codes "("
+opening Nodes.a_lot = codes "{"
+opening Nodes.an_array = codes "(Array:{"
+opening Nodes.a_set = codes "(Set:{"
+opening Nodes.a_bag = codes "(Bag:{"
+opening Nodes.an_interval = codes "["
 
 abbrev pub closing : NodeKind → List ℕ
 closing Nodes.an_ignorance = []
@@ -47,15 +47,15 @@ closing Nodes.an_integer = []
 closing Nodes.a_fraction = []
 closing Nodes.a_bits = []
 closing Nodes.a_blob = []
-closing Nodes.aText = []
-closing Nodes.aNesting = []
-closing Nodes.aPair = codes ")"
-closing Nodes.aTuple = codes ")"
-closing Nodes.aLot = codes "}"
-closing Nodes.anArray = codes "})"
-closing Nodes.aSet = codes "})"
-closing Nodes.aBag = codes "})"
-closing Nodes.anInterval = codes "]"
+closing Nodes.a_text = []
+closing Nodes.a_nesting = []
+closing Nodes.a_pair = codes ")"
+closing Nodes.a_tuple = codes ")"
+closing Nodes.a_lot = codes "}"
+closing Nodes.an_array = codes "})"
+closing Nodes.a_set = codes "})"
+closing Nodes.a_bag = codes "})"
+closing Nodes.an_interval = codes "]"
 
 -- the sign of an Interval by its detail: none of an empty one and of a single value
 abbrev pub sign_bytes : ℕ → List ℕ
@@ -80,8 +80,8 @@ comma before = cond (eqb before 0) [] (codes ",")
 abbrev pub lead : (detail before : ℕ) → Role → List ℕ
 lead d before Nodes.root = []
 lead d before Nodes.this = comma before
-lead d before Nodes.thatAfter = codes ":"
-lead d before Nodes.thatBefore = comma before
+lead d before Nodes.that_after = codes ":"
+lead d before Nodes.that_before = comma before
 lead d before Nodes.name = comma before
 lead d before Nodes.value = cond (eqb before (role_number Nodes.name)) (codes ":") (comma before)
 lead d before Nodes.count = codes ":"
@@ -111,15 +111,15 @@ tail Nodes.an_integer d bs = []
 tail Nodes.a_fraction d bs = []
 tail Nodes.a_bits d bs = []
 tail Nodes.a_blob d bs = []
-tail Nodes.aText d bs = []
-tail Nodes.aNesting d bs = []
-tail Nodes.aPair d bs = []
-tail Nodes.aTuple d bs = cond (one_attribute bs) (codes ",") []
-tail Nodes.aLot d bs = []
-tail Nodes.anArray d bs = []
-tail Nodes.aSet d bs = []
-tail Nodes.aBag d bs = []
-tail Nodes.anInterval d bs = last_sign_of d
+tail Nodes.a_text d bs = []
+tail Nodes.a_nesting d bs = []
+tail Nodes.a_pair d bs = []
+tail Nodes.a_tuple d bs = cond (one_attribute bs) (codes ",") []
+tail Nodes.a_lot d bs = []
+tail Nodes.an_array d bs = []
+tail Nodes.a_set d bs = []
+tail Nodes.a_bag d bs = []
+tail Nodes.an_interval d bs = last_sign_of d
 
 module _ (text : List ℕ) where
   -- ---- leaves
@@ -148,8 +148,8 @@ module _ (text : List ℕ) where
     fraction : {s : Span} {d : ℕ} → Leaf Nodes.a_fraction d s (bare (part text s))
     bits : {s : Span} {d : ℕ} → Leaf Nodes.a_bits d s (bare (part text s))
     blob : {s : Span} {d : ℕ} → Leaf Nodes.a_blob d s (bare (part text s))
-    wording : {s : Span} {d : ℕ} {bs : List ℕ} → Named s.first s.end bs → Leaf Nodes.aText d s bs
-    nesting : {s : Span} {d : ℕ} {bs : List ℕ} → Named s.first s.end bs → Leaf Nodes.aNesting d s bs
+    wording : {s : Span} {d : ℕ} {bs : List ℕ} → Named s.first s.end bs → Leaf Nodes.a_text d s bs
+    nesting : {s : Span} {d : ℕ} {bs : List ℕ} → Named s.first s.end bs → Leaf Nodes.a_nesting d s bs
 
   -- ---- branches
 
@@ -157,15 +157,15 @@ module _ (text : List ℕ) where
     pub data Walked : Branch → List ℕ → Type 0 where
       leaf : {k : NodeKind} {s : Span} {r : Role} {d : ℕ} {bs : List ℕ} → s.first ≤ s.end → s.end ≤ length text → Leaf k d s bs →
           Walked (branch k s r d none) bs
-      bracket : {k : NodeKind} {s : Span} {r : Role} {d : ℕ} {cs : Branches} {bs : List ℕ} → kind_number_of Nodes.aPair ≤ kind_number_of k →
+      bracket : {k : NodeKind} {s : Span} {r : Role} {d : ℕ} {cs : Branches} {bs : List ℕ} → kind_number_of Nodes.a_pair ≤ kind_number_of k →
           Listed d 0 cs bs → Walked (branch k s r d cs) (opening k ++ bs ++ tail k d cs ++ closing k)
 
     -- children of a bracket with this detail, behind one of the role with this number
     pub data Listed : ℕ → ℕ → Branches → List ℕ → Type 0 where
       no_more : {d before : ℕ} → Listed d before none []
-      child : {d before : ℕ} {a : Branch} {bs : Branches} {m ms : List ℕ} → (role_of a ≡ Nodes.thatBefore → ⊥) →
+      child : {d before : ℕ} {a : Branch} {bs : Branches} {m ms : List ℕ} → (role_of a ≡ Nodes.that_before → ⊥) →
           Walked a m → Listed d (role_number (role_of a)) bs ms → Listed d before (more a bs) (lead d before (role_of a) ++ m ++ ms)
       -- `b<-a`: the this stands behind, and is written first
-      turned : {d before : ℕ} {a b : Branch} {bs : Branches} {m n ms : List ℕ} → role_of a ≡ Nodes.thatBefore →
+      turned : {d before : ℕ} {a b : Branch} {bs : Branches} {m n ms : List ℕ} → role_of a ≡ Nodes.that_before →
           Walked a m → Walked b n → Listed d (role_number (role_of a)) bs ms →
           Listed d before (more a (more b bs)) (lead d before (role_of a) ++ (n ++ codes ":" ++ m) ++ ms)

@@ -27,7 +27,7 @@ use Rattle.form.proofs.Puts.{puts_none, puts_one}
 use Rattle.form.proofs.Ends.{Said, first_token, literal_said, wording_detail, text_said, nesting_said}
 use Rattle.form.proofs.Roles.{value_role, plain_role, plain_name_role, name_role, count_role}
 use Rattle.form.proofs.Members.{alone, name_value_lem, value_count, Child, Leads, joined, whole, with_last}
-use Rattle.form.proofs.Bracketed.{counted_tail, Inside, inside_plain, in_bracket, a_pair, a_counted, Untailed, no_members, all_inside}
+use Rattle.form.proofs.Bracketed.{counted_tail, Inside, inside_plain, in_bracket, a_pair_lem, a_counted, Untailed, no_members, all_inside}
 use Rattle.form.proofs.Interval.{no_bound, single_bound, two_bounds, low_bound, high_bound, open_bounds}
 use Rattle.form.proofs.Attributes.{attribute_one, row_and_item, one_behind_lem, more_behind, trailing}
 
@@ -54,20 +54,20 @@ module _ (bytes : List ℕ) where
       Grown (end (atom_kind a) s role d) (λ ws. put (atom a) (bare (part bytes s)) ws) r
   a_literal_lem a s {r = r} x = (literal_said bytes a s (first_token bytes (atom a) s r x.row), past x)
 
-  a_text : (w : Wording) (s : Span) {role : Role} {r : List Tok} → InText (tok (text w) s ∷ r) →
-      Grown (end Nodes.aText s role (wording_detail w)) (λ ws. spell_wording bytes w s ws) r
-  a_text w s {r = r} x = (text_said bytes w s (first_token bytes (text w) s r x.row), past x)
+  a_text_lem : (w : Wording) (s : Span) {role : Role} {r : List Tok} → InText (tok (text w) s ∷ r) →
+      Grown (end Nodes.a_text s role (wording_detail w)) (λ ws. spell_wording bytes w s ws) r
+  a_text_lem w s {r = r} x = (text_said bytes w s (first_token bytes (text w) s r x.row), past x)
 
-  a_nesting : (n : Names) {role : Role} (r : List Tok) → InText (yield_names n r) → Grown (end Nodes.aNesting (names_span n) role 0) (λ ws. spell_names bytes n ws) r
-  a_nesting n r x = let y = nesting_said bytes n r x.row in (y.0, record { from = (names_span n).end; upto = x.upto; row = y.1 })
+  a_nesting_lem : (n : Names) {role : Role} (r : List Tok) → InText (yield_names n r) → Grown (end Nodes.a_nesting (names_span n) role 0) (λ ws. spell_names bytes n ws) r
+  a_nesting_lem n r x = let y = nesting_said bytes n r x.row in (y.0, record { from = (names_span n).end; upto = x.upto; row = y.1 })
 
   a_plain_name : (n : PlainName) (role : Role) (r : List Tok) → InText (yield_plain_name n r) → Grown (grow_plain_name n role) (λ ws. spell_plain_name bytes n ws) r
-  a_plain_name (text_name w s) role r x = a_text (spelled w) s x
-  a_plain_name (nesting_name n) role r x = a_nesting n r x
+  a_plain_name (text_name w s) role r x = a_text_lem (spelled w) s x
+  a_plain_name (nesting_name n) role r x = a_nesting_lem n r x
 
   a_name_lem : (n : Name) (role : Role) (r : List Tok) → InText (yield_name n r) → Grown (grow_name n role) (λ ws. spell_name bytes n ws) r
   a_name_lem (plain_name n) role r x = a_plain_name n role r x
-  a_name_lem (bare_name h s) role r x = a_text (Tokens.head_word h) s x
+  a_name_lem (bare_name h s) role r x = a_text_lem (Tokens.head_word h) s x
 
   a_count : {u : Measure} (c : Count u) (r : List Tok) → InText (yield_count c r) → Grown (grow_count c) (λ ws. spell_count bytes c ws) r
   a_count (Tree.number s) r x = a_literal_lem (Tokens.integer false) s x
@@ -81,33 +81,33 @@ module _ (bytes : List ℕ) where
   mutual
     of_value_lem : (v : Value) (role : Role) (r : List Tok) → InText (yield_value v r) → Grown (grow v role) (λ ws. spell bytes v ws) r
     of_value_lem (Tree.plain p) role r x = of_plain p role r x
-    of_value_lem (Tree.bare h s) role r x = a_text (Tokens.head_word h) s x
+    of_value_lem (Tree.bare h s) role r x = a_text_lem (Tokens.head_word h) s x
 
     of_plain : (p : Plain) (role : Role) (r : List Tok) → InText (yield_plain p r) → Grown (grow_plain p role) (λ ws. spell_plain bytes p ws) r
     of_plain (Tree.literal a s) role r x = a_literal_lem a s x
-    of_plain (Tree.text w s) role r x = a_text (spelled w) s x
-    of_plain (Tree.nesting n) role r x = a_nesting n r x
-    of_plain (Tree.group o v c) role r x = let y = of_value_lem v role (Yield.sign Tokens.roundClose c r) (past x) in (y.0, past y.1)
+    of_plain (Tree.text w s) role r x = a_text_lem (spelled w) s x
+    of_plain (Tree.nesting n) role r x = a_nesting_lem n r x
+    of_plain (Tree.group o v c) role r x = let y = of_value_lem v role (Yield.sign Tokens.round_close c r) (past x) in (y.0, past y.1)
     of_plain (Tree.pair o p k v c) role r x =
-        let y = of_plain p Nodes.this (Yield.sign Tokens.colon k (yield_value v (Yield.sign Tokens.roundClose c r))) (past x) in
-        let z = of_value_lem v Nodes.thatAfter (Yield.sign Tokens.roundClose c r) (past y.1) in
-        (a_pair bytes Tree.colon (record { said = y.0; role_is = plain_role p Nodes.this }) (value_child v Nodes.thatAfter z.0), past z.1)
+        let y = of_plain p Nodes.this (Yield.sign Tokens.colon k (yield_value v (Yield.sign Tokens.round_close c r))) (past x) in
+        let z = of_value_lem v Nodes.that_after (Yield.sign Tokens.round_close c r) (past y.1) in
+        (a_pair_lem bytes Tree.colon (record { said = y.0; role_is = plain_role p Nodes.this }) (value_child v Nodes.that_after z.0), past z.1)
     of_plain (Tree.arrowed o v a k w c) role r x =
-        let y = of_value_lem v (left_role_of a) (Yield.sign (arrow_mark a) k (yield_value w (Yield.sign Tokens.roundClose c r))) (past x) in
-        let z = of_value_lem w (right_role_of a) (Yield.sign Tokens.roundClose c r) (past y.1) in
-        (a_pair bytes (Tree.arrow a) (value_child v (left_role_of a) y.0) (value_child w (right_role_of a) z.0), past z.1)
+        let y = of_value_lem v (left_role_of a) (Yield.sign (arrow_mark a) k (yield_value w (Yield.sign Tokens.round_close c r))) (past x) in
+        let z = of_value_lem w (right_role_of a) (Yield.sign Tokens.round_close c r) (past y.1) in
+        (a_pair_lem bytes (Tree.arrow a) (value_child v (left_role_of a) y.0) (value_child w (right_role_of a) z.0), past z.1)
     of_plain (Tree.tuple o l c) role r x =
-        let y = of_attributes l (Yield.sign Tokens.roundClose c r) (past x) in
-        (in_bracket bytes (omega arith) (puts_one round (codes "(")) y.0 (puts_one (mark Tokens.roundClose) (codes ")")), past y.1)
+        let y = of_attributes l (Yield.sign Tokens.round_close c r) (past x) in
+        (in_bracket bytes (omega arith) (puts_one round (codes "(")) y.0 (puts_one (mark Tokens.round_close) (codes ")")), past y.1)
     of_plain (Tree.lot o l c) role r x =
-        let y = of_listing l Nodes.aLot (λ cs. refl) (Yield.sign Tokens.curlyClose c r) (past x) in
-        (in_bracket bytes (omega arith) (puts_one curly (codes "{")) y.0 (puts_one (mark Tokens.curlyClose) (codes "}")), past y.1)
+        let y = of_listing l Nodes.a_lot (λ cs. refl) (Yield.sign Tokens.curly_close c r) (past x) in
+        (in_bracket bytes (omega arith) (puts_one curly (codes "{")) y.0 (puts_one (mark Tokens.curly_close) (codes "}")), past y.1)
     of_plain (Tree.counted o h s k b l e c) role r x =
-        let y = of_listing l (collection_kind h) (counted_tail h) (Yield.sign Tokens.curlyClose e (Yield.sign Tokens.roundClose c r)) (past (past (past (past x)))) in
+        let y = of_listing l (collection_kind h) (counted_tail h) (Yield.sign Tokens.curly_close e (Yield.sign Tokens.round_close c r)) (past (past (past (past x)))) in
         (a_counted bytes h y.0, past (past y.1))
     of_plain (Tree.interval o b c) role r x =
-        let y = of_bounds b (Yield.sign Tokens.squareClose c r) (past x) in
-        (in_bracket bytes (omega arith) (puts_one square (codes "[")) y.0 (puts_one (mark Tokens.squareClose) (codes "]")), past y.1)
+        let y = of_bounds b (Yield.sign Tokens.square_close c r) (past x) in
+        (in_bracket bytes (omega arith) (puts_one square (codes "[")) y.0 (puts_one (mark Tokens.square_close) (codes "]")), past y.1)
 
     of_item : {s : Style} (i : Item s) (r : List Tok) → InText (yield_item i r) → Leads bytes (λ cs. grow_item i cs) (λ ws. spell_item bytes i ws) × InText r
     of_item (Tree.alone {s} v) r x =
@@ -151,7 +151,7 @@ module _ (bytes : List ℕ) where
         (all_inside bytes t (whole bytes (with_last bytes y.0 z.0)), z.1)
 
     of_attributes : (l : Attributes) (r : List Tok) → InText (yield_attributes l r) →
-        Inside bytes Nodes.aTuple 0 (grow_attributes l none) (λ ws. spell_attributes bytes l ws) × InText r
+        Inside bytes Nodes.a_tuple 0 (grow_attributes l none) (λ ws. spell_attributes bytes l ws) × InText r
     of_attributes Tree.no_attribute r x = (inside_plain bytes refl no_more puts_none, x)
     of_attributes (Tree.led_attribute c i) r x = let y = of_item i r (past x) in (one_behind_lem bytes (attribute_one i) (whole bytes y.0), y.1)
     of_attributes (Tree.trailing_comma o) r x = let y = of_row o r x in (trailing bytes o (whole bytes y.0), y.1)
@@ -161,7 +161,7 @@ module _ (bytes : List ℕ) where
         (more_behind bytes (row_and_item o i) (whole bytes (with_last bytes y.0 z.0)), z.1)
 
     of_bounds : (b : Bounds) (r : List Tok) → InText (yield_bounds b r) →
-        Inside bytes Nodes.anInterval (bounds_detail b) (grow_bounds b) (λ ws. spell_bounds bytes b ws) × InText r
+        Inside bytes Nodes.an_interval (bounds_detail b) (grow_bounds b) (λ ws. spell_bounds bytes b ws) × InText r
     of_bounds Tree.empty r x = (no_bound bytes, x)
     of_bounds (Tree.single v) r x = let y = of_value_lem v Nodes.single r x in (single_bound bytes (value_child v Nodes.single y.0), y.1)
     of_bounds (Tree.between v b k w) r x =

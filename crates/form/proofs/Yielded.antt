@@ -15,8 +15,8 @@ use Rattle.form.proofs.Spelled.{Rest, nil, cons, Good, good, rest_fine, good_fin
 use Rattle.form.proofs.Samples.{samples}
 
 arrow_rest : (a : Arrow) {s : List Spelt} → Good s → Rest (sign (arrow_mark a) s)
-arrow_rest rightward {s} g = cons refl (free_next (mark Tokens.rightArrow) [] (λ d. refl) s (good_fine g))
-arrow_rest leftward {s} g = cons refl (free_next (mark Tokens.leftArrow) [] (λ d. refl) s (good_fine g))
+arrow_rest rightward {s} g = cons refl (free_next (mark Tokens.right_arrow) [] (λ d. refl) s (good_fine g))
+arrow_rest leftward {s} g = cons refl (free_next (mark Tokens.left_arrow) [] (λ d. refl) s (good_fine g))
 
 joiner_rest : (j : Joiner) {s : List Spelt} → Good s → Rest (sign (joiner_mark j) s)
 joiner_rest Tree.colon g = colon_rest g
@@ -62,8 +62,8 @@ mutual
   plain_good (Tree.tuple o l c) r h = bracket round _ refl (λ d. refl) _ (attributes_fine l _ (close_round_lem _ (rest_fine h)))
   plain_good (Tree.lot o l c) r h = bracket curly _ refl (λ d. refl) _ (listing_fine l _ (close_curly_lem _ (rest_fine h)))
   plain_good (Tree.counted o x s k b l e c) r h =
-      let q = tok (mark Tokens.curlyClose) e ∷ tok (mark Tokens.roundClose) c ∷ r in
-      let m = listing_fine l q (close_curly_lem (sign Tokens.roundClose (samples r)) (rest_fine (close_round_lem (samples r) (rest_fine h)))) in
+      let q = tok (mark Tokens.curly_close) e ∷ tok (mark Tokens.round_close) c ∷ r in
+      let m = listing_fine l q (close_curly_lem (sign Tokens.round_close (samples r)) (rest_fine (close_round_lem (samples r) (rest_fine h)))) in
       let n = bracket curly (codes "{") refl (λ d. refl) (samples (yield_listing l q)) m in
       bracket round _ refl (λ d. refl) _ (good_fine (text_next (Tokens.head_word (collection_head x)) (codes (head_word (collection_head x))) (colon_rest n)))
   plain_good (Tree.interval o b c) r h = bracket square _ refl (λ d. refl) _ (bounds_fine b _ r (rest_fine h))
@@ -98,7 +98,7 @@ mutual
   attributes_fine (Tree.last_attribute o i) r h = row_fine o (yield_item i r) (good_fine (item_good i r h))
 
   bounds_fine : (b : Bounds) (c : Span) (r : List Tok) → neighbours (samples r) ≡ true →
-      neighbours (samples (yield_bounds b (tok (mark Tokens.squareClose) c ∷ r))) ≡ true
+      neighbours (samples (yield_bounds b (tok (mark Tokens.square_close) c ∷ r))) ≡ true
   bounds_fine Tree.empty c r n = rest_fine (close_square_lem (samples r) n)
   bounds_fine (Tree.single v) c r n = good_fine (value_good v _ (close_square_lem (samples r) n))
   bounds_fine (Tree.between v b k w) c r n = good_fine (value_good v _ (between_rest b (value_good w _ (close_square_lem (samples r) n))))

@@ -40,13 +40,13 @@ quoted_bytes bs = codes "\"" ++ bs ++ codes "\""
 -- ---- signs
 
 abbrev pub mark_bytes : Mark → List ℕ
-mark_bytes Tokens.roundClose = codes ")"
-mark_bytes Tokens.curlyClose = codes "}"
-mark_bytes Tokens.squareClose = codes "]"
+mark_bytes Tokens.round_close = codes ")"
+mark_bytes Tokens.curly_close = codes "}"
+mark_bytes Tokens.square_close = codes "]"
 mark_bytes Tokens.comma = codes ","
 mark_bytes Tokens.colon = codes ":"
-mark_bytes Tokens.rightArrow = codes "->"
-mark_bytes Tokens.leftArrow = codes "<-"
+mark_bytes Tokens.right_arrow = codes "->"
+mark_bytes Tokens.left_arrow = codes "<-"
 mark_bytes Tokens.dots = codes ".."
 mark_bytes (Tokens.star a b) = codes (side a) ++ codes "*" ++ codes (side b)
 
@@ -125,17 +125,17 @@ module _ (bytes : List ℕ) where
     spell_plain (Tree.nesting n) r = spell_names n r
     spell_plain (Tree.group o v c) r = spell v r
     spell_plain (Tree.pair o p k v c) r =
-        put round (codes "(") (joined (λ x. spell_plain p x) (λ x. spell v x) (sign Tokens.roundClose r))
+        put round (codes "(") (joined (λ x. spell_plain p x) (λ x. spell v x) (sign Tokens.round_close r))
     spell_plain (Tree.arrowed o v a k w c) r =
-        put round (codes "(") (either a (λ x. spell v x) (λ x. spell w x) (sign Tokens.roundClose r))
-    spell_plain (Tree.tuple o l c) r = put round (codes "(") (spell_attributes l (sign Tokens.roundClose r))
-    spell_plain (Tree.lot o l c) r = put curly (codes "{") (spell_listing l (sign Tokens.curlyClose r))
+        put round (codes "(") (either a (λ x. spell v x) (λ x. spell w x) (sign Tokens.round_close r))
+    spell_plain (Tree.tuple o l c) r = put round (codes "(") (spell_attributes l (sign Tokens.round_close r))
+    spell_plain (Tree.lot o l c) r = put curly (codes "{") (spell_listing l (sign Tokens.curly_close r))
     spell_plain (Tree.counted o h s k b l e c) r =
         put round (codes "(")
         (put (text (Tokens.head_word (collection_head h))) (codes (head_word (collection_head h)))
         (sign Tokens.colon
-        (put curly (codes "{") (spell_listing l (sign Tokens.curlyClose (sign Tokens.roundClose r))))))
-    spell_plain (Tree.interval o b c) r = put square (codes "[") (spell_bounds b (sign Tokens.squareClose r))
+        (put curly (codes "{") (spell_listing l (sign Tokens.curly_close (sign Tokens.round_close r))))))
+    spell_plain (Tree.interval o b c) r = put square (codes "[") (spell_bounds b (sign Tokens.square_close r))
 
     pub spell_item : {s : Style} → Item s → List Spelt → List Spelt
     spell_item (Tree.alone v) r = spell v r

@@ -20,15 +20,15 @@ other_detail Nodes.an_integer d = d
 other_detail Nodes.a_fraction d = d
 other_detail Nodes.a_bits d = d
 other_detail Nodes.a_blob d = d
-other_detail Nodes.aText d = 0
-other_detail Nodes.aNesting d = d
-other_detail Nodes.aPair d = d
-other_detail Nodes.aTuple d = d
-other_detail Nodes.aLot d = d
-other_detail Nodes.anArray d = d
-other_detail Nodes.aSet d = d
-other_detail Nodes.aBag d = d
-other_detail Nodes.anInterval d = d
+other_detail Nodes.a_text d = 0
+other_detail Nodes.a_nesting d = d
+other_detail Nodes.a_pair d = d
+other_detail Nodes.a_tuple d = d
+other_detail Nodes.a_lot d = d
+other_detail Nodes.an_array d = d
+other_detail Nodes.a_set d = d
+other_detail Nodes.a_bag d = d
+other_detail Nodes.an_interval d = d
 
 -- a node without both; its stretch stays, so that the seventh word follows the index
 abbrev pub unspelled : Node → Node

@@ -60,7 +60,7 @@ behind_stack (f ∷ K) r = behind_stack K (behind_frame f r)
 
 abbrev pub behind_closing : Closing → List Tok → List Tok
 behind_closing (two_commas c a b) r = behind_curly c (sign Tokens.comma a (sign Tokens.comma b r))
-behind_closing (headed o h s k b i e) r = behind_head o h s k (tok Tokens.curly b ∷ yield_listing i (sign Tokens.curlyClose e r))
+behind_closing (headed o h s k b i e) r = behind_head o h s k (tok Tokens.curly b ∷ yield_listing i (sign Tokens.curly_close e r))
 behind_closing (bounded o b) r = tok Tokens.square o ∷ yield_bounds b r
 
 abbrev pub behind : Config → List Tok → List Tok

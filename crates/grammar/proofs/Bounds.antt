@@ -10,8 +10,8 @@ use Rattle.rules.proofs.Every.{every_map}
 use Rattle.grammar.specs.Tokens.{Tok}
 use Rattle.grammar.specs.Tree.{Value}
 use Rattle.grammar.specs.Yield.{yield_value}
-use Rattle.grammar.specs.Nodes.{NodeKind, an_ignorance, a_boolean, an_integer, a_fraction, a_bits, a_blob, aText, aNesting, aPair, aTuple, aLot, anArray, aSet, aBag, anInterval, kind_number_of}
-use Rattle.grammar.specs.Nodes.{Role, root, this, thatAfter, thatBefore, name, value, count, low, high, single, role_number, Node, table}
+use Rattle.grammar.specs.Nodes.{NodeKind, an_ignorance, a_boolean, an_integer, a_fraction, a_bits, a_blob, a_text, a_nesting, a_pair, a_tuple, a_lot, an_array, a_set, a_bag, an_interval, kind_number_of}
+use Rattle.grammar.specs.Nodes.{Role, root, this, that_after, that_before, name, value, count, low, high, single, role_number, Node, table}
 use Rattle.grammar.proofs.Nodes.{table_made}
 
 pub kind_small : (k : NodeKind) → kind_number_of k ≤ 15
@@ -21,21 +21,21 @@ kind_small an_integer = omega arith
 kind_small a_fraction = omega arith
 kind_small a_bits = omega arith
 kind_small a_blob = omega arith
-kind_small aText = omega arith
-kind_small aNesting = omega arith
-kind_small aPair = omega arith
-kind_small aTuple = omega arith
-kind_small aLot = omega arith
-kind_small anArray = omega arith
-kind_small aSet = omega arith
-kind_small aBag = omega arith
-kind_small anInterval = omega arith
+kind_small a_text = omega arith
+kind_small a_nesting = omega arith
+kind_small a_pair = omega arith
+kind_small a_tuple = omega arith
+kind_small a_lot = omega arith
+kind_small an_array = omega arith
+kind_small a_set = omega arith
+kind_small a_bag = omega arith
+kind_small an_interval = omega arith
 
 pub role_small : (r : Role) → role_number r ≤ 9
 role_small root = omega arith
 role_small this = omega arith
-role_small thatAfter = omega arith
-role_small thatBefore = omega arith
+role_small that_after = omega arith
+role_small that_before = omega arith
 role_small name = omega arith
 role_small value = omega arith
 role_small count = omega arith

@@ -29,12 +29,12 @@ abbrev pub end : NodeKind → Span → Role → ℕ → Branch
 end k s r d = branch k s r d none
 
 abbrev pub grow_plain_name : PlainName → Role → Branch
-grow_plain_name (text_name w s) r = end Nodes.aText s r (spelling_detail w)
-grow_plain_name (nesting_name m) r = end Nodes.aNesting (names_span m) r 0
+grow_plain_name (text_name w s) r = end Nodes.a_text s r (spelling_detail w)
+grow_plain_name (nesting_name m) r = end Nodes.a_nesting (names_span m) r 0
 
 abbrev pub grow_name : Name → Role → Branch
 grow_name (plain_name m) r = grow_plain_name m r
-grow_name (bare_name h s) r = end Nodes.aText s r 2
+grow_name (bare_name h s) r = end Nodes.a_text s r 2
 
 abbrev pub grow_count : {u : Measure} → Count u → Branch
 grow_count (Tree.number s) = end Nodes.an_integer s Nodes.count 0
@@ -43,19 +43,19 @@ grow_count (Tree.truth b s) = end Nodes.a_boolean s Nodes.count (truth_detail b)
 abbrev mutual
   pub grow : Value → Role → Branch
   grow (Tree.plain v) r = grow_plain v r
-  grow (Tree.bare h s) r = end Nodes.aText s r 2
+  grow (Tree.bare h s) r = end Nodes.a_text s r 2
 
   pub grow_plain : Plain → Role → Branch
   grow_plain (Tree.literal a s) r = end (atom_kind a) s r (atom_detail a)
-  grow_plain (Tree.text w s) r = end Nodes.aText s r (spelling_detail w)
-  grow_plain (Tree.nesting m) r = end Nodes.aNesting (names_span m) r 0
+  grow_plain (Tree.text w s) r = end Nodes.a_text s r (spelling_detail w)
+  grow_plain (Tree.nesting m) r = end Nodes.a_nesting (names_span m) r 0
   grow_plain (Tree.group o v c) r = grow v r
-  grow_plain (Tree.pair o a k b c) r = branch Nodes.aPair (over o c) r 0 (more (grow_plain a Nodes.this) (more (grow b Nodes.thatAfter) none))
-  grow_plain (Tree.arrowed o a j k b c) r = branch Nodes.aPair (over o c) r 0 (more (grow a (left_role_of j)) (more (grow b (right_role_of j)) none))
-  grow_plain (Tree.tuple o i c) r = branch Nodes.aTuple (over o c) r 0 (grow_attributes i none)
-  grow_plain (Tree.lot o i c) r = branch Nodes.aLot (over o c) r 0 (grow_listing i none)
+  grow_plain (Tree.pair o a k b c) r = branch Nodes.a_pair (over o c) r 0 (more (grow_plain a Nodes.this) (more (grow b Nodes.that_after) none))
+  grow_plain (Tree.arrowed o a j k b c) r = branch Nodes.a_pair (over o c) r 0 (more (grow a (left_role_of j)) (more (grow b (right_role_of j)) none))
+  grow_plain (Tree.tuple o i c) r = branch Nodes.a_tuple (over o c) r 0 (grow_attributes i none)
+  grow_plain (Tree.lot o i c) r = branch Nodes.a_lot (over o c) r 0 (grow_listing i none)
   grow_plain (Tree.counted o h s k b i e c) r = branch (collection_kind h) (over o c) r 0 (grow_listing i none)
-  grow_plain (Tree.interval o b c) r = branch Nodes.anInterval (over o c) r (bounds_detail b) (grow_bounds b)
+  grow_plain (Tree.interval o b c) r = branch Nodes.an_interval (over o c) r (bounds_detail b) (grow_bounds b)
 
   pub grow_item : {s : Style} → Item s → Branches → Branches
   grow_item (Tree.alone {s} v) bs = more (grow v (alone_role_of s)) bs

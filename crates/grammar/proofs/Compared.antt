@@ -3,7 +3,7 @@ use mathlib.Core.Path.{◌≡◌, sym, ◌∙◌}
 use mathlib.Core.List.{List, [], ◌∷◌, ◌++◌}
 use mathlib.Core.Option.{some}
 use Rattle.grammar.specs.Tokens.{Tok}
-use Rattle.grammar.specs.Level.{Level, leftArrows, ◌Within◌}
+use Rattle.grammar.specs.Level.{Level, left_arrows, ◌Within◌}
 use Rattle.grammar.specs.Place.{Newer}
 use Rattle.grammar.proofs.Frames.{Stack, want}
 use Rattle.grammar.proofs.Machine.{runs}
@@ -18,7 +18,7 @@ module _ (a b : Level) where
     apart_at : (xs : List Tok) (t : Tok) (ys : List Tok) (K : Stack) → ts ≡ xs ++ (t ∷ ys) → Known a xs (t ∷ ys) → Newer a xs t ys →
         runs a xs ≡ some (want K) → runs b xs ≡ some (want K) → Compared ts
 
-module _ (a b : Level) (within : a Within b) (arrows : a leftArrows ≡ b leftArrows) where
+module _ (a b : Level) (within : a Within b) (arrows : a left_arrows ≡ b left_arrows) where
   pub compared : (ts : List Tok) → Compared a b ts
   compared ts = go (first_newer a ts)
     where

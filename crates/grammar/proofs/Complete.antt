@@ -74,15 +74,15 @@ module _ (l : Level) where
     run_plain (Tree.arrowed o v a k w c) e K r =
         let d : (keeps l v && has_arrow_of l a) ≡ true = and_left (keeps l v && has_arrow_of l a) _ e in
         run_value v (and_left (keeps l v) _ d) (in_round (opened o) ∷ K) _
-        ∙ onward (yield_value w (sign Tokens.roundClose c r)) (arrow_step l a (and_right (keeps l v) _ d) o v k K)
+        ∙ onward (yield_value w (sign Tokens.round_close c r)) (arrow_step l a (and_right (keeps l v) _ d) o v k K)
         ∙ run_value w (and_right (keeps l v && has_arrow_of l a) _ e) (in_round (pair_arrow o v a k) ∷ K) _
     run_plain (Tree.tuple o i c) e K r = run_attributes i e o K c r
     run_plain (Tree.lot o i c) e K r = run_listing i e (lot_curly o) K c r
     run_plain (Tree.counted o h s k b i d c) e K r =
-        onward (yield_listing i (sign Tokens.curlyClose d (sign Tokens.roundClose c r))) (ap (λ (x : Option Config). advance l x (tok Tokens.curly b)) (head_step l h (and_left (has_collection l h) _ e) o s k K))
+        onward (yield_listing i (sign Tokens.curly_close d (sign Tokens.round_close c r))) (ap (λ (x : Option Config). advance l x (tok Tokens.curly b)) (head_step l h (and_left (has_collection l h) _ e) o s k K))
         ∙ run_listing i (and_right (has_collection l h) _ e) (counted_curly o h s k b) K d _
     run_plain (Tree.interval o b c) e K r =
-        onward (yield_bounds b (sign Tokens.squareClose c r)) (when_true (l intervals) _ (and_left (l intervals) _ e)) ∙ run_bounds b (and_right (l intervals) _ e) o K c r
+        onward (yield_bounds b (sign Tokens.square_close c r)) (when_true (l intervals) _ (and_left (l intervals) _ e)) ∙ run_bounds b (and_right (l intervals) _ e) o K c r
 
     pub run_item : {s : Style} (i : Item s) → keeps_item l i ≡ true → (p : Place s) (K : Stack) (r : List Tok) →
         run l (some (want (frame_at p ∷ K))) (yield_item i r) ≡ run l (some (item_read i p K)) r
@@ -106,13 +106,13 @@ module _ (l : Level) where
         ∙ onward t (item_comma l i (row_in h r) K c ∙ ap (λ (f : Frame). some (want (f ∷ K))) (after_next h r i c))
 
     run_listing : {s : Style} (i : Listing s) → keeps_listing l i ≡ true → (c : Curly s) (K : Stack) (d : Span) (r : List Tok) →
-        run l (some (want (frame_at (place_in c start) ∷ K))) (yield_listing i (sign Tokens.curlyClose d r)) ≡ run l (some (shut c i d K)) r
+        run l (some (want (frame_at (place_in c start) ∷ K))) (yield_listing i (sign Tokens.curly_close d r)) ≡ run l (some (shut c i d K)) r
     run_listing Tree.no_item e c K d r = onward r (no_item_close l c start K d)
-    run_listing (Tree.one_comma a) e c K d r = onward (sign Tokens.curlyClose d r) (led_comma l (curly_holder c) a K) ∙ onward r (no_item_close l c (led a) K d)
-    run_listing (Tree.two_commas a b) e c K d r = onward (sign Tokens.comma b (sign Tokens.curlyClose d r)) (led_comma l (curly_holder c) a K) ∙ onward (sign Tokens.curlyClose d r) (second_comma l c a b K)
+    run_listing (Tree.one_comma a) e c K d r = onward (sign Tokens.curly_close d r) (led_comma l (curly_holder c) a K) ∙ onward r (no_item_close l c (led a) K d)
+    run_listing (Tree.two_commas a b) e c K d r = onward (sign Tokens.comma b (sign Tokens.curly_close d r)) (led_comma l (curly_holder c) a K) ∙ onward (sign Tokens.curly_close d r) (second_comma l c a b K)
     run_listing (Tree.one_item i) e c K d r = run_item i e (place_in c start) K _ ∙ onward r (item_close l c start i K d)
     run_listing (Tree.led_item a i) e c K d r =
-        onward (yield_item i (sign Tokens.curlyClose d r)) (led_comma l (curly_holder c) a K) ∙ run_item i e (place_in c (led a)) K _ ∙ onward r (item_close l c (led a) i K d)
+        onward (yield_item i (sign Tokens.curly_close d r)) (led_comma l (curly_holder c) a K) ∙ run_item i e (place_in c (led a)) K _ ∙ onward r (item_close l c (led a) i K d)
     run_listing (Tree.trailing o) e c K d r = run_row o e (curly_holder c) K _ ∙ onward r (no_item_close l c (row o) K d)
     run_listing (Tree.last_item o i) e c K d r =
         run_row o (and_left (keeps_row l o) _ e) (curly_holder c) K _
@@ -120,7 +120,7 @@ module _ (l : Level) where
         ∙ onward r (item_close l c (row o) i K d)
 
     run_attributes : (i : Attributes) → keeps_attributes l i ≡ true → (o : Span) (K : Stack) (c : Span) (r : List Tok) →
-        run l (some (want (in_round (opened o) ∷ K))) (yield_attributes i (sign Tokens.roundClose c r)) ≡ run l (some (have (Tree.plain (Tree.tuple o i c)) K)) r
+        run l (some (want (in_round (opened o) ∷ K))) (yield_attributes i (sign Tokens.round_close c r)) ≡ run l (some (have (Tree.plain (Tree.tuple o i c)) K)) r
     run_attributes Tree.no_attribute e o K c r = refl
     run_attributes (Tree.led_attribute b i) e o K c r = run_item i e (next_place o (lead_comma b)) K _ ∙ onward r (attribute_close l i o (lead_comma b) K c)
     run_attributes (Tree.trailing_comma t) e o K c r = run_row t e (tuple_holder o) K _
@@ -130,15 +130,15 @@ module _ (l : Level) where
         ∙ onward r (attribute_close l i o (lead_row t) K c)
 
     run_bounds : (b : Bounds) → keeps_bounds l b ≡ true → (o : Span) (K : Stack) (c : Span) (r : List Tok) →
-        run l (some (want (in_square (square_opened o) ∷ K))) (yield_bounds b (sign Tokens.squareClose c r)) ≡ run l (some (have (Tree.plain (Tree.interval o b c)) K)) r
+        run l (some (want (in_square (square_opened o) ∷ K))) (yield_bounds b (sign Tokens.square_close c r)) ≡ run l (some (have (Tree.plain (Tree.interval o b c)) K)) r
     run_bounds Tree.empty e o K c r = refl
     run_bounds (Tree.single v) e o K c r = run_value v e (in_square (square_opened o) ∷ K) _
     run_bounds (Tree.between v b k w) e o K c r =
         run_value v (and_left (keeps l v) _ e) (in_square (square_opened o) ∷ K) _
-        ∙ onward (yield_value w (sign Tokens.squareClose c r)) (between_step l b o v k K)
+        ∙ onward (yield_value w (sign Tokens.square_close c r)) (between_step l b o v k K)
         ∙ run_value w (and_right (keeps l v) _ e) (in_square (low_and o v b k) ∷ K) _
-    run_bounds (Tree.from v a k) e o K c r = run_value v e (in_square (square_opened o) ∷ K) _ ∙ onward (sign Tokens.squareClose c r) (from_step l a o v k K)
-    run_bounds (Tree.up_to a k v) e o K c r = onward (yield_value v (sign Tokens.squareClose c r)) (up_to_step l a o k K) ∙ run_value v e (in_square (up_to o a k) ∷ K) _
+    run_bounds (Tree.from v a k) e o K c r = run_value v e (in_square (square_opened o) ∷ K) _ ∙ onward (sign Tokens.square_close c r) (from_step l a o v k K)
+    run_bounds (Tree.up_to a k v) e o K c r = onward (yield_value v (sign Tokens.square_close c r)) (up_to_step l a o k K) ∙ run_value v e (in_square (up_to o a k) ∷ K) _
     run_bounds (Tree.all k) e o K c r = refl
 
   -- every text of the level is accepted, with its tree

@@ -7,7 +7,7 @@ use mathlib.Core.Option.{Option, none, some}
 use Prim.Native.Nat.{ℕ, suc}
 use Rattle.lexicon.specs.declared.Bound.TheVariants.{Open, Less, LessEqual}
 use Rattle.lexicon.specs.declared.Head.{Head}
-use Rattle.grammar.specs.Tokens.{Span, Class, tok, atom, text, names, round, curly, square, mark, later, boolean, integer, spelled, head_word, word, quoted, roundClose, curlyClose, squareClose, comma, colon, rightArrow, leftArrow, dots, star}
+use Rattle.grammar.specs.Tokens.{Span, Class, tok, atom, text, names, round, curly, square, mark, later, boolean, integer, spelled, head_word, word, quoted, round_close, curly_close, square_close, comma, colon, right_arrow, left_arrow, dots, star}
 use Rattle.grammar.specs.Level.{Level, level1, level2}
 use Rattle.grammar.proofs.Frames.{Config, want, have, want_text, want_curly, want_count, have_item, want_close}
 use Rattle.grammar.proofs.Machine.{step}
@@ -75,35 +75,35 @@ example l ks j = record { level = l; tokens = ks; answer = j }
 abbrev examples : List Example
 examples =
     -- (Mix)
-    example level1 (round ∷ head Head.Mix ∷ mark roundClose ∷ []) (yes_of 3)
+    example level1 (round ∷ head Head.Mix ∷ mark round_close ∷ []) (yes_of 3)
     -- (Mix,)
-    ∷ example level1 (round ∷ head Head.Mix ∷ mark comma ∷ mark roundClose ∷ []) (yes_of 4)
+    ∷ example level1 (round ∷ head Head.Mix ∷ mark comma ∷ mark round_close ∷ []) (yes_of 4)
     -- (Mix->5)
-    ∷ example level1 (round ∷ head Head.Mix ∷ mark rightArrow ∷ five ∷ mark roundClose ∷ []) (yes_of 5)
+    ∷ example level1 (round ∷ head Head.Mix ∷ mark right_arrow ∷ five ∷ mark round_close ∷ []) (yes_of 5)
     -- (Mix<-5)
-    ∷ example level1 (round ∷ head Head.Mix ∷ mark leftArrow ∷ five ∷ mark roundClose ∷ []) (yes_of 5)
+    ∷ example level1 (round ∷ head Head.Mix ∷ mark left_arrow ∷ five ∷ mark round_close ∷ []) (yes_of 5)
     -- (,Mix:5)
-    ∷ example level1 (round ∷ mark comma ∷ head Head.Mix ∷ mark colon ∷ five ∷ mark roundClose ∷ []) (yes_of 6)
+    ∷ example level1 (round ∷ mark comma ∷ head Head.Mix ∷ mark colon ∷ five ∷ mark round_close ∷ []) (yes_of 6)
     -- ((Mix):5)
-    ∷ example level1 (round ∷ round ∷ head Head.Mix ∷ mark roundClose ∷ mark colon ∷ five ∷ mark roundClose ∷ []) (yes_of 7)
+    ∷ example level1 (round ∷ round ∷ head Head.Mix ∷ mark round_close ∷ mark colon ∷ five ∷ mark round_close ∷ []) (yes_of 7)
     -- ("Mix":5)
-    ∷ example level1 (round ∷ q ∷ mark colon ∷ five ∷ mark roundClose ∷ []) (yes_of 5)
+    ∷ example level1 (round ∷ q ∷ mark colon ∷ five ∷ mark round_close ∷ []) (yes_of 5)
     -- {Mix:5}
-    ∷ example level1 (curly ∷ head Head.Mix ∷ mark colon ∷ five ∷ mark curlyClose ∷ []) (yes_of 5)
+    ∷ example level1 (curly ∷ head Head.Mix ∷ mark colon ∷ five ∷ mark curly_close ∷ []) (yes_of 5)
     -- (x,Mix:5)
-    ∷ example level1 (round ∷ x ∷ mark comma ∷ head Head.Mix ∷ mark colon ∷ five ∷ mark roundClose ∷ []) (yes_of 7)
+    ∷ example level1 (round ∷ x ∷ mark comma ∷ head Head.Mix ∷ mark colon ∷ five ∷ mark round_close ∷ []) (yes_of 7)
     -- (::Mix:5)
-    ∷ example level1 (round ∷ names ∷ head Head.Mix ∷ mark colon ∷ five ∷ mark roundClose ∷ []) (yes_of 6)
+    ∷ example level1 (round ∷ names ∷ head Head.Mix ∷ mark colon ∷ five ∷ mark round_close ∷ []) (yes_of 6)
     -- ("Array":{a})
-    ∷ example level1 (round ∷ q ∷ mark colon ∷ curly ∷ x ∷ mark curlyClose ∷ mark roundClose ∷ []) (yes_of 7)
+    ∷ example level1 (round ∷ q ∷ mark colon ∷ curly ∷ x ∷ mark curly_close ∷ mark round_close ∷ []) (yes_of 7)
     -- the empty text
     ∷ example level1 [] (no_at 0)
     -- (Array:5)
-    ∷ example level1 (round ∷ head Head.Array ∷ mark colon ∷ five ∷ mark roundClose ∷ []) (no_at 2)
+    ∷ example level1 (round ∷ head Head.Array ∷ mark colon ∷ five ∷ mark round_close ∷ []) (no_at 2)
     -- (Array:5)
-    ∷ example level2 (round ∷ head Head.Array ∷ mark colon ∷ five ∷ mark roundClose ∷ []) (no_at 3)
+    ∷ example level2 (round ∷ head Head.Array ∷ mark colon ∷ five ∷ mark round_close ∷ []) (no_at 3)
     -- (Array::x)
-    ∷ example level2 (round ∷ head Head.Array ∷ names ∷ x ∷ mark roundClose ∷ []) (no_at 2)
+    ∷ example level2 (round ∷ head Head.Array ∷ names ∷ x ∷ mark round_close ∷ []) (no_at 2)
     -- (Mix:
     ∷ example level2 (round ∷ head Head.Mix ∷ mark colon ∷ []) (no_at 2)
     -- (Mix
@@ -115,167 +115,167 @@ examples =
     -- ::a::b
     ∷ example level1 (names ∷ x ∷ names ∷ x ∷ []) (yes_of 4)
     -- (Array:[1])
-    ∷ example level2 (round ∷ head Head.Array ∷ mark colon ∷ square ∷ five ∷ mark squareClose ∷ mark roundClose ∷ []) (no_at 3)
+    ∷ example level2 (round ∷ head Head.Array ∷ mark colon ∷ square ∷ five ∷ mark square_close ∷ mark round_close ∷ []) (no_at 3)
     -- (Array:(Mix:{}))
-    ∷ example level2 (round ∷ head Head.Array ∷ mark colon ∷ round ∷ head Head.Mix ∷ mark colon ∷ curly ∷ mark curlyClose ∷ mark roundClose ∷ mark roundClose ∷ []) (no_at 3)
+    ∷ example level2 (round ∷ head Head.Array ∷ mark colon ∷ round ∷ head Head.Mix ∷ mark colon ∷ curly ∷ mark curly_close ∷ mark round_close ∷ mark round_close ∷ []) (no_at 3)
     -- (Array:{a:0L})
-    ∷ example level2 (round ∷ head Head.Array ∷ mark colon ∷ curly ∷ x ∷ mark colon ∷ later ∷ mark curlyClose ∷ mark roundClose ∷ []) (no_at 6)
+    ∷ example level2 (round ∷ head Head.Array ∷ mark colon ∷ curly ∷ x ∷ mark colon ∷ later ∷ mark curly_close ∷ mark round_close ∷ []) (no_at 6)
     -- (Set:{a:[]})
-    ∷ example level2 (round ∷ head Head.Set ∷ mark colon ∷ curly ∷ x ∷ mark colon ∷ square ∷ mark squareClose ∷ mark curlyClose ∷ mark roundClose ∷ []) (no_at 6)
+    ∷ example level2 (round ∷ head Head.Set ∷ mark colon ∷ curly ∷ x ∷ mark colon ∷ square ∷ mark square_close ∷ mark curly_close ∷ mark round_close ∷ []) (no_at 6)
     -- {,,0L}
-    ∷ example level2 (curly ∷ mark comma ∷ mark comma ∷ later ∷ mark curlyClose ∷ []) (no_at 3)
+    ∷ example level2 (curly ∷ mark comma ∷ mark comma ∷ later ∷ mark curly_close ∷ []) (no_at 3)
     -- x[
     ∷ example level2 (x ∷ square ∷ []) (no_at 1)
     -- x 0L
     ∷ example level2 (x ∷ later ∷ []) (no_at 1)
     -- [*0L]
-    ∷ example level2 (square ∷ mark (star Open Open) ∷ later ∷ mark squareClose ∷ []) (no_at 2)
+    ∷ example level2 (square ∷ mark (star Open Open) ∷ later ∷ mark square_close ∷ []) (no_at 2)
     -- [*<0L]
-    ∷ example level2 (square ∷ mark (star Open Less) ∷ later ∷ mark squareClose ∷ []) (no_at 2)
+    ∷ example level2 (square ∷ mark (star Open Less) ∷ later ∷ mark square_close ∷ []) (no_at 2)
     -- (0L:5,)
-    ∷ example level2 (round ∷ later ∷ mark colon ∷ five ∷ mark comma ∷ mark roundClose ∷ []) (no_at 1)
+    ∷ example level2 (round ∷ later ∷ mark colon ∷ five ∷ mark comma ∷ mark round_close ∷ []) (no_at 1)
     -- [1..10]
-    ∷ example level1 (square ∷ five ∷ mark dots ∷ five ∷ mark squareClose ∷ []) (no_at 0)
+    ∷ example level1 (square ∷ five ∷ mark dots ∷ five ∷ mark square_close ∷ []) (no_at 0)
     -- (Array:{a:5})
-    ∷ example level2 (round ∷ head Head.Array ∷ mark colon ∷ curly ∷ x ∷ mark colon ∷ five ∷ mark curlyClose ∷ mark roundClose ∷ []) (yes_of 9)
+    ∷ example level2 (round ∷ head Head.Array ∷ mark colon ∷ curly ∷ x ∷ mark colon ∷ five ∷ mark curly_close ∷ mark round_close ∷ []) (yes_of 9)
     -- (Array:{a:+5})
-    ∷ example level2 (round ∷ head Head.Array ∷ mark colon ∷ curly ∷ x ∷ mark colon ∷ signed ∷ mark curlyClose ∷ mark roundClose ∷ []) (no_at 6)
+    ∷ example level2 (round ∷ head Head.Array ∷ mark colon ∷ curly ∷ x ∷ mark colon ∷ signed ∷ mark curly_close ∷ mark round_close ∷ []) (no_at 6)
     -- (Array:{a:(5)})
-    ∷ example level2 (round ∷ head Head.Array ∷ mark colon ∷ curly ∷ x ∷ mark colon ∷ round ∷ five ∷ mark roundClose ∷ mark curlyClose ∷ mark roundClose ∷ []) (no_at 6)
+    ∷ example level2 (round ∷ head Head.Array ∷ mark colon ∷ curly ∷ x ∷ mark colon ∷ round ∷ five ∷ mark round_close ∷ mark curly_close ∷ mark round_close ∷ []) (no_at 6)
     -- (Set:{a:0bTRUE})
-    ∷ example level2 (round ∷ head Head.Set ∷ mark colon ∷ curly ∷ x ∷ mark colon ∷ truth ∷ mark curlyClose ∷ mark roundClose ∷ []) (yes_of 9)
+    ∷ example level2 (round ∷ head Head.Set ∷ mark colon ∷ curly ∷ x ∷ mark colon ∷ truth ∷ mark curly_close ∷ mark round_close ∷ []) (yes_of 9)
     -- (Set:{a:1})
-    ∷ example level2 (round ∷ head Head.Set ∷ mark colon ∷ curly ∷ x ∷ mark colon ∷ five ∷ mark curlyClose ∷ mark roundClose ∷ []) (no_at 6)
+    ∷ example level2 (round ∷ head Head.Set ∷ mark colon ∷ curly ∷ x ∷ mark colon ∷ five ∷ mark curly_close ∷ mark round_close ∷ []) (no_at 6)
     -- (Set:{a:b})
-    ∷ example level2 (round ∷ head Head.Set ∷ mark colon ∷ curly ∷ x ∷ mark colon ∷ x ∷ mark curlyClose ∷ mark roundClose ∷ []) (no_at 6)
+    ∷ example level2 (round ∷ head Head.Set ∷ mark colon ∷ curly ∷ x ∷ mark colon ∷ x ∷ mark curly_close ∷ mark round_close ∷ []) (no_at 6)
     -- (Bag:{a:5,b,})
-    ∷ example level2 (round ∷ head Head.Bag ∷ mark colon ∷ curly ∷ x ∷ mark colon ∷ five ∷ mark comma ∷ x ∷ mark comma ∷ mark curlyClose ∷ mark roundClose ∷ []) (yes_of 12)
+    ∷ example level2 (round ∷ head Head.Bag ∷ mark colon ∷ curly ∷ x ∷ mark colon ∷ five ∷ mark comma ∷ x ∷ mark comma ∷ mark curly_close ∷ mark round_close ∷ []) (yes_of 12)
     -- (Array:{a->5})
-    ∷ example level2 (round ∷ head Head.Array ∷ mark colon ∷ curly ∷ x ∷ mark rightArrow ∷ five ∷ mark curlyClose ∷ mark roundClose ∷ []) (no_at 5)
+    ∷ example level2 (round ∷ head Head.Array ∷ mark colon ∷ curly ∷ x ∷ mark right_arrow ∷ five ∷ mark curly_close ∷ mark round_close ∷ []) (no_at 5)
     -- (Array:{a:5:6})
-    ∷ example level2 (round ∷ head Head.Array ∷ mark colon ∷ curly ∷ x ∷ mark colon ∷ five ∷ mark colon ∷ five ∷ mark curlyClose ∷ mark roundClose ∷ []) (no_at 7)
+    ∷ example level2 (round ∷ head Head.Array ∷ mark colon ∷ curly ∷ x ∷ mark colon ∷ five ∷ mark colon ∷ five ∷ mark curly_close ∷ mark round_close ∷ []) (no_at 7)
     -- (Array:{,,})
-    ∷ example level2 (round ∷ head Head.Array ∷ mark colon ∷ curly ∷ mark comma ∷ mark comma ∷ mark curlyClose ∷ mark roundClose ∷ []) (yes_of 8)
+    ∷ example level2 (round ∷ head Head.Array ∷ mark colon ∷ curly ∷ mark comma ∷ mark comma ∷ mark curly_close ∷ mark round_close ∷ []) (yes_of 8)
     -- (Array:{a} b)
-    ∷ example level2 (round ∷ head Head.Array ∷ mark colon ∷ curly ∷ x ∷ mark curlyClose ∷ x ∷ mark roundClose ∷ []) (no_at 6)
+    ∷ example level2 (round ∷ head Head.Array ∷ mark colon ∷ curly ∷ x ∷ mark curly_close ∷ x ∷ mark round_close ∷ []) (no_at 6)
     -- {}
-    ∷ example level1 (curly ∷ mark curlyClose ∷ []) (yes_of 2)
+    ∷ example level1 (curly ∷ mark curly_close ∷ []) (yes_of 2)
     -- {,}
-    ∷ example level1 (curly ∷ mark comma ∷ mark curlyClose ∷ []) (yes_of 3)
+    ∷ example level1 (curly ∷ mark comma ∷ mark curly_close ∷ []) (yes_of 3)
     -- {,,}
-    ∷ example level1 (curly ∷ mark comma ∷ mark comma ∷ mark curlyClose ∷ []) (yes_of 4)
+    ∷ example level1 (curly ∷ mark comma ∷ mark comma ∷ mark curly_close ∷ []) (yes_of 4)
     -- {,a}
-    ∷ example level1 (curly ∷ mark comma ∷ x ∷ mark curlyClose ∷ []) (yes_of 4)
+    ∷ example level1 (curly ∷ mark comma ∷ x ∷ mark curly_close ∷ []) (yes_of 4)
     -- {a,}
-    ∷ example level1 (curly ∷ x ∷ mark comma ∷ mark curlyClose ∷ []) (yes_of 4)
+    ∷ example level1 (curly ∷ x ∷ mark comma ∷ mark curly_close ∷ []) (yes_of 4)
     -- {,a,}
-    ∷ example level1 (curly ∷ mark comma ∷ x ∷ mark comma ∷ mark curlyClose ∷ []) (yes_of 5)
+    ∷ example level1 (curly ∷ mark comma ∷ x ∷ mark comma ∷ mark curly_close ∷ []) (yes_of 5)
     -- ()
-    ∷ example level1 (round ∷ mark roundClose ∷ []) (yes_of 2)
+    ∷ example level1 (round ∷ mark round_close ∷ []) (yes_of 2)
     -- (,a)
-    ∷ example level1 (round ∷ mark comma ∷ x ∷ mark roundClose ∷ []) (yes_of 4)
+    ∷ example level1 (round ∷ mark comma ∷ x ∷ mark round_close ∷ []) (yes_of 4)
     -- (a,)
-    ∷ example level1 (round ∷ x ∷ mark comma ∷ mark roundClose ∷ []) (yes_of 4)
+    ∷ example level1 (round ∷ x ∷ mark comma ∷ mark round_close ∷ []) (yes_of 4)
     -- (,a,)
-    ∷ example level1 (round ∷ mark comma ∷ x ∷ mark comma ∷ mark roundClose ∷ []) (yes_of 5)
+    ∷ example level1 (round ∷ mark comma ∷ x ∷ mark comma ∷ mark round_close ∷ []) (yes_of 5)
     -- {a,b<-c}
-    ∷ example level1 (curly ∷ x ∷ mark comma ∷ x ∷ mark leftArrow ∷ x ∷ mark curlyClose ∷ []) (yes_of 7)
+    ∷ example level1 (curly ∷ x ∷ mark comma ∷ x ∷ mark left_arrow ∷ x ∷ mark curly_close ∷ []) (yes_of 7)
     -- {a:b,c}
-    ∷ example level1 (curly ∷ x ∷ mark colon ∷ x ∷ mark comma ∷ x ∷ mark curlyClose ∷ []) (yes_of 7)
+    ∷ example level1 (curly ∷ x ∷ mark colon ∷ x ∷ mark comma ∷ x ∷ mark curly_close ∷ []) (yes_of 7)
     -- {a->b}
-    ∷ example level1 (curly ∷ x ∷ mark rightArrow ∷ x ∷ mark curlyClose ∷ []) (yes_of 5)
+    ∷ example level1 (curly ∷ x ∷ mark right_arrow ∷ x ∷ mark curly_close ∷ []) (yes_of 5)
     -- {,,,}
-    ∷ example level1 (curly ∷ mark comma ∷ mark comma ∷ mark comma ∷ mark curlyClose ∷ []) (no_at 3)
+    ∷ example level1 (curly ∷ mark comma ∷ mark comma ∷ mark comma ∷ mark curly_close ∷ []) (no_at 3)
     -- {a,,}
-    ∷ example level1 (curly ∷ x ∷ mark comma ∷ mark comma ∷ mark curlyClose ∷ []) (no_at 3)
+    ∷ example level1 (curly ∷ x ∷ mark comma ∷ mark comma ∷ mark curly_close ∷ []) (no_at 3)
     -- {,,a}
-    ∷ example level1 (curly ∷ mark comma ∷ mark comma ∷ x ∷ mark curlyClose ∷ []) (no_at 3)
+    ∷ example level1 (curly ∷ mark comma ∷ mark comma ∷ x ∷ mark curly_close ∷ []) (no_at 3)
     -- {a,,b}
-    ∷ example level1 (curly ∷ x ∷ mark comma ∷ mark comma ∷ x ∷ mark curlyClose ∷ []) (no_at 3)
+    ∷ example level1 (curly ∷ x ∷ mark comma ∷ mark comma ∷ x ∷ mark curly_close ∷ []) (no_at 3)
     -- (,)
-    ∷ example level1 (round ∷ mark comma ∷ mark roundClose ∷ []) (no_at 2)
+    ∷ example level1 (round ∷ mark comma ∷ mark round_close ∷ []) (no_at 2)
     -- (,,)
-    ∷ example level1 (round ∷ mark comma ∷ mark comma ∷ mark roundClose ∷ []) (no_at 2)
+    ∷ example level1 (round ∷ mark comma ∷ mark comma ∷ mark round_close ∷ []) (no_at 2)
     -- (a,,)
-    ∷ example level1 (round ∷ x ∷ mark comma ∷ mark comma ∷ mark roundClose ∷ []) (no_at 3)
+    ∷ example level1 (round ∷ x ∷ mark comma ∷ mark comma ∷ mark round_close ∷ []) (no_at 3)
     -- (,,a)
-    ∷ example level1 (round ∷ mark comma ∷ mark comma ∷ x ∷ mark roundClose ∷ []) (no_at 2)
+    ∷ example level1 (round ∷ mark comma ∷ mark comma ∷ x ∷ mark round_close ∷ []) (no_at 2)
     -- (a,,b)
-    ∷ example level1 (round ∷ x ∷ mark comma ∷ mark comma ∷ x ∷ mark roundClose ∷ []) (no_at 3)
+    ∷ example level1 (round ∷ x ∷ mark comma ∷ mark comma ∷ x ∷ mark round_close ∷ []) (no_at 3)
     -- [,]
-    ∷ example level2 (square ∷ mark comma ∷ mark squareClose ∷ []) (no_at 1)
+    ∷ example level2 (square ∷ mark comma ∷ mark square_close ∷ []) (no_at 1)
     -- (x:y,)
-    ∷ example level1 (round ∷ x ∷ mark colon ∷ x ∷ mark comma ∷ mark roundClose ∷ []) (yes_of 6)
+    ∷ example level1 (round ∷ x ∷ mark colon ∷ x ∷ mark comma ∷ mark round_close ∷ []) (yes_of 6)
     -- ((x):y)
-    ∷ example level1 (round ∷ round ∷ x ∷ mark roundClose ∷ mark colon ∷ x ∷ mark roundClose ∷ []) (yes_of 7)
+    ∷ example level1 (round ∷ round ∷ x ∷ mark round_close ∷ mark colon ∷ x ∷ mark round_close ∷ []) (yes_of 7)
     -- ((x):y,)
-    ∷ example level1 (round ∷ round ∷ x ∷ mark roundClose ∷ mark colon ∷ x ∷ mark comma ∷ mark roundClose ∷ []) (no_at 6)
+    ∷ example level1 (round ∷ round ∷ x ∷ mark round_close ∷ mark colon ∷ x ∷ mark comma ∷ mark round_close ∷ []) (no_at 6)
     -- (5:y)
-    ∷ example level1 (round ∷ five ∷ mark colon ∷ x ∷ mark roundClose ∷ []) (yes_of 5)
+    ∷ example level1 (round ∷ five ∷ mark colon ∷ x ∷ mark round_close ∷ []) (yes_of 5)
     -- (5:y,)
-    ∷ example level1 (round ∷ five ∷ mark colon ∷ x ∷ mark comma ∷ mark roundClose ∷ []) (no_at 4)
+    ∷ example level1 (round ∷ five ∷ mark colon ∷ x ∷ mark comma ∷ mark round_close ∷ []) (no_at 4)
     -- (,5:y)
-    ∷ example level1 (round ∷ mark comma ∷ five ∷ mark colon ∷ x ∷ mark roundClose ∷ []) (no_at 3)
+    ∷ example level1 (round ∷ mark comma ∷ five ∷ mark colon ∷ x ∷ mark round_close ∷ []) (no_at 3)
     -- (a,5:y)
-    ∷ example level1 (round ∷ x ∷ mark comma ∷ five ∷ mark colon ∷ x ∷ mark roundClose ∷ []) (no_at 4)
+    ∷ example level1 (round ∷ x ∷ mark comma ∷ five ∷ mark colon ∷ x ∷ mark round_close ∷ []) (no_at 4)
     -- (,(x):y)
-    ∷ example level1 (round ∷ mark comma ∷ round ∷ x ∷ mark roundClose ∷ mark colon ∷ x ∷ mark roundClose ∷ []) (no_at 5)
+    ∷ example level1 (round ∷ mark comma ∷ round ∷ x ∷ mark round_close ∷ mark colon ∷ x ∷ mark round_close ∷ []) (no_at 5)
     -- (x->y,)
-    ∷ example level1 (round ∷ x ∷ mark rightArrow ∷ x ∷ mark comma ∷ mark roundClose ∷ []) (no_at 4)
+    ∷ example level1 (round ∷ x ∷ mark right_arrow ∷ x ∷ mark comma ∷ mark round_close ∷ []) (no_at 4)
     -- (,x->y)
-    ∷ example level1 (round ∷ mark comma ∷ x ∷ mark rightArrow ∷ x ∷ mark roundClose ∷ []) (no_at 3)
+    ∷ example level1 (round ∷ mark comma ∷ x ∷ mark right_arrow ∷ x ∷ mark round_close ∷ []) (no_at 3)
     -- (::a::b:y,)
-    ∷ example level1 (round ∷ names ∷ x ∷ names ∷ x ∷ mark colon ∷ x ∷ mark comma ∷ mark roundClose ∷ []) (yes_of 9)
+    ∷ example level1 (round ∷ names ∷ x ∷ names ∷ x ∷ mark colon ∷ x ∷ mark comma ∷ mark round_close ∷ []) (yes_of 9)
     -- ((::a):y,)
-    ∷ example level1 (round ∷ round ∷ names ∷ x ∷ mark roundClose ∷ mark colon ∷ x ∷ mark comma ∷ mark roundClose ∷ []) (no_at 7)
+    ∷ example level1 (round ∷ round ∷ names ∷ x ∷ mark round_close ∷ mark colon ∷ x ∷ mark comma ∷ mark round_close ∷ []) (no_at 7)
     -- (x:y:z)
-    ∷ example level1 (round ∷ x ∷ mark colon ∷ x ∷ mark colon ∷ x ∷ mark roundClose ∷ []) (no_at 4)
+    ∷ example level1 (round ∷ x ∷ mark colon ∷ x ∷ mark colon ∷ x ∷ mark round_close ∷ []) (no_at 4)
     -- ({}:y,)
-    ∷ example level1 (round ∷ curly ∷ mark curlyClose ∷ mark colon ∷ x ∷ mark comma ∷ mark roundClose ∷ []) (no_at 5)
+    ∷ example level1 (round ∷ curly ∷ mark curly_close ∷ mark colon ∷ x ∷ mark comma ∷ mark round_close ∷ []) (no_at 5)
     -- {}5
-    ∷ example level1 (curly ∷ mark curlyClose ∷ five ∷ []) (no_at 2)
+    ∷ example level1 (curly ∷ mark curly_close ∷ five ∷ []) (no_at 2)
     -- {5}
-    ∷ example level1 (curly ∷ five ∷ mark curlyClose ∷ []) (yes_of 3)
+    ∷ example level1 (curly ∷ five ∷ mark curly_close ∷ []) (yes_of 3)
     -- {x 0L}
-    ∷ example level1 (curly ∷ five ∷ later ∷ mark curlyClose ∷ []) (no_at 2)
+    ∷ example level1 (curly ∷ five ∷ later ∷ mark curly_close ∷ []) (no_at 2)
     -- []
-    ∷ example level2 (square ∷ mark squareClose ∷ []) (yes_of 2)
+    ∷ example level2 (square ∷ mark square_close ∷ []) (yes_of 2)
     -- [v]
-    ∷ example level2 (square ∷ x ∷ mark squareClose ∷ []) (yes_of 3)
+    ∷ example level2 (square ∷ x ∷ mark square_close ∷ []) (yes_of 3)
     -- [1..10]
-    ∷ example level2 (square ∷ five ∷ mark dots ∷ five ∷ mark squareClose ∷ []) (yes_of 5)
+    ∷ example level2 (square ∷ five ∷ mark dots ∷ five ∷ mark square_close ∷ []) (yes_of 5)
     -- [a<=*<=b]
-    ∷ example level2 (square ∷ x ∷ mark (star LessEqual LessEqual) ∷ x ∷ mark squareClose ∷ []) (yes_of 5)
+    ∷ example level2 (square ∷ x ∷ mark (star LessEqual LessEqual) ∷ x ∷ mark square_close ∷ []) (yes_of 5)
     -- [a<=*<b]
-    ∷ example level2 (square ∷ x ∷ mark (star LessEqual Less) ∷ x ∷ mark squareClose ∷ []) (yes_of 5)
+    ∷ example level2 (square ∷ x ∷ mark (star LessEqual Less) ∷ x ∷ mark square_close ∷ []) (yes_of 5)
     -- [a<*<=b]
-    ∷ example level2 (square ∷ x ∷ mark (star Less LessEqual) ∷ x ∷ mark squareClose ∷ []) (yes_of 5)
+    ∷ example level2 (square ∷ x ∷ mark (star Less LessEqual) ∷ x ∷ mark square_close ∷ []) (yes_of 5)
     -- [a<*<b]
-    ∷ example level2 (square ∷ x ∷ mark (star Less Less) ∷ x ∷ mark squareClose ∷ []) (yes_of 5)
+    ∷ example level2 (square ∷ x ∷ mark (star Less Less) ∷ x ∷ mark square_close ∷ []) (yes_of 5)
     -- [a<=*]
-    ∷ example level2 (square ∷ x ∷ mark (star LessEqual Open) ∷ mark squareClose ∷ []) (yes_of 4)
+    ∷ example level2 (square ∷ x ∷ mark (star LessEqual Open) ∷ mark square_close ∷ []) (yes_of 4)
     -- [a<*]
-    ∷ example level2 (square ∷ x ∷ mark (star Less Open) ∷ mark squareClose ∷ []) (yes_of 4)
+    ∷ example level2 (square ∷ x ∷ mark (star Less Open) ∷ mark square_close ∷ []) (yes_of 4)
     -- [*<=b]
-    ∷ example level2 (square ∷ mark (star Open LessEqual) ∷ x ∷ mark squareClose ∷ []) (yes_of 4)
+    ∷ example level2 (square ∷ mark (star Open LessEqual) ∷ x ∷ mark square_close ∷ []) (yes_of 4)
     -- [*<b]
-    ∷ example level2 (square ∷ mark (star Open Less) ∷ x ∷ mark squareClose ∷ []) (yes_of 4)
+    ∷ example level2 (square ∷ mark (star Open Less) ∷ x ∷ mark square_close ∷ []) (yes_of 4)
     -- [*]
-    ∷ example level2 (square ∷ mark (star Open Open) ∷ mark squareClose ∷ []) (yes_of 3)
+    ∷ example level2 (square ∷ mark (star Open Open) ∷ mark square_close ∷ []) (yes_of 3)
     -- [a*<b]
-    ∷ example level2 (square ∷ x ∷ mark (star Open Less) ∷ x ∷ mark squareClose ∷ []) (no_at 2)
+    ∷ example level2 (square ∷ x ∷ mark (star Open Less) ∷ x ∷ mark square_close ∷ []) (no_at 2)
     -- [a*]
-    ∷ example level2 (square ∷ x ∷ mark (star Open Open) ∷ mark squareClose ∷ []) (no_at 2)
+    ∷ example level2 (square ∷ x ∷ mark (star Open Open) ∷ mark square_close ∷ []) (no_at 2)
     -- [<*b]
-    ∷ example level2 (square ∷ mark (star Less Open) ∷ x ∷ mark squareClose ∷ []) (no_at 1)
+    ∷ example level2 (square ∷ mark (star Less Open) ∷ x ∷ mark square_close ∷ []) (no_at 1)
     -- [a..b..c]
-    ∷ example level2 (square ∷ x ∷ mark dots ∷ x ∷ mark dots ∷ x ∷ mark squareClose ∷ []) (no_at 4)
+    ∷ example level2 (square ∷ x ∷ mark dots ∷ x ∷ mark dots ∷ x ∷ mark square_close ∷ []) (no_at 4)
     -- [a<=*b]
-    ∷ example level2 (square ∷ x ∷ mark (star LessEqual Open) ∷ x ∷ mark squareClose ∷ []) (no_at 3)
+    ∷ example level2 (square ∷ x ∷ mark (star LessEqual Open) ∷ x ∷ mark square_close ∷ []) (no_at 3)
     -- [*<b..c]
-    ∷ example level2 (square ∷ mark (star Open Less) ∷ x ∷ mark dots ∷ x ∷ mark squareClose ∷ []) (no_at 3)
+    ∷ example level2 (square ∷ mark (star Open Less) ∷ x ∷ mark dots ∷ x ∷ mark square_close ∷ []) (no_at 3)
     -- [a:b]
-    ∷ example level2 (square ∷ x ∷ mark colon ∷ x ∷ mark squareClose ∷ []) (no_at 2)
+    ∷ example level2 (square ∷ x ∷ mark colon ∷ x ∷ mark square_close ∷ []) (no_at 2)
     ∷ []
 
 abbrev expected : List Example → List Judged

@@ -57,13 +57,13 @@ module _ (l : Level) where
   -- ---- the test
 
   abbrev colon_lacks : Mark → Head → Bool
-  colon_lacks Tokens.roundClose h = false
-  colon_lacks Tokens.curlyClose h = false
-  colon_lacks Tokens.squareClose h = false
+  colon_lacks Tokens.round_close h = false
+  colon_lacks Tokens.curly_close h = false
+  colon_lacks Tokens.square_close h = false
   colon_lacks Tokens.comma h = false
   colon_lacks Tokens.colon h = not (has_head l h)
-  colon_lacks Tokens.rightArrow h = false
-  colon_lacks Tokens.leftArrow h = false
+  colon_lacks Tokens.right_arrow h = false
+  colon_lacks Tokens.left_arrow h = false
   colon_lacks Tokens.dots h = false
   colon_lacks (Tokens.star a b) h = false
 
@@ -119,13 +119,13 @@ module _ (l : Level) where
 
   colon_beyond : (m : Mark) (h : Head) (o s k : Span) (ts : List Tok) → colon_lacks m h ≡ true →
       Beyond l (tok Tokens.round o ∷ tok (Tokens.text (Tokens.head_word h)) s ∷ tok (Tokens.mark m) k ∷ ts)
-  colon_beyond Tokens.roundClose h o s k ts e = absurd (false≢true e)
-  colon_beyond Tokens.curlyClose h o s k ts e = absurd (false≢true e)
-  colon_beyond Tokens.squareClose h o s k ts e = absurd (false≢true e)
+  colon_beyond Tokens.round_close h o s k ts e = absurd (false≢true e)
+  colon_beyond Tokens.curly_close h o s k ts e = absurd (false≢true e)
+  colon_beyond Tokens.square_close h o s k ts e = absurd (false≢true e)
   colon_beyond Tokens.comma h o s k ts e = absurd (false≢true e)
   colon_beyond Tokens.colon h o s k ts e = newer_head (not_true (has_head l h) e)
-  colon_beyond Tokens.rightArrow h o s k ts e = absurd (false≢true e)
-  colon_beyond Tokens.leftArrow h o s k ts e = absurd (false≢true e)
+  colon_beyond Tokens.right_arrow h o s k ts e = absurd (false≢true e)
+  colon_beyond Tokens.left_arrow h o s k ts e = absurd (false≢true e)
   colon_beyond Tokens.dots h o s k ts e = absurd (false≢true e)
   colon_beyond (Tokens.star a b) h o s k ts e = absurd (false≢true e)
 

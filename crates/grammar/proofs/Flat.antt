@@ -81,24 +81,24 @@ mutual
   flat_plain (Tree.group o v c) p r n = flat_value v p r n
   flat_plain (Tree.pair o a k b c) p r n =
       let f : ℕ → List Node = λ i. nodes_plain a n Nodes.this i in
-      let g : ℕ → List Node = λ i. nodes b n Nodes.thatAfter i in
+      let g : ℕ → List Node = λ i. nodes b n Nodes.that_after i in
       let x = grow_plain a Nodes.this in
-      let y = grow b Nodes.thatAfter in
-      under Nodes.aPair (Nodes.over o c) r 0 p n (more x (more y none)) (both f g)
-      (one_each f g x y none n (λ i. flat_plain a n Nodes.this i) (λ i. flat_value b n Nodes.thatAfter i))
+      let y = grow b Nodes.that_after in
+      under Nodes.a_pair (Nodes.over o c) r 0 p n (more x (more y none)) (both f g)
+      (one_each f g x y none n (λ i. flat_plain a n Nodes.this i) (λ i. flat_value b n Nodes.that_after i))
   flat_plain (Tree.arrowed o a j k b c) p r n =
       let x = Nodes.left_role_of j in
       let y = Nodes.right_role_of j in
-      under Nodes.aPair (Nodes.over o c) r 0 p n (more (grow a x) (more (grow b y) none)) (both (λ i. nodes a n x i) (λ i. nodes b n y i))
+      under Nodes.a_pair (Nodes.over o c) r 0 p n (more (grow a x) (more (grow b y) none)) (both (λ i. nodes a n x i) (λ i. nodes b n y i))
       (two_values a b x y none n (λ i. flat_value a n x i) (λ i. flat_value b n y i))
   flat_plain (Tree.tuple o i c) p r n =
-      under Nodes.aTuple (Nodes.over o c) r 0 p n (grow_attributes i none) (λ m. nodes_attributes i n m) (flat_attributes i none n)
+      under Nodes.a_tuple (Nodes.over o c) r 0 p n (grow_attributes i none) (λ m. nodes_attributes i n m) (flat_attributes i none n)
   flat_plain (Tree.lot o i c) p r n =
-      under Nodes.aLot (Nodes.over o c) r 0 p n (grow_listing i none) (λ m. nodes_listing i n m) (flat_listing i none n)
+      under Nodes.a_lot (Nodes.over o c) r 0 p n (grow_listing i none) (λ m. nodes_listing i n m) (flat_listing i none n)
   flat_plain (Tree.counted o h s k b i e c) p r n =
       under (Nodes.collection_kind h) (Nodes.over o c) r 0 p n (grow_listing i none) (λ m. nodes_listing i n m) (flat_listing i none n)
   flat_plain (Tree.interval o b c) p r n =
-      under Nodes.anInterval (Nodes.over o c) r (Nodes.bounds_detail b) p n (grow_bounds b) (λ m. nodes_bounds b n m) (flat_bounds b n)
+      under Nodes.an_interval (Nodes.over o c) r (Nodes.bounds_detail b) p n (grow_bounds b) (λ m. nodes_bounds b n m) (flat_bounds b n)
 
   flat_item : {s : Style} (i : Item s) (bs : Branches) (p : ℕ) → Front (λ n. nodes_item i p n) (grow_item i bs) bs p
   flat_item (Tree.alone {s} v) bs p = one_value v (Nodes.alone_role_of s) bs p (λ n. flat_value v p (Nodes.alone_role_of s) n)

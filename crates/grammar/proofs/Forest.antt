@@ -179,8 +179,8 @@ module _ (t : List ℕ) where
         sibling i j h c l =
             let x = inside i j h c in
             let y = part j h in
-            let i-in : i < count = omega (arith, x.0, h) in
-            (omega (arith, y.0), after (forest_of i i-in) (omega arith) j (omega (arith, x.0)) (omega (arith, x.1, y.0)) c.1 l)
+            let i_in : i < count = omega (arith, x.0, h) in
+            (omega (arith, y.0), after (forest_of i i_in) (omega arith) j (omega (arith, x.0)) (omega (arith, x.1, y.0)) c.1 l)
 
         -- what the walk meets
         only : (i j : ℕ) → i < count → Met t i j → (j < count) × Child t i j
@@ -190,8 +190,8 @@ module _ (t : List ℕ) where
         apart : (i j k : ℕ) → k < count → Child t i j → Child t i k → j < k → Dec (k < end j) → end j ≤ k
         apart i j k h c d l (no x) = omega (arith, x)
         apart i j k h c d l (yes x) =
-            let j-in : j < count = omega (arith, l, h) in
-            absurd (no_child (forest_of j j-in) (inside i j j-in c).0 (omega (arith, l)) x d.1)
+            let j_in : j < count = omega (arith, l, h) in
+            absurd (no_child (forest_of j j_in) (inside i j j_in c).0 (omega (arith, l)) x d.1)
 
 -- ---- a derivation's table
 

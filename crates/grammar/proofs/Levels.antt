@@ -8,7 +8,7 @@ use Rattle.lexicon.specs.declared.Head.{Head}
 use Rattle.grammar.specs.Tokens
 use Rattle.grammar.specs.Tokens.{Span, Tok, tok, Class}
 use Rattle.grammar.specs.Tree
-use Rattle.grammar.specs.Level.{Level, level1, level2, Feature, arrays, sets, bags, intervals, leftArrows, has_head, ◌Within◌}
+use Rattle.grammar.specs.Level.{Level, level1, level2, Feature, arrays, sets, bags, intervals, left_arrows, has_head, ◌Within◌}
 use Rattle.grammar.specs.Place.{Sentence, Wrong, ForValue, Beyond, newer_head, newer_bracket, later_literal, Newer}
 use Rattle.grammar.proofs.Frames.{opened, in_round, Stack, Config, want, have}
 use Rattle.grammar.proofs.Machine.{step, run, runs}
@@ -50,7 +50,7 @@ sentence_known l ts s =
           (record { rest = []; sentence = subst (Sentence l) (e ∙ sym (append-nil (xs ++ (t ∷ ys)))) s });
     }
 
-module _ (a b : Level) (within : a Within b) (arrows : a leftArrows ≡ b leftArrows) where
+module _ (a b : Level) (within : a Within b) (arrows : a left_arrows ≡ b left_arrows) where
   head_within : (h : Head) → has_head a h ≡ true → has_head b h ≡ true
   head_within Head.Array e = within.has_too arrays e
   head_within Head.Set e = within.has_too sets e
@@ -159,4 +159,4 @@ one_within_two = record { has_too = has }
     has sets e = refl
     has bags e = refl
     has intervals e = refl
-    has leftArrows e = refl
+    has left_arrows e = refl

@@ -8,7 +8,7 @@ use Rattle.lexicon.specs.declared.Head.{Head}
 use Rattle.grammar.specs.Tokens
 use Rattle.grammar.specs.Tokens.{Span, Tok, Atom, Wording, Mark, Class}
 use Rattle.grammar.specs.Tree
-use Rattle.grammar.specs.Tree.{Names, PlainName, Name, Arrow, rightward, leftward, Collection, array, set, bag, Measure, byNumber, byTruth, Count, Side, less, less_equal, Between, two_dots, star_sign, Style, member, copy, Value, Plain}
+use Rattle.grammar.specs.Tree.{Names, PlainName, Name, Arrow, rightward, leftward, Collection, array, set, bag, Measure, by_number, by_truth, Count, Side, less, less_equal, Between, two_dots, star_sign, Style, member, copy, Value, Plain}
 use Rattle.grammar.specs.Level.{Level, intervals, arrays, sets, bags, has_arrow_of}
 use Rattle.grammar.proofs.Frames.{Lead, lead_comma, lead_row, Front, start, led, row, Curly, lot_curly, counted_curly, RoundFrame, opened, pair_colon, pair_arrow, in_tuple, attribute_name, CurlyFrame, member_joined, SquareFrame, square_opened, low_and, up_to, Frame, in_round, in_square, Stack, Closing, two_commas, headed, bounded, Config, want, have, want_text, want_curly, want_count, have_item, want_close, next_names, next_attribute, last_attribute, next_item, last_item, no_further, shut, plain_name_of, name_of, names_of}
 
@@ -81,21 +81,21 @@ lead_star (low_and o v d j) a b k K = none
 lead_star (up_to o d j) a b k K = none
 
 abbrev pub lead_mark : Mark → Frame → Span → Stack → Option Config
-lead_mark Tokens.roundClose (in_round f) s K = empty_round f s K
-lead_mark Tokens.roundClose (Frame.in_curly f) s K = none
-lead_mark Tokens.roundClose (in_square f) s K = none
-lead_mark Tokens.curlyClose (in_round f) s K = none
-lead_mark Tokens.curlyClose (Frame.in_curly f) s K = empty_curly f s K
-lead_mark Tokens.curlyClose (in_square f) s K = none
-lead_mark Tokens.squareClose (in_round f) s K = none
-lead_mark Tokens.squareClose (Frame.in_curly f) s K = none
-lead_mark Tokens.squareClose (in_square f) s K = empty_square f s K
+lead_mark Tokens.round_close (in_round f) s K = empty_round f s K
+lead_mark Tokens.round_close (Frame.in_curly f) s K = none
+lead_mark Tokens.round_close (in_square f) s K = none
+lead_mark Tokens.curly_close (in_round f) s K = none
+lead_mark Tokens.curly_close (Frame.in_curly f) s K = empty_curly f s K
+lead_mark Tokens.curly_close (in_square f) s K = none
+lead_mark Tokens.square_close (in_round f) s K = none
+lead_mark Tokens.square_close (Frame.in_curly f) s K = none
+lead_mark Tokens.square_close (in_square f) s K = empty_square f s K
 lead_mark Tokens.comma (in_round f) s K = lead_round f s K
 lead_mark Tokens.comma (Frame.in_curly f) s K = lead_curly f s K
 lead_mark Tokens.comma (in_square f) s K = none
 lead_mark Tokens.colon f s K = none
-lead_mark Tokens.rightArrow f s K = none
-lead_mark Tokens.leftArrow f s K = none
+lead_mark Tokens.right_arrow f s K = none
+lead_mark Tokens.left_arrow f s K = none
 lead_mark Tokens.dots f s K = none
 lead_mark (Tokens.star a b) (in_round f) s K = none
 lead_mark (Tokens.star a b) (Frame.in_curly f) s K = none
@@ -179,49 +179,49 @@ names_go (some n) s K = some (want_text (some n) s K)
 -- ---- the other modes
 
 abbrev pub count_of : (u : Measure) → Atom → Span → Option (Count u)
-count_of byNumber Tokens.ignorance s = none
-count_of byNumber (Tokens.boolean b) s = none
-count_of byNumber (Tokens.integer true) s = none
-count_of byNumber (Tokens.integer false) s = some (Tree.number s)
-count_of byNumber Tokens.fraction s = none
-count_of byNumber Tokens.bits s = none
-count_of byNumber Tokens.blob s = none
-count_of byTruth Tokens.ignorance s = none
-count_of byTruth (Tokens.boolean b) s = some (Tree.truth b s)
-count_of byTruth (Tokens.integer b) s = none
-count_of byTruth Tokens.fraction s = none
-count_of byTruth Tokens.bits s = none
-count_of byTruth Tokens.blob s = none
+count_of by_number Tokens.ignorance s = none
+count_of by_number (Tokens.boolean b) s = none
+count_of by_number (Tokens.integer true) s = none
+count_of by_number (Tokens.integer false) s = some (Tree.number s)
+count_of by_number Tokens.fraction s = none
+count_of by_number Tokens.bits s = none
+count_of by_number Tokens.blob s = none
+count_of by_truth Tokens.ignorance s = none
+count_of by_truth (Tokens.boolean b) s = some (Tree.truth b s)
+count_of by_truth (Tokens.integer b) s = none
+count_of by_truth Tokens.fraction s = none
+count_of by_truth Tokens.bits s = none
+count_of by_truth Tokens.blob s = none
 
 abbrev pub counted : {u : Measure} → Option (Count u) → Curly (copy u) → Front (copy u) → Value → Span → Stack → Option Config
 counted none c f v k K = none
 counted (some n) c f v k K = some (have_item c f (Tree.times v k n) K)
 
 abbrev pub item_mark : {s : Style} → Mark → Curly s → Front s → Tree.Item s → Span → Stack → Option Config
-item_mark Tokens.roundClose c f i s K = none
-item_mark Tokens.curlyClose c f i s K = some (shut c (last_item f i) s K)
-item_mark Tokens.squareClose c f i s K = none
+item_mark Tokens.round_close c f i s K = none
+item_mark Tokens.curly_close c f i s K = some (shut c (last_item f i) s K)
+item_mark Tokens.square_close c f i s K = none
 item_mark Tokens.comma c f i s K = some (curly c (row (next_item f i s)) K)
 item_mark Tokens.colon c f i s K = none
-item_mark Tokens.rightArrow c f i s K = none
-item_mark Tokens.leftArrow c f i s K = none
+item_mark Tokens.right_arrow c f i s K = none
+item_mark Tokens.left_arrow c f i s K = none
 item_mark Tokens.dots c f i s K = none
 item_mark (Tokens.star a b) c f i s K = none
 
 abbrev pub closing : Mark → Closing → Span → Stack → Option Config
-closing Tokens.roundClose (two_commas c a b) s K = none
-closing Tokens.roundClose (headed o h t k b i e) s K = done (Tree.counted o h t k b i e s) K
-closing Tokens.roundClose (bounded o b) s K = none
-closing Tokens.curlyClose (two_commas c a b) s K = some (shut c (Tree.two_commas a b) s K)
-closing Tokens.curlyClose (headed o h t k b i e) s K = none
-closing Tokens.curlyClose (bounded o b) s K = none
-closing Tokens.squareClose (two_commas c a b) s K = none
-closing Tokens.squareClose (headed o h t k b i e) s K = none
-closing Tokens.squareClose (bounded o b) s K = done (Tree.interval o b s) K
+closing Tokens.round_close (two_commas c a b) s K = none
+closing Tokens.round_close (headed o h t k b i e) s K = done (Tree.counted o h t k b i e s) K
+closing Tokens.round_close (bounded o b) s K = none
+closing Tokens.curly_close (two_commas c a b) s K = some (shut c (Tree.two_commas a b) s K)
+closing Tokens.curly_close (headed o h t k b i e) s K = none
+closing Tokens.curly_close (bounded o b) s K = none
+closing Tokens.square_close (two_commas c a b) s K = none
+closing Tokens.square_close (headed o h t k b i e) s K = none
+closing Tokens.square_close (bounded o b) s K = done (Tree.interval o b s) K
 closing Tokens.comma c s K = none
 closing Tokens.colon c s K = none
-closing Tokens.rightArrow c s K = none
-closing Tokens.leftArrow c s K = none
+closing Tokens.right_arrow c s K = none
+closing Tokens.left_arrow c s K = none
 closing Tokens.dots c s K = none
 closing (Tokens.star a b) c s K = none
 
@@ -274,23 +274,23 @@ module _ (l : Level) where
   arrow a (in_square f) v k K = none
 
   abbrev pub behind_mark : Mark → Frame → Value → Span → Stack → Option Config
-  behind_mark Tokens.roundClose (in_round f) v s K = close_round f v s K
-  behind_mark Tokens.roundClose (Frame.in_curly f) v s K = none
-  behind_mark Tokens.roundClose (in_square f) v s K = none
-  behind_mark Tokens.curlyClose (in_round f) v s K = none
-  behind_mark Tokens.curlyClose (Frame.in_curly f) v s K = close_curly f v s K
-  behind_mark Tokens.curlyClose (in_square f) v s K = none
-  behind_mark Tokens.squareClose (in_round f) v s K = none
-  behind_mark Tokens.squareClose (Frame.in_curly f) v s K = none
-  behind_mark Tokens.squareClose (in_square f) v s K = close_square f v s K
+  behind_mark Tokens.round_close (in_round f) v s K = close_round f v s K
+  behind_mark Tokens.round_close (Frame.in_curly f) v s K = none
+  behind_mark Tokens.round_close (in_square f) v s K = none
+  behind_mark Tokens.curly_close (in_round f) v s K = none
+  behind_mark Tokens.curly_close (Frame.in_curly f) v s K = close_curly f v s K
+  behind_mark Tokens.curly_close (in_square f) v s K = none
+  behind_mark Tokens.square_close (in_round f) v s K = none
+  behind_mark Tokens.square_close (Frame.in_curly f) v s K = none
+  behind_mark Tokens.square_close (in_square f) v s K = close_square f v s K
   behind_mark Tokens.comma (in_round f) v s K = comma_round f v s K
   behind_mark Tokens.comma (Frame.in_curly f) v s K = comma_curly f v s K
   behind_mark Tokens.comma (in_square f) v s K = none
   behind_mark Tokens.colon (in_round f) v s K = colon_round f v s K
   behind_mark Tokens.colon (Frame.in_curly f) v s K = colon_curly f v s K
   behind_mark Tokens.colon (in_square f) v s K = none
-  behind_mark Tokens.rightArrow f v s K = arrow rightward f v s K
-  behind_mark Tokens.leftArrow f v s K = arrow leftward f v s K
+  behind_mark Tokens.right_arrow f v s K = arrow rightward f v s K
+  behind_mark Tokens.left_arrow f v s K = arrow leftward f v s K
   behind_mark Tokens.dots (in_round f) v s K = none
   behind_mark Tokens.dots (Frame.in_curly f) v s K = none
   behind_mark Tokens.dots (in_square f) v s K = low_sign f v two_dots s K

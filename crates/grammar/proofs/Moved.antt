@@ -259,8 +259,8 @@ module _ (g : ℕ → ℕ) where
   names_span_lem (one_name s w t) = refl
   names_span_lem (more_names n s w t) = ap (λ (x : Span). Nodes.over x (move_span t)) (start_moved n)
 
-  names_grown : (n : Names) (r : Role) → branch Nodes.aNesting (names_span (move_names n)) r 0 none ≡ move_branch (branch Nodes.aNesting (names_span n) r 0 none)
-  names_grown n r = ap (λ (s : Span). branch Nodes.aNesting s r 0 none) (names_span_lem n)
+  names_grown : (n : Names) (r : Role) → branch Nodes.a_nesting (names_span (move_names n)) r 0 none ≡ move_branch (branch Nodes.a_nesting (names_span n) r 0 none)
+  names_grown n r = ap (λ (s : Span). branch Nodes.a_nesting s r 0 none) (names_span_lem n)
 
   plain_name_grown : (n : PlainName) (r : Role) → grow_plain_name (move_plain_name n) r ≡ move_branch (grow_plain_name n r)
   plain_name_grown (text_name w s) r = refl
@@ -300,7 +300,7 @@ module _ (g : ℕ → ℕ) where
     plain_grown (Tree.lot o i c) r = under (listing_grown i none none refl)
     plain_grown (Tree.counted o h s k b i e c) r = under (listing_grown i none none refl)
     plain_grown (Tree.interval o b c) r =
-        ap (λ (d : ℕ). branch Nodes.anInterval (move_span (Nodes.over o c)) r d (grow_bounds (move_bounds b))) (detail_moved b)
+        ap (λ (d : ℕ). branch Nodes.an_interval (move_span (Nodes.over o c)) r d (grow_bounds (move_bounds b))) (detail_moved b)
         ∙ under (bounds_grown b)
 
     item_grown : {s : Style} (i : Item s) (bs cs : Branches) → cs ≡ move_branches bs → grow_item (move_item i) cs ≡ move_branches (grow_item i bs)

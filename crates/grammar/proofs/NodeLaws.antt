@@ -11,7 +11,7 @@ use lib.ListN.{length, get_or, length-append, length-map, get_or-append, get_or-
 use lib.Seq.{get_or-append-add}
 use Rattle.grammar.specs.Tree
 use Rattle.grammar.specs.Tree.{Value, Plain}
-use Rattle.grammar.specs.Nodes.{NodeKind, an_ignorance, a_boolean, an_integer, a_fraction, a_bits, a_blob, aText, aNesting, aPair, aTuple, aLot, anArray, aSet, aBag, anInterval, kind_number_of}
+use Rattle.grammar.specs.Nodes.{NodeKind, an_ignorance, a_boolean, an_integer, a_fraction, a_bits, a_blob, a_text, a_nesting, a_pair, a_tuple, a_lot, an_array, a_set, a_bag, an_interval, kind_number_of}
 use Rattle.grammar.specs.Nodes.{Node, root, words, node_words, word_at, words_from, table_words, Role, nodes, nodes_plain}
 use Rattle.grammar.proofs.Branches.{Branch, branch, Branches, none, more, flat, flats, grow}
 use Rattle.grammar.proofs.Flat.{flat_value}
@@ -76,11 +76,11 @@ of_number n =
     (cond (eqb n 4) a_fraction
     (cond (eqb n 5) a_bits
     (cond (eqb n 6) a_blob
-    (cond (eqb n 7) aText
-    (cond (eqb n 8) aNesting
-    (cond (eqb n 9) aPair
-    (cond (eqb n 10) aTuple
-    (cond (eqb n 11) aLot (cond (eqb n 12) anArray (cond (eqb n 13) aSet (cond (eqb n 14) aBag anInterval)))))))))))))
+    (cond (eqb n 7) a_text
+    (cond (eqb n 8) a_nesting
+    (cond (eqb n 9) a_pair
+    (cond (eqb n 10) a_tuple
+    (cond (eqb n 11) a_lot (cond (eqb n 12) an_array (cond (eqb n 13) a_set (cond (eqb n 14) a_bag an_interval)))))))))))))
 
 of_number_lem : (k : NodeKind) → of_number (kind_number_of k) ≡ k
 of_number_lem an_ignorance = refl
@@ -89,15 +89,15 @@ of_number_lem an_integer = refl
 of_number_lem a_fraction = refl
 of_number_lem a_bits = refl
 of_number_lem a_blob = refl
-of_number_lem aText = refl
-of_number_lem aNesting = refl
-of_number_lem aPair = refl
-of_number_lem aTuple = refl
-of_number_lem aLot = refl
-of_number_lem anArray = refl
-of_number_lem aSet = refl
-of_number_lem aBag = refl
-of_number_lem anInterval = refl
+of_number_lem a_text = refl
+of_number_lem a_nesting = refl
+of_number_lem a_pair = refl
+of_number_lem a_tuple = refl
+of_number_lem a_lot = refl
+of_number_lem an_array = refl
+of_number_lem a_set = refl
+of_number_lem a_bag = refl
+of_number_lem an_interval = refl
 
 pub one_kind : (j k : NodeKind) → kind_number_of j ≡ kind_number_of k → j ≡ k
 one_kind j k e = sym (of_number_lem j) ∙ ap of_number e ∙ of_number_lem k

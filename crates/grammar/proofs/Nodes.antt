@@ -9,11 +9,11 @@ use lib.ListN.{length, length-append}
 use Rattle.rules.specs.Every.{Every, none, also}
 use Rattle.rules.proofs.Every.{every_first, every_rest, every_append, every_map}
 use Rattle.grammar.specs.Tokens
-use Rattle.grammar.specs.Tokens.{Span, Tok, tok, Class, mark, leftArrow, Atom, boolean, integer, Spelling, quoted, word, code_point_of, spelled, head_word, names}
+use Rattle.grammar.specs.Tokens.{Span, Tok, tok, Class, mark, left_arrow, Atom, boolean, integer, Spelling, quoted, word, code_point_of, spelled, head_word, names}
 use Rattle.grammar.specs.Tree
 use Rattle.grammar.specs.Tree.{Names, one_name, more_names, PlainName, text_name, nesting_name, Name, plain_name, bare_name, Arrow, rightward, leftward, Joiner, Collection, Between, two_dots, star_sign, less, less_equal, Measure, Count, Style, Value, Plain, Item, Row, Listing, Attributes, Bounds}
 use Rattle.grammar.specs.Yield.{arrow_mark, joiner_mark, yield_names, yield_plain_name, yield_name, yield_count, yield_value, yield_plain, yield_item, yield_row, yield_listing, yield_attributes, yield_bounds}
-use Rattle.grammar.specs.Nodes.{NodeKind, aNesting, Node, Role, root, this, thatAfter, thatBefore, name, value, count, low, high, single, alone_role_of, left_role_of, right_role_of, joiner_left, joiner_right, collection_kind, over, leaf, branch, both, names_start, names_span, truth_detail, atom_detail, spelling_detail, between_detail, bounds_detail, table, nodes, nodes_plain, nodes_plain_name, nodes_name, nodes_count, nodes_item, nodes_row, nodes_listing, nodes_attributes, nodes_bounds}
+use Rattle.grammar.specs.Nodes.{NodeKind, a_nesting, Node, Role, root, this, that_after, that_before, name, value, count, low, high, single, alone_role_of, left_role_of, right_role_of, joiner_left, joiner_right, collection_kind, over, leaf, branch, both, names_start, names_span, truth_detail, atom_detail, spelling_detail, between_detail, bounds_detail, table, nodes, nodes_plain, nodes_plain_name, nodes_name, nodes_count, nodes_item, nodes_row, nodes_listing, nodes_attributes, nodes_bounds}
 use Rattle.grammar.specs.Leaves.{Written, literal, text, is_literal_of}
 use Rattle.grammar.proofs.NodeLaws.{some_node}
 
@@ -67,8 +67,8 @@ module _ (P : Tok → Type 0) where
   abbrev pub Told : Role → Type 0
   Told root = Unit {0}
   Told this = Unit {0}
-  Told thatAfter = Unit {0}
-  Told thatBefore = (s : Span) × P (tok (mark leftArrow) s)
+  Told that_after = Unit {0}
+  Told that_before = (s : Span) × P (tok (mark left_arrow) s)
   Told name = Unit {0}
   Told value = Unit {0}
   Told count = Unit {0}
@@ -169,7 +169,7 @@ module _ (P : Tok → Type 0) where
     names_start_lem (one_name s w t) x = (every_first x, every_rest (every_rest x))
     names_start_lem (more_names m s w t) x = let y = names_start_lem m x in (y.0, every_rest (every_rest y.1))
 
-    of_names : (m : Names) {ts : List Tok} → Every P (yield_names m ts) → All (λ p r n. leaf aNesting (names_span m) p r 0) ts
+    of_names : (m : Names) {ts : List Tok} → Every P (yield_names m ts) → All (λ p r n. leaf a_nesting (names_span m) p r 0) ts
     of_names (one_name s w t) x =
         (λ p r h o n e. also (from_to refl (every_first x) (every_first (every_rest x)) h o no_detail) none, every_rest (every_rest x))
     of_names (more_names m s w t) x =
@@ -213,7 +213,7 @@ module _ (P : Tok → Type 0) where
       of_plain (Tree.group o v c) x = let y = of_value_lem v (every_rest x) in (y.0, every_rest y.1)
       of_plain (Tree.pair o a k b c) x =
           let y = of_plain a (every_rest x) in let z = of_value_lem b (every_rest y.1) in
-          (holding (λ p. both (nodes_plain a p this) (nodes b p thatAfter)) refl (every_first x) (every_first z.1) no_detail (λ p h. from_both _ _ (y.0 p _ h tt) (z.0 p _ h tt)), every_rest z.1)
+          (holding (λ p. both (nodes_plain a p this) (nodes b p that_after)) refl (every_first x) (every_first z.1) no_detail (λ p h. from_both _ _ (y.0 p _ h tt) (z.0 p _ h tt)), every_rest z.1)
       of_plain (Tree.arrowed o a j k b c) x =
           let y = of_value_lem a (every_rest x) in let z = of_value_lem b (every_rest y.1) in
           (holding (λ p. both (nodes a p (left_role_of j)) (nodes b p (right_role_of j))) refl (every_first x) (every_first z.1) no_detail (λ p h. from_both _ _ (y.0 p _ h (left_told j k (every_first y.1))) (z.0 p _ h (right_told j))), every_rest z.1)

@@ -38,7 +38,7 @@ last_attribute_behind (lead_comma b) i r = refl
 last_attribute_behind (lead_row o) i r = refl
 
 pub shut_behind : {s : Style} (c : Curly s) (i : Listing s) (e : Span) (K : Stack) (r : List Tok) →
-    behind (shut c i e K) r ≡ behind_stack K (behind_curly c (yield_listing i (sign Tokens.curlyClose e r)))
+    behind (shut c i e K) r ≡ behind_stack K (behind_curly c (yield_listing i (sign Tokens.curly_close e r)))
 shut_behind (lot_curly o) i e K r = refl
 shut_behind (counted_curly o h s k b) i e K r = refl
 
@@ -94,9 +94,9 @@ module _ (l : Level) where
   sound_when false g = tt
 
   -- an item in curly brackets, and what ends it
-  pub item_shut : {s : Style} (c : Curly s) (f : Front s) (i : Item s) (e : Span) (K : Stack) → Takes (have_item c f i K) (Tokens.mark Tokens.curlyClose) e (some (shut c (last_item f i) e K))
+  pub item_shut : {s : Style} (c : Curly s) (f : Front s) (i : Item s) (e : Span) (K : Stack) → Takes (have_item c f i K) (Tokens.mark Tokens.curly_close) e (some (shut c (last_item f i) e K))
   item_shut c f i e K =
-      goes (λ r. shut_behind c (last_item f i) e K r ∙ ap (λ (x : List Tok). behind_stack K (behind_curly c x)) (last_behind f i (sign Tokens.curlyClose e r)))
+      goes (λ r. shut_behind c (last_item f i) e K r ∙ ap (λ (x : List Tok). behind_stack K (behind_curly c x)) (last_behind f i (sign Tokens.curly_close e r)))
       (shut_kept c (last_item f i) e K ∙ ap (λ (x : Bool). kept_stack l K (kept_curly l c x)) (last_kept f i))
 
   pub item_next : {s : Style} (c : Curly s) (f : Front s) (i : Item s) (d : Span) (K : Stack) → Takes (have_item c f i K) (Tokens.mark Tokens.comma) d (some (curly c (row (next_item f i d)) K))

@@ -101,19 +101,19 @@ module _ (l : Level) where
   item_comma (Tree.times v k n) (counted_place o h s j b f) K c = refl
 
   pub attribute_close : (i : Item attribute) (o : Span) (f : Lead) (K : Stack) (c : Span) →
-      step l (item_read i (next_place o f) K) (tok (Tokens.mark Tokens.roundClose) c) ≡ some (have (Tree.plain (Tree.tuple o (last_attribute f i) c)) K)
+      step l (item_read i (next_place o f) K) (tok (Tokens.mark Tokens.round_close) c) ≡ some (have (Tree.plain (Tree.tuple o (last_attribute f i) c)) K)
   attribute_close (Tree.alone v) o f K c = refl
   attribute_close (Tree.named n k v) o f K c = refl
 
   pub item_close : {s : Style} (c : Curly s) (f : Front s) (i : Item s) (K : Stack) (e : Span) →
-      step l (item_read i (place_in c f) K) (tok (Tokens.mark Tokens.curlyClose) e) ≡ some (shut c (last_item f i) e K)
+      step l (item_read i (place_in c f) K) (tok (Tokens.mark Tokens.curly_close) e) ≡ some (shut c (last_item f i) e K)
   item_close (lot_curly o) f (Tree.alone v) K e = refl
   item_close (lot_curly o) f (Tree.joined v j k w) K e = refl
   item_close (counted_curly o h s j b) f (Tree.alone v) K e = refl
   item_close (counted_curly o h s j b) f (Tree.times v k n) K e = refl
 
   pub no_item_close : {s : Style} (c : Curly s) (f : Front s) (K : Stack) (e : Span) →
-      step l (want (frame_at (place_in c f) ∷ K)) (tok (Tokens.mark Tokens.curlyClose) e) ≡ some (shut c (no_further f) e K)
+      step l (want (frame_at (place_in c f) ∷ K)) (tok (Tokens.mark Tokens.curly_close) e) ≡ some (shut c (no_further f) e K)
   no_item_close (lot_curly o) f K e = refl
   no_item_close (counted_curly o h s j b) f K e = refl
 

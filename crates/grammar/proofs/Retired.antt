@@ -14,9 +14,9 @@ use Rattle.grammar.specs.Tokens
 use Rattle.grammar.specs.Tokens.{Span, Tok, tok, Class}
 use Rattle.grammar.specs.Tree.{Value, Style, leftward}
 use Rattle.grammar.specs.Yield.{yield_value}
-use Rattle.grammar.specs.Level.{Level, Feature, arrays, sets, bags, intervals, leftArrows, arrowless, ◌Within◌, has_head, keeps}
+use Rattle.grammar.specs.Level.{Level, Feature, arrays, sets, bags, intervals, left_arrows, arrowless, ◌Within◌, has_head, keeps}
 use Rattle.grammar.specs.Place.{Wrong}
-use Rattle.grammar.specs.Nodes.{thatBefore, table}
+use Rattle.grammar.specs.Nodes.{that_before, table}
 use Rattle.grammar.proofs.Frames.{Config, Stack, Front, Curly, lot_curly, counted_curly, RoundFrame, opened, pair_colon, pair_arrow, in_tuple, attribute_name, CurlyFrame, member_joined, Frame, in_round, in_square, want, have, want_text, want_curly, want_count, have_item, want_close}
 use Rattle.grammar.proofs.Machine.{lead_mark, arrow_round, arrow_in, behind_mark, step, advance, run}
 use Rattle.grammar.proofs.Complete.{accepted}
@@ -27,7 +27,7 @@ use Rattle.grammar.proofs.Nodes.{Told, table_made}
 
 -- the token is not the backward arrow
 abbrev pub NoArrow : Tok → Type 0
-NoArrow t = t.class ≡ Tokens.mark Tokens.leftArrow → ⊥
+NoArrow t = t.class ≡ Tokens.mark Tokens.left_arrow → ⊥
 
 pub arrowless_within : (l : Level) → arrowless l Within l
 arrowless_within l = record { has_too = less }
@@ -37,7 +37,7 @@ arrowless_within l = record { has_too = less }
     less sets e = e
     less bags e = e
     less intervals e = e
-    less leftArrows e = absurd (false≢true e)
+    less left_arrows e = absurd (false≢true e)
 
 module _ (l : Level) where
   -- ---- a row without the arrow
@@ -80,7 +80,7 @@ module _ (l : Level) where
 
   -- ---- at the level without it no row has it
 
-  lead_none : (f : Frame) (s : Span) (K : Stack) → lead_mark Tokens.leftArrow f s K ≡ none
+  lead_none : (f : Frame) (s : Span) (K : Stack) → lead_mark Tokens.left_arrow f s K ≡ none
   lead_none (in_round f) s K = refl
   lead_none (Frame.in_curly f) s K = refl
   lead_none (in_square f) s K = refl
@@ -96,13 +96,13 @@ module _ (l : Level) where
   in_none (lot_curly o) f v s K = refl
   in_none (counted_curly o h t j b) f v s K = refl
 
-  behind_none : (f : Frame) (v : Value) (s : Span) (K : Stack) → behind_mark (arrowless l) Tokens.leftArrow f v s K ≡ none
+  behind_none : (f : Frame) (v : Value) (s : Span) (K : Stack) → behind_mark (arrowless l) Tokens.left_arrow f v s K ≡ none
   behind_none (in_round f) v s K = round_none f v s K
   behind_none (Frame.in_curly (CurlyFrame.in_curly c f)) v s K = in_none c f v s K
   behind_none (Frame.in_curly (member_joined o f w j i)) v s K = refl
   behind_none (in_square f) v s K = refl
 
-  arrow_none : (c : Config) (s : Span) → step (arrowless l) c (tok (Tokens.mark Tokens.leftArrow) s) ≡ none
+  arrow_none : (c : Config) (s : Span) → step (arrowless l) c (tok (Tokens.mark Tokens.left_arrow) s) ≡ none
   arrow_none (want []) s = refl
   arrow_none (want (f ∷ K)) s = lead_none f s K
   arrow_none (have v []) s = refl
@@ -136,5 +136,5 @@ module _ (l : Level) where
 
   -- ---- and no node is a that before its this
 
-  pub no_that_before : (v : Value) → keeps (arrowless l) v ≡ true → Every (λ n. n.role ≡ thatBefore → ⊥) (table v)
+  pub no_that_before : (v : Value) → keeps (arrowless l) v ≡ true → Every (λ n. n.role ≡ that_before → ⊥) (table v)
   no_that_before v e = every_map (λ n m b. (subst (Told NoArrow) b m.role_told).1 refl) (table_made NoArrow v (yields_no_arrow v e))

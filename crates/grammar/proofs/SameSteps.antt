@@ -7,7 +7,7 @@ use Rattle.grammar.specs.Tokens
 use Rattle.grammar.specs.Tokens.{Span, Tok, Mark, Class}
 use Rattle.grammar.specs.Tree
 use Rattle.grammar.specs.Tree.{Arrow, rightward, leftward, Style, Value}
-use Rattle.grammar.specs.Level.{Level, intervals, leftArrows, has_head, has_arrow_of}
+use Rattle.grammar.specs.Level.{Level, intervals, left_arrows, has_head, has_arrow_of}
 use Rattle.grammar.proofs.Frames.{Front, Curly, lot_curly, counted_curly, RoundFrame, opened, pair_colon, pair_arrow, in_tuple, attribute_name, CurlyFrame, member_joined, Frame, in_round, in_square, Stack, Config, want, have, want_text, want_curly, want_count, have_item, want_close}
 use Rattle.grammar.proofs.Machine.{when, head_colon, colon_first_of, colon_round, arrow_round, arrow_in, arrow, behind_mark, have_mark, want_class, have_class, step}
 
@@ -15,7 +15,7 @@ use Rattle.grammar.proofs.Machine.{when, head_colon, colon_first_of, colon_round
 pub record SameForms (a b : Level) (c : Config) (t : Tok) : Type 0 where
   pub bracket : (K : Stack) → c ≡ want K → t.class ≡ Tokens.square → a intervals ≡ b intervals
   pub head : (h : Head) (s o : Span) (K : Stack) → c ≡ have (Tree.bare h s) (in_round (opened o) ∷ K) → t.class ≡ Tokens.mark Tokens.colon → has_head a h ≡ has_head b h
-  pub arrow : t.class ≡ Tokens.mark Tokens.leftArrow → a leftArrows ≡ b leftArrows
+  pub arrow : t.class ≡ Tokens.mark Tokens.left_arrow → a left_arrows ≡ b left_arrows
 
 module _ (a b : Level) where
   when_same : {x y : Bool} (c : Config) → x ≡ y → when x c ≡ when y c
@@ -72,24 +72,24 @@ module _ (a b : Level) where
   arrows_same d (Frame.in_curly (member_joined o f w j i)) v k K g = refl
   arrows_same d (in_square f) v k K g = refl
 
-  behind_same : (m : Mark) (f : Frame) (v : Value) (s : Span) (K : Stack) → (m ≡ Tokens.colon → HeadSame v (f ∷ K)) → (m ≡ Tokens.leftArrow → a leftArrows ≡ b leftArrows) → behind_mark a m f v s K ≡ behind_mark b m f v s K
-  behind_same Tokens.roundClose (in_round f) v s K g r = refl
-  behind_same Tokens.roundClose (Frame.in_curly f) v s K g r = refl
-  behind_same Tokens.roundClose (in_square f) v s K g r = refl
-  behind_same Tokens.curlyClose (in_round f) v s K g r = refl
-  behind_same Tokens.curlyClose (Frame.in_curly f) v s K g r = refl
-  behind_same Tokens.curlyClose (in_square f) v s K g r = refl
-  behind_same Tokens.squareClose (in_round f) v s K g r = refl
-  behind_same Tokens.squareClose (Frame.in_curly f) v s K g r = refl
-  behind_same Tokens.squareClose (in_square f) v s K g r = refl
+  behind_same : (m : Mark) (f : Frame) (v : Value) (s : Span) (K : Stack) → (m ≡ Tokens.colon → HeadSame v (f ∷ K)) → (m ≡ Tokens.left_arrow → a left_arrows ≡ b left_arrows) → behind_mark a m f v s K ≡ behind_mark b m f v s K
+  behind_same Tokens.round_close (in_round f) v s K g r = refl
+  behind_same Tokens.round_close (Frame.in_curly f) v s K g r = refl
+  behind_same Tokens.round_close (in_square f) v s K g r = refl
+  behind_same Tokens.curly_close (in_round f) v s K g r = refl
+  behind_same Tokens.curly_close (Frame.in_curly f) v s K g r = refl
+  behind_same Tokens.curly_close (in_square f) v s K g r = refl
+  behind_same Tokens.square_close (in_round f) v s K g r = refl
+  behind_same Tokens.square_close (Frame.in_curly f) v s K g r = refl
+  behind_same Tokens.square_close (in_square f) v s K g r = refl
   behind_same Tokens.comma (in_round f) v s K g r = refl
   behind_same Tokens.comma (Frame.in_curly f) v s K g r = refl
   behind_same Tokens.comma (in_square f) v s K g r = refl
   behind_same Tokens.colon (in_round f) v s K g r = colon_round_same f v s K (g refl)
   behind_same Tokens.colon (Frame.in_curly f) v s K g r = refl
   behind_same Tokens.colon (in_square f) v s K g r = refl
-  behind_same Tokens.rightArrow f v s K g r = arrows_same rightward f v s K refl
-  behind_same Tokens.leftArrow f v s K g r = arrows_same leftward f v s K (r refl)
+  behind_same Tokens.right_arrow f v s K g r = arrows_same rightward f v s K refl
+  behind_same Tokens.left_arrow f v s K g r = arrows_same leftward f v s K (r refl)
   behind_same Tokens.dots (in_round f) v s K g r = refl
   behind_same Tokens.dots (Frame.in_curly f) v s K g r = refl
   behind_same Tokens.dots (in_square f) v s K g r = refl
@@ -97,7 +97,7 @@ module _ (a b : Level) where
   behind_same (Tokens.star x y) (Frame.in_curly f) v s K g r = refl
   behind_same (Tokens.star x y) (in_square f) v s K g r = refl
 
-  have_mark_same : (m : Mark) (v : Value) (s : Span) (K : Stack) → (m ≡ Tokens.colon → HeadSame v K) → (m ≡ Tokens.leftArrow → a leftArrows ≡ b leftArrows) → have_mark a m v s K ≡ have_mark b m v s K
+  have_mark_same : (m : Mark) (v : Value) (s : Span) (K : Stack) → (m ≡ Tokens.colon → HeadSame v K) → (m ≡ Tokens.left_arrow → a left_arrows ≡ b left_arrows) → have_mark a m v s K ≡ have_mark b m v s K
   have_mark_same m v s [] g r = refl
   have_mark_same m v s (f ∷ K) g r = behind_same m f v s K g r
 
@@ -111,7 +111,7 @@ module _ (a b : Level) where
   want_same (Tokens.mark m) s K g = refl
   want_same Tokens.later s K g = refl
 
-  have_same : (k : Class) (v : Value) (s : Span) (K : Stack) → (k ≡ Tokens.mark Tokens.colon → HeadSame v K) → (k ≡ Tokens.mark Tokens.leftArrow → a leftArrows ≡ b leftArrows) → have_class a k v s K ≡ have_class b k v s K
+  have_same : (k : Class) (v : Value) (s : Span) (K : Stack) → (k ≡ Tokens.mark Tokens.colon → HeadSame v K) → (k ≡ Tokens.mark Tokens.left_arrow → a left_arrows ≡ b left_arrows) → have_class a k v s K ≡ have_class b k v s K
   have_same (Tokens.atom x) v s K g r = refl
   have_same (Tokens.text w) v s K g r = refl
   have_same Tokens.names v s K g r = refl

@@ -9,7 +9,7 @@ use Rattle.lexicon.specs.declared.Head.{Head}
 use Rattle.grammar.specs.Tokens
 use Rattle.grammar.specs.Tokens.{Span, Tok, tok, Mark, Class, Atom, spelled, head_word}
 use Rattle.grammar.specs.Tree
-use Rattle.grammar.specs.Tree.{Names, Arrow, rightward, leftward, Collection, Measure, byNumber, byTruth, Side, less, less_equal, Between, two_dots, star_sign, Style, copy, Value, Plain, Item}
+use Rattle.grammar.specs.Tree.{Names, Arrow, rightward, leftward, Collection, Measure, by_number, by_truth, Side, less, less_equal, Between, two_dots, star_sign, Style, copy, Value, Plain, Item}
 use Rattle.grammar.specs.Yield.{sign, arrow_mark, side_bound, between_mark}
 use Rattle.grammar.specs.Level.{Level, intervals, arrays, sets, bags, has_arrow_of, keeps, keeps_plain, keeps_row}
 use Rattle.grammar.proofs.Frames.{Lead, lead_comma, lead_row, Front, start, led, row, Curly, lot_curly, counted_curly, RoundFrame, opened, pair_colon, pair_arrow, in_tuple, attribute_name, CurlyFrame, member_joined, SquareFrame, square_opened, low_and, up_to, Frame, in_round, in_square, Stack, Closing, two_commas, headed, bounded, Config, want, have, want_text, want_curly, want_count, have_item, want_close, next_names, next_attribute, no_further, plain_name_of, name_of, names_of}
@@ -20,7 +20,7 @@ use Rattle.grammar.proofs.Parts.{shut_behind, none_behind, next_attribute_behind
 module _ (l : Level) where
   -- ---- where a value is wanted, a sign that begins none
 
-  sound_empty_round : (f : RoundFrame) (c : Span) (K : Stack) → Takes l (want (in_round f ∷ K)) (Tokens.mark Tokens.roundClose) c (empty_round f c K)
+  sound_empty_round : (f : RoundFrame) (c : Span) (K : Stack) → Takes l (want (in_round f ∷ K)) (Tokens.mark Tokens.round_close) c (empty_round f c K)
   sound_empty_round (opened o) c K = goes l (λ r. refl) refl
   sound_empty_round (pair_colon o p k) c K = tt
   sound_empty_round (pair_arrow o v a k) c K = tt
@@ -28,13 +28,13 @@ module _ (l : Level) where
   sound_empty_round (in_tuple o (lead_row t)) c K = goes l (λ r. refl) (ap (kept_stack l K) (sym (and-true (keeps_row l t))))
   sound_empty_round (attribute_name o f n k) c K = tt
 
-  sound_empty_curly : (f : CurlyFrame) (e : Span) (K : Stack) → Takes l (want (Frame.in_curly f ∷ K)) (Tokens.mark Tokens.curlyClose) e (empty_curly f e K)
+  sound_empty_curly : (f : CurlyFrame) (e : Span) (K : Stack) → Takes l (want (Frame.in_curly f ∷ K)) (Tokens.mark Tokens.curly_close) e (empty_curly f e K)
   sound_empty_curly (CurlyFrame.in_curly c f) e K =
-      goes l (λ r. shut_behind c (no_further f) e K r ∙ ap (λ (x : List Tok). behind_stack K (behind_curly c x)) (none_behind f (sign Tokens.curlyClose e r)))
+      goes l (λ r. shut_behind c (no_further f) e K r ∙ ap (λ (x : List Tok). behind_stack K (behind_curly c x)) (none_behind f (sign Tokens.curly_close e r)))
       (shut_kept l c (no_further f) e K ∙ ap (λ (x : Bool). kept_stack l K (kept_curly l c x)) (none_kept l f))
   sound_empty_curly (member_joined o f v j k) e K = tt
 
-  sound_empty_square : (f : SquareFrame) (c : Span) (K : Stack) → Takes l (want (in_square f ∷ K)) (Tokens.mark Tokens.squareClose) c (empty_square f c K)
+  sound_empty_square : (f : SquareFrame) (c : Span) (K : Stack) → Takes l (want (in_square f ∷ K)) (Tokens.mark Tokens.square_close) c (empty_square f c K)
   sound_empty_square (square_opened o) c K = goes l (λ r. refl) refl
   sound_empty_square (low_and o v b k) c K = tt
   sound_empty_square (up_to o a k) c K = tt
@@ -65,21 +65,21 @@ module _ (l : Level) where
   sound_lead_star (up_to o d j) a b k K = tt
 
   sound_lead_mark : (m : Mark) (f : Frame) (s : Span) (K : Stack) → Takes l (want (f ∷ K)) (Tokens.mark m) s (lead_mark m f s K)
-  sound_lead_mark Tokens.roundClose (in_round f) s K = sound_empty_round f s K
-  sound_lead_mark Tokens.roundClose (Frame.in_curly f) s K = tt
-  sound_lead_mark Tokens.roundClose (in_square f) s K = tt
-  sound_lead_mark Tokens.curlyClose (in_round f) s K = tt
-  sound_lead_mark Tokens.curlyClose (Frame.in_curly f) s K = sound_empty_curly f s K
-  sound_lead_mark Tokens.curlyClose (in_square f) s K = tt
-  sound_lead_mark Tokens.squareClose (in_round f) s K = tt
-  sound_lead_mark Tokens.squareClose (Frame.in_curly f) s K = tt
-  sound_lead_mark Tokens.squareClose (in_square f) s K = sound_empty_square f s K
+  sound_lead_mark Tokens.round_close (in_round f) s K = sound_empty_round f s K
+  sound_lead_mark Tokens.round_close (Frame.in_curly f) s K = tt
+  sound_lead_mark Tokens.round_close (in_square f) s K = tt
+  sound_lead_mark Tokens.curly_close (in_round f) s K = tt
+  sound_lead_mark Tokens.curly_close (Frame.in_curly f) s K = sound_empty_curly f s K
+  sound_lead_mark Tokens.curly_close (in_square f) s K = tt
+  sound_lead_mark Tokens.square_close (in_round f) s K = tt
+  sound_lead_mark Tokens.square_close (Frame.in_curly f) s K = tt
+  sound_lead_mark Tokens.square_close (in_square f) s K = sound_empty_square f s K
   sound_lead_mark Tokens.comma (in_round f) s K = sound_lead_round f s K
   sound_lead_mark Tokens.comma (Frame.in_curly f) s K = sound_lead_curly f s K
   sound_lead_mark Tokens.comma (in_square f) s K = tt
   sound_lead_mark Tokens.colon f s K = tt
-  sound_lead_mark Tokens.rightArrow f s K = tt
-  sound_lead_mark Tokens.leftArrow f s K = tt
+  sound_lead_mark Tokens.right_arrow f s K = tt
+  sound_lead_mark Tokens.left_arrow f s K = tt
   sound_lead_mark Tokens.dots f s K = tt
   sound_lead_mark (Tokens.star a b) (in_round f) s K = tt
   sound_lead_mark (Tokens.star a b) (Frame.in_curly f) s K = tt
@@ -87,22 +87,22 @@ module _ (l : Level) where
 
   -- ---- behind a value
 
-  pub sound_close_round : (f : RoundFrame) (v : Value) (c : Span) (K : Stack) → Takes l (have v (in_round f ∷ K)) (Tokens.mark Tokens.roundClose) c (close_round f v c K)
+  pub sound_close_round : (f : RoundFrame) (v : Value) (c : Span) (K : Stack) → Takes l (have v (in_round f ∷ K)) (Tokens.mark Tokens.round_close) c (close_round f v c K)
   sound_close_round (opened o) v c K = goes l (λ r. refl) refl
   sound_close_round (pair_colon o p k) v c K = goes l (λ r. refl) refl
   sound_close_round (pair_arrow o w a k) v c K = goes l (λ r. refl) refl
   sound_close_round (in_tuple o f) v c K =
-      goes l (λ r. ap (λ (x : List Tok). behind_stack K (tok Tokens.round o ∷ x)) (last_attribute_behind f (Tree.alone v) (sign Tokens.roundClose c r)))
+      goes l (λ r. ap (λ (x : List Tok). behind_stack K (tok Tokens.round o ∷ x)) (last_attribute_behind f (Tree.alone v) (sign Tokens.round_close c r)))
       (ap (kept_stack l K) (last_attribute_kept l f (Tree.alone v)))
   sound_close_round (attribute_name o f n k) v c K =
-      goes l (λ r. ap (λ (x : List Tok). behind_stack K (tok Tokens.round o ∷ x)) (last_attribute_behind f (Tree.named n k v) (sign Tokens.roundClose c r)))
+      goes l (λ r. ap (λ (x : List Tok). behind_stack K (tok Tokens.round o ∷ x)) (last_attribute_behind f (Tree.named n k v) (sign Tokens.round_close c r)))
       (ap (kept_stack l K) (last_attribute_kept l f (Tree.named n k v)))
 
-  pub sound_close_curly : (f : CurlyFrame) (v : Value) (e : Span) (K : Stack) → Takes l (have v (Frame.in_curly f ∷ K)) (Tokens.mark Tokens.curlyClose) e (close_curly f v e K)
+  pub sound_close_curly : (f : CurlyFrame) (v : Value) (e : Span) (K : Stack) → Takes l (have v (Frame.in_curly f ∷ K)) (Tokens.mark Tokens.curly_close) e (close_curly f v e K)
   sound_close_curly (CurlyFrame.in_curly c f) v e K = let g = item_shut l c f (Tree.alone v) e K in goes l g.reads g.level
   sound_close_curly (member_joined o f w j k) v e K = let g = item_shut l (lot_curly o) f (Tree.joined w j k v) e K in goes l g.reads g.level
 
-  pub sound_close_square : (f : SquareFrame) (v : Value) (c : Span) (K : Stack) → Takes l (have v (in_square f ∷ K)) (Tokens.mark Tokens.squareClose) c (close_square f v c K)
+  pub sound_close_square : (f : SquareFrame) (v : Value) (c : Span) (K : Stack) → Takes l (have v (in_square f ∷ K)) (Tokens.mark Tokens.square_close) c (close_square f v c K)
   sound_close_square (square_opened o) v c K = goes l (λ r. refl) refl
   sound_close_square (low_and o w b k) v c K = goes l (λ r. refl) refl
   sound_close_square (up_to o a k) v c K = goes l (λ r. refl) refl
@@ -229,23 +229,23 @@ module _ (l : Level) where
   sound_star_square LessEqual f v b k K = sound_star_side f v less_equal b k K
 
   sound_behind_mark : (m : Mark) (f : Frame) (v : Value) (s : Span) (K : Stack) → Takes l (have v (f ∷ K)) (Tokens.mark m) s (behind_mark l m f v s K)
-  sound_behind_mark Tokens.roundClose (in_round f) v s K = sound_close_round f v s K
-  sound_behind_mark Tokens.roundClose (Frame.in_curly f) v s K = tt
-  sound_behind_mark Tokens.roundClose (in_square f) v s K = tt
-  sound_behind_mark Tokens.curlyClose (in_round f) v s K = tt
-  sound_behind_mark Tokens.curlyClose (Frame.in_curly f) v s K = sound_close_curly f v s K
-  sound_behind_mark Tokens.curlyClose (in_square f) v s K = tt
-  sound_behind_mark Tokens.squareClose (in_round f) v s K = tt
-  sound_behind_mark Tokens.squareClose (Frame.in_curly f) v s K = tt
-  sound_behind_mark Tokens.squareClose (in_square f) v s K = sound_close_square f v s K
+  sound_behind_mark Tokens.round_close (in_round f) v s K = sound_close_round f v s K
+  sound_behind_mark Tokens.round_close (Frame.in_curly f) v s K = tt
+  sound_behind_mark Tokens.round_close (in_square f) v s K = tt
+  sound_behind_mark Tokens.curly_close (in_round f) v s K = tt
+  sound_behind_mark Tokens.curly_close (Frame.in_curly f) v s K = sound_close_curly f v s K
+  sound_behind_mark Tokens.curly_close (in_square f) v s K = tt
+  sound_behind_mark Tokens.square_close (in_round f) v s K = tt
+  sound_behind_mark Tokens.square_close (Frame.in_curly f) v s K = tt
+  sound_behind_mark Tokens.square_close (in_square f) v s K = sound_close_square f v s K
   sound_behind_mark Tokens.comma (in_round f) v s K = sound_comma_round f v s K
   sound_behind_mark Tokens.comma (Frame.in_curly f) v s K = sound_comma_curly f v s K
   sound_behind_mark Tokens.comma (in_square f) v s K = tt
   sound_behind_mark Tokens.colon (in_round f) v s K = sound_colon_round f v s K
   sound_behind_mark Tokens.colon (Frame.in_curly f) v s K = sound_colon_curly f v s K
   sound_behind_mark Tokens.colon (in_square f) v s K = tt
-  sound_behind_mark Tokens.rightArrow f v s K = sound_arrow rightward f v s K
-  sound_behind_mark Tokens.leftArrow f v s K = sound_arrow leftward f v s K
+  sound_behind_mark Tokens.right_arrow f v s K = sound_arrow rightward f v s K
+  sound_behind_mark Tokens.left_arrow f v s K = sound_arrow leftward f v s K
   sound_behind_mark Tokens.dots (in_round f) v s K = tt
   sound_behind_mark Tokens.dots (Frame.in_curly f) v s K = tt
   sound_behind_mark Tokens.dots (in_square f) v s K = sound_low_sign f v two_dots s K
@@ -270,45 +270,45 @@ module _ (l : Level) where
 
   pub sound_count : (u : Measure) (a : Atom) (c : Curly (copy u)) (f : Front (copy u)) (v : Value) (k s : Span) (K : Stack) →
       Takes l (want_count c f v k K) (Tokens.atom a) s (counted (count_of u a s) c f v k K)
-  sound_count byNumber Tokens.ignorance c f v k s K = tt
-  sound_count byNumber (Tokens.boolean b) c f v k s K = tt
-  sound_count byNumber (Tokens.integer true) c f v k s K = tt
-  sound_count byNumber (Tokens.integer false) c f v k s K = goes l (λ r. refl) refl
-  sound_count byNumber Tokens.fraction c f v k s K = tt
-  sound_count byNumber Tokens.bits c f v k s K = tt
-  sound_count byNumber Tokens.blob c f v k s K = tt
-  sound_count byTruth Tokens.ignorance c f v k s K = tt
-  sound_count byTruth (Tokens.boolean b) c f v k s K = goes l (λ r. refl) refl
-  sound_count byTruth (Tokens.integer b) c f v k s K = tt
-  sound_count byTruth Tokens.fraction c f v k s K = tt
-  sound_count byTruth Tokens.bits c f v k s K = tt
-  sound_count byTruth Tokens.blob c f v k s K = tt
+  sound_count by_number Tokens.ignorance c f v k s K = tt
+  sound_count by_number (Tokens.boolean b) c f v k s K = tt
+  sound_count by_number (Tokens.integer true) c f v k s K = tt
+  sound_count by_number (Tokens.integer false) c f v k s K = goes l (λ r. refl) refl
+  sound_count by_number Tokens.fraction c f v k s K = tt
+  sound_count by_number Tokens.bits c f v k s K = tt
+  sound_count by_number Tokens.blob c f v k s K = tt
+  sound_count by_truth Tokens.ignorance c f v k s K = tt
+  sound_count by_truth (Tokens.boolean b) c f v k s K = goes l (λ r. refl) refl
+  sound_count by_truth (Tokens.integer b) c f v k s K = tt
+  sound_count by_truth Tokens.fraction c f v k s K = tt
+  sound_count by_truth Tokens.bits c f v k s K = tt
+  sound_count by_truth Tokens.blob c f v k s K = tt
 
   sound_item_mark : {t : Style} (m : Mark) (c : Curly t) (f : Front t) (i : Item t) (s : Span) (K : Stack) → Takes l (have_item c f i K) (Tokens.mark m) s (item_mark m c f i s K)
-  sound_item_mark Tokens.roundClose c f i s K = tt
-  sound_item_mark Tokens.curlyClose c f i s K = item_shut l c f i s K
-  sound_item_mark Tokens.squareClose c f i s K = tt
+  sound_item_mark Tokens.round_close c f i s K = tt
+  sound_item_mark Tokens.curly_close c f i s K = item_shut l c f i s K
+  sound_item_mark Tokens.square_close c f i s K = tt
   sound_item_mark Tokens.comma c f i s K = item_next l c f i s K
   sound_item_mark Tokens.colon c f i s K = tt
-  sound_item_mark Tokens.rightArrow c f i s K = tt
-  sound_item_mark Tokens.leftArrow c f i s K = tt
+  sound_item_mark Tokens.right_arrow c f i s K = tt
+  sound_item_mark Tokens.left_arrow c f i s K = tt
   sound_item_mark Tokens.dots c f i s K = tt
   sound_item_mark (Tokens.star a b) c f i s K = tt
 
   pub sound_closing : (m : Mark) (c : Closing) (s : Span) (K : Stack) → Takes l (want_close c K) (Tokens.mark m) s (closing m c s K)
-  sound_closing Tokens.roundClose (two_commas c a b) s K = tt
-  sound_closing Tokens.roundClose (headed o h t k b i e) s K = goes l (λ r. refl) refl
-  sound_closing Tokens.roundClose (bounded o b) s K = tt
-  sound_closing Tokens.curlyClose (two_commas c a b) s K = goes l (λ r. shut_behind c (Tree.two_commas a b) s K r) (shut_kept l c (Tree.two_commas a b) s K)
-  sound_closing Tokens.curlyClose (headed o h t k b i e) s K = tt
-  sound_closing Tokens.curlyClose (bounded o b) s K = tt
-  sound_closing Tokens.squareClose (two_commas c a b) s K = tt
-  sound_closing Tokens.squareClose (headed o h t k b i e) s K = tt
-  sound_closing Tokens.squareClose (bounded o b) s K = goes l (λ r. refl) refl
+  sound_closing Tokens.round_close (two_commas c a b) s K = tt
+  sound_closing Tokens.round_close (headed o h t k b i e) s K = goes l (λ r. refl) refl
+  sound_closing Tokens.round_close (bounded o b) s K = tt
+  sound_closing Tokens.curly_close (two_commas c a b) s K = goes l (λ r. shut_behind c (Tree.two_commas a b) s K r) (shut_kept l c (Tree.two_commas a b) s K)
+  sound_closing Tokens.curly_close (headed o h t k b i e) s K = tt
+  sound_closing Tokens.curly_close (bounded o b) s K = tt
+  sound_closing Tokens.square_close (two_commas c a b) s K = tt
+  sound_closing Tokens.square_close (headed o h t k b i e) s K = tt
+  sound_closing Tokens.square_close (bounded o b) s K = goes l (λ r. refl) refl
   sound_closing Tokens.comma c s K = tt
   sound_closing Tokens.colon c s K = tt
-  sound_closing Tokens.rightArrow c s K = tt
-  sound_closing Tokens.leftArrow c s K = tt
+  sound_closing Tokens.right_arrow c s K = tt
+  sound_closing Tokens.left_arrow c s K = tt
   sound_closing Tokens.dots c s K = tt
   sound_closing (Tokens.star a b) c s K = tt
 

@@ -8,7 +8,7 @@ use native.Mathlib.Omega.{arith}
 use Rattle.grammar.specs.Tokens
 use Rattle.grammar.specs.Tokens.{Span, Tok, tok}
 use Rattle.grammar.specs.Tree
-use Rattle.grammar.specs.Tree.{Measure, byNumber, byTruth, Style, copy, Value, Listing}
+use Rattle.grammar.specs.Tree.{Measure, by_number, by_truth, Style, copy, Value, Listing}
 use Rattle.grammar.specs.Level.{Level}
 use Rattle.grammar.specs.Place.{Sentence, Begins, Wrong, WrongEnd, ForValue}
 use Rattle.grammar.proofs.Frames.{Front, Curly, lot_curly, counted_curly, opened, pair_colon, pair_arrow, in_tuple, attribute_name, CurlyFrame, member_joined, square_opened, low_and, up_to, Frame, in_round, in_square, Stack, two_commas, headed, bounded, Config, want, have, want_text, want_curly, want_count, have_item, want_close, last_item, shut}
@@ -55,7 +55,7 @@ module _ (l : Level) where
   complete_have (Frame.in_curly (CurlyFrame.in_curly (lot_curly o) f) ∷ K) v = after _ (sound_close_curly l (CurlyFrame.in_curly (lot_curly o) f) v here K) (complete_have K _)
   complete_have (Frame.in_curly (CurlyFrame.in_curly (counted_curly o h s k b) f) ∷ K) v =
       after _ (sound_close_curly l (CurlyFrame.in_curly (counted_curly o h s k b) f) v here K)
-      (after _ (sound_closing l Tokens.roundClose (headed o h s k b (last_item f (Tree.alone v)) here) here K) (complete_have K _))
+      (after _ (sound_closing l Tokens.round_close (headed o h s k b (last_item f (Tree.alone v)) here) here K) (complete_have K _))
   complete_have (Frame.in_curly (member_joined o f w j k) ∷ K) v = after _ (sound_close_curly l (member_joined o f w j k) v here K) (complete_have K _)
   complete_have (in_square (square_opened o) ∷ K) v = after _ (sound_close_square l (square_opened o) v here K) (complete_have K _)
   complete_have (in_square (low_and o w b k) ∷ K) v = after _ (sound_close_square l (low_and o w b k) v here K) (complete_have K _)
@@ -66,14 +66,14 @@ module _ (l : Level) where
 
   complete_shut : {s : Style} (c : Curly s) (i : Listing s) (e : Span) (K : Stack) → Completion (shut c i e K)
   complete_shut (lot_curly o) i e K = complete_have K _
-  complete_shut (counted_curly o h s k b) i e K = after _ (sound_closing l Tokens.roundClose (headed o h s k b i e) here K) (complete_have K _)
+  complete_shut (counted_curly o h s k b) i e K = after _ (sound_closing l Tokens.round_close (headed o h s k b i e) here K) (complete_have K _)
 
   complete_item : {s : Style} (c : Curly s) (f : Front s) (i : Tree.Item s) (K : Stack) → Completion (have_item c f i K)
   complete_item c f i K = after _ (item_shut l c f i here K) (complete_shut c (last_item f i) here K)
 
   complete_count : (u : Measure) (c : Curly (copy u)) (f : Front (copy u)) (v : Value) (k : Span) (K : Stack) → Completion (want_count c f v k K)
-  complete_count byNumber c f v k K = after _ (sound_count l byNumber (Tokens.integer false) c f v k here K) (complete_item c f _ K)
-  complete_count byTruth c f v k K = after _ (sound_count l byTruth (Tokens.boolean true) c f v k here K) (complete_item c f _ K)
+  complete_count by_number c f v k K = after _ (sound_count l by_number (Tokens.integer false) c f v k here K) (complete_item c f _ K)
+  complete_count by_truth c f v k K = after _ (sound_count l by_truth (Tokens.boolean true) c f v k here K) (complete_item c f _ K)
 
   completion : (c : Config) → Completion c
   completion (want K) = complete_want K
@@ -82,9 +82,9 @@ module _ (l : Level) where
   completion (want_curly o h s k K) = after _ (sound_want_curly l Tokens.curly o h s k here K) (complete_want _)
   completion (want_count {u} c f v k K) = complete_count u c f v k K
   completion (have_item c f i K) = complete_item c f i K
-  completion (want_close (two_commas c a b) K) = after _ (sound_closing l Tokens.curlyClose (two_commas c a b) here K) (complete_shut c (Tree.two_commas a b) here K)
-  completion (want_close (headed o h s k b i e) K) = after _ (sound_closing l Tokens.roundClose (headed o h s k b i e) here K) (complete_have K _)
-  completion (want_close (bounded o b) K) = after _ (sound_closing l Tokens.squareClose (bounded o b) here K) (complete_have K _)
+  completion (want_close (two_commas c a b) K) = after _ (sound_closing l Tokens.curly_close (two_commas c a b) here K) (complete_shut c (Tree.two_commas a b) here K)
+  completion (want_close (headed o h s k b i e) K) = after _ (sound_closing l Tokens.round_close (headed o h s k b i e) here K) (complete_have K _)
+  completion (want_close (bounded o b) K) = after _ (sound_closing l Tokens.square_close (bounded o b) here K) (complete_have K _)
 
   -- a text of the level begins with every list of tokens that the machine takes
   pub begins : (ts : List Tok) (c : Config) → runs l ts ≡ some c → Begins l ts
@@ -154,8 +154,8 @@ module _ (l : Level) where
   wants_value ts (wants K) e s = begins (ts ++ (literal s ∷ [])) _ (one_more ts (want K) (literal s) e)
 
   no_count : (u : Measure) (c : Curly (copy u)) (f : Front (copy u)) (v : Value) (k : Span) (K : Stack) (s : Span) → step l (want_count c f v k K) (literal s) ≡ none
-  no_count byNumber c f v k K s = refl
-  no_count byTruth c f v k K s = refl
+  no_count by_number c f v k K s = refl
+  no_count by_truth c f v k K s = refl
 
   pub value_wants : (ts : List Tok) (c : Config) → runs l ts ≡ some c → (s : Span) → ForValue l ts s → Wants c
   value_wants ts (want K) e s b = wants K

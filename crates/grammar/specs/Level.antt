@@ -11,7 +11,7 @@ use Rattle.grammar.specs.Tree.{Plain, Item, Row, Listing, Attributes, Bounds}
 -- the forms that a level may have or lack; both of 01's levels have the arrow `<-`, and by them places are judged even
 -- where it is retired (docs/DECISIONS.md, point 28)
 pub data Feature : Type 0 where
-  arrays sets bags intervals leftArrows : Feature
+  arrays sets bags intervals left_arrows : Feature
 
 abbrev pub Level : Type 0
 Level = Feature → Bool
@@ -22,14 +22,14 @@ level1 arrays = false
 level1 sets = false
 level1 bags = false
 level1 intervals = false
-level1 leftArrows = true
+level1 left_arrows = true
 
 abbrev pub level2 : Level
 level2 arrays = true
 level2 sets = true
 level2 bags = true
 level2 intervals = true
-level2 leftArrows = true
+level2 left_arrows = true
 
 -- a level without the backward arrow: 02, request 6, retires it
 abbrev pub arrowless : Level → Level
@@ -37,7 +37,7 @@ arrowless l arrays = l arrays
 arrowless l sets = l sets
 arrowless l bags = l bags
 arrowless l intervals = l intervals
-arrowless l leftArrows = false
+arrowless l left_arrows = false
 
 infix 40 ◌Within◌
 -- one level's forms are among another's
@@ -68,7 +68,7 @@ module _ (l : Level) where
 
   abbrev pub has_arrow_of : Arrow → Bool
   has_arrow_of rightward = true
-  has_arrow_of leftward = l leftArrows
+  has_arrow_of leftward = l left_arrows
 
   abbrev pub has_joiner : Joiner → Bool
   has_joiner Tree.colon = true

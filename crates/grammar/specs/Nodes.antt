@@ -10,11 +10,11 @@ use Rattle.grammar.specs.Tree.{less_equal, Between, two_dots, star_sign, Style, 
 use Rattle.grammar.specs.Tree.{Attributes, Bounds}
 
 pub data NodeKind : Type 0 where
-  an_ignorance a_boolean an_integer a_fraction a_bits a_blob aText aNesting : NodeKind
-  aPair aTuple aLot anArray aSet aBag anInterval : NodeKind
+  an_ignorance a_boolean an_integer a_fraction a_bits a_blob a_text a_nesting : NodeKind
+  a_pair a_tuple a_lot an_array a_set a_bag an_interval : NodeKind
 
 pub data Role : Type 0 where
-  root this thatAfter thatBefore name value count low high single : Role
+  root this that_after that_before name value count low high single : Role
 
 pub record Node : Type 0 where
   pub kind : NodeKind
@@ -33,21 +33,21 @@ kind_number_of an_integer = 3
 kind_number_of a_fraction = 4
 kind_number_of a_bits = 5
 kind_number_of a_blob = 6
-kind_number_of aText = 7
-kind_number_of aNesting = 8
-kind_number_of aPair = 9
-kind_number_of aTuple = 10
-kind_number_of aLot = 11
-kind_number_of anArray = 12
-kind_number_of aSet = 13
-kind_number_of aBag = 14
-kind_number_of anInterval = 15
+kind_number_of a_text = 7
+kind_number_of a_nesting = 8
+kind_number_of a_pair = 9
+kind_number_of a_tuple = 10
+kind_number_of a_lot = 11
+kind_number_of an_array = 12
+kind_number_of a_set = 13
+kind_number_of a_bag = 14
+kind_number_of an_interval = 15
 
 abbrev pub role_number : Role → ℕ
 role_number root = 0
 role_number this = 1
-role_number thatAfter = 2
-role_number thatBefore = 3
+role_number that_after = 2
+role_number that_before = 3
 role_number name = 4
 role_number value = 5
 role_number count = 6
@@ -148,9 +148,9 @@ bounds_detail (Tree.up_to less k v) = 9
 bounds_detail (Tree.all k) = 10
 
 abbrev pub collection_kind : Collection → NodeKind
-collection_kind Tree.array = anArray
-collection_kind Tree.set = aSet
-collection_kind Tree.bag = aBag
+collection_kind Tree.array = an_array
+collection_kind Tree.set = a_set
+collection_kind Tree.bag = a_bag
 
 -- ---- spans
 
@@ -180,12 +180,12 @@ abbrev pub both : (ℕ → List Node) → (ℕ → List Node) → ℕ → List N
 both f g n = f n ++ g (n + length (f n))
 
 abbrev pub nodes_plain_name : PlainName → ℕ → Role → List Node
-nodes_plain_name (text_name w s) p r = leaf aText s p r (spelling_detail w)
-nodes_plain_name (nesting_name m) p r = leaf aNesting (names_span m) p r 0
+nodes_plain_name (text_name w s) p r = leaf a_text s p r (spelling_detail w)
+nodes_plain_name (nesting_name m) p r = leaf a_nesting (names_span m) p r 0
 
 abbrev pub nodes_name : Name → ℕ → Role → List Node
 nodes_name (plain_name m) p r = nodes_plain_name m p r
-nodes_name (bare_name h s) p r = leaf aText s p r 2
+nodes_name (bare_name h s) p r = leaf a_text s p r 2
 
 abbrev pub nodes_count : {u : Measure} → Count u → ℕ → List Node
 nodes_count (Tree.number s) p = leaf an_integer s p count 0
@@ -201,10 +201,10 @@ alone_role_of (Tree.copy u) = value
 -- `a:b` and `a->b` are this and that, `b<-a` that and this
 abbrev pub left_role_of : Arrow → Role
 left_role_of rightward = this
-left_role_of leftward = thatBefore
+left_role_of leftward = that_before
 
 abbrev pub right_role_of : Arrow → Role
-right_role_of rightward = thatAfter
+right_role_of rightward = that_after
 right_role_of leftward = this
 
 abbrev pub joiner_left : Joiner → Role
@@ -212,31 +212,31 @@ joiner_left Tree.colon = this
 joiner_left (Tree.arrow a) = left_role_of a
 
 abbrev pub joiner_right : Joiner → Role
-joiner_right Tree.colon = thatAfter
+joiner_right Tree.colon = that_after
 joiner_right (Tree.arrow a) = right_role_of a
 
 abbrev mutual
   -- the nodes of a value whose first has index n, parent p and role r
   pub nodes : Value → ℕ → Role → ℕ → List Node
   nodes (Tree.plain v) p r n = nodes_plain v p r n
-  nodes (Tree.bare h s) p r n = leaf aText s p r 2
+  nodes (Tree.bare h s) p r n = leaf a_text s p r 2
 
   pub nodes_plain : Plain → ℕ → Role → ℕ → List Node
   nodes_plain (Tree.literal a s) p r n = leaf (atom_kind a) s p r (atom_detail a)
-  nodes_plain (Tree.text w s) p r n = leaf aText s p r (spelling_detail w)
-  nodes_plain (Tree.nesting m) p r n = leaf aNesting (names_span m) p r 0
+  nodes_plain (Tree.text w s) p r n = leaf a_text s p r (spelling_detail w)
+  nodes_plain (Tree.nesting m) p r n = leaf a_nesting (names_span m) p r 0
   nodes_plain (Tree.group o v c) p r n = nodes v p r n
   nodes_plain (Tree.pair o a k b c) p r n =
-      branch aPair (over o c) p r 0 (both (λ i. nodes_plain a n this i) (λ i. nodes b n thatAfter i) (n + 1))
+      branch a_pair (over o c) p r 0 (both (λ i. nodes_plain a n this i) (λ i. nodes b n that_after i) (n + 1))
   nodes_plain (Tree.arrowed o a j k b c) p r n =
-      branch aPair (over o c) p r 0
+      branch a_pair (over o c) p r 0
       (both (λ i. nodes a n (left_role_of j) i) (λ i. nodes b n (right_role_of j) i) (n + 1))
-  nodes_plain (Tree.tuple o i c) p r n = branch aTuple (over o c) p r 0 (nodes_attributes i n (n + 1))
-  nodes_plain (Tree.lot o i c) p r n = branch aLot (over o c) p r 0 (nodes_listing i n (n + 1))
+  nodes_plain (Tree.tuple o i c) p r n = branch a_tuple (over o c) p r 0 (nodes_attributes i n (n + 1))
+  nodes_plain (Tree.lot o i c) p r n = branch a_lot (over o c) p r 0 (nodes_listing i n (n + 1))
   nodes_plain (Tree.counted o h s k b i e c) p r n =
       branch (collection_kind h) (over o c) p r 0 (nodes_listing i n (n + 1))
   nodes_plain (Tree.interval o b c) p r n =
-      branch anInterval (over o c) p r (bounds_detail b) (nodes_bounds b n (n + 1))
+      branch an_interval (over o c) p r (bounds_detail b) (nodes_bounds b n (n + 1))
 
   -- the nodes of what stands between commas, under the parent p
   pub nodes_item : {s : Style} → Item s → ℕ → ℕ → List Node

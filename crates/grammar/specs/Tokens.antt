@@ -37,7 +37,7 @@ pub data Wording : Type 0 where
 
 -- the signs that begin no value
 pub data Mark : Type 0 where
-  roundClose curlyClose squareClose comma colon rightArrow leftArrow dots : Mark
+  round_close curly_close square_close comma colon right_arrow left_arrow dots : Mark
   star : Bound → Bound → Mark
 
 -- the classes: those that may begin a value, the other signs, and the one that is never of a level
@@ -66,14 +66,14 @@ wording CodePoint = spelled code_point_of
 
 abbrev pub class_sign : Sign → Class
 class_sign RoundOpen = round
-class_sign RoundClose = mark roundClose
+class_sign RoundClose = mark round_close
 class_sign CurlyOpen = curly
-class_sign CurlyClose = mark curlyClose
+class_sign CurlyClose = mark curly_close
 class_sign SquareOpen = square
-class_sign SquareClose = mark squareClose
+class_sign SquareClose = mark square_close
 class_sign Comma = mark comma
-class_sign ArrowRight = mark rightArrow
-class_sign ArrowLeft = mark leftArrow
+class_sign ArrowRight = mark right_arrow
+class_sign ArrowLeft = mark left_arrow
 class_sign Dots = mark dots
 class_sign (Star low high) = mark (star low high)
 

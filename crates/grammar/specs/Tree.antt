@@ -34,16 +34,16 @@ pub data Collection : Type 0 where
 
 -- what a count is
 pub data Measure : Type 0 where
-  byNumber byTruth : Measure
+  by_number by_truth : Measure
 
 abbrev pub counted_by : Collection → Measure
-counted_by array = byNumber
-counted_by set = byTruth
-counted_by bag = byNumber
+counted_by array = by_number
+counted_by set = by_truth
+counted_by bag = by_number
 
 pub data Count : Measure → Type 0 where
-  number : Span → Count byNumber
-  truth : Bool → Span → Count byTruth
+  number : Span → Count by_number
+  truth : Bool → Span → Count by_truth
 
 -- the sides of a star that are not open
 pub data Side : Type 0 where

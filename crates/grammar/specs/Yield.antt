@@ -17,8 +17,8 @@ abbrev pub sign : Mark → Span → List Tok → List Tok
 sign m s r = tok (mark m) s ∷ r
 
 abbrev pub arrow_mark : Arrow → Mark
-arrow_mark rightward = Tokens.rightArrow
-arrow_mark leftward = Tokens.leftArrow
+arrow_mark rightward = Tokens.right_arrow
+arrow_mark leftward = Tokens.left_arrow
 
 abbrev pub joiner_mark : Joiner → Mark
 joiner_mark Tree.colon = Tokens.colon
@@ -63,17 +63,17 @@ abbrev mutual
   yield_plain (Tree.literal a s) r = tok (atom a) s ∷ r
   yield_plain (Tree.text w s) r = tok (text (spelled w)) s ∷ r
   yield_plain (Tree.nesting n) r = yield_names n r
-  yield_plain (Tree.group o v c) r = tok round o ∷ yield_value v (sign Tokens.roundClose c r)
+  yield_plain (Tree.group o v c) r = tok round o ∷ yield_value v (sign Tokens.round_close c r)
   yield_plain (Tree.pair o p k v c) r =
-      tok round o ∷ yield_plain p (sign Tokens.colon k (yield_value v (sign Tokens.roundClose c r)))
+      tok round o ∷ yield_plain p (sign Tokens.colon k (yield_value v (sign Tokens.round_close c r)))
   yield_plain (Tree.arrowed o v a k w c) r =
-      tok round o ∷ yield_value v (sign (arrow_mark a) k (yield_value w (sign Tokens.roundClose c r)))
-  yield_plain (Tree.tuple o l c) r = tok round o ∷ yield_attributes l (sign Tokens.roundClose c r)
-  yield_plain (Tree.lot o l c) r = tok curly o ∷ yield_listing l (sign Tokens.curlyClose c r)
+      tok round o ∷ yield_value v (sign (arrow_mark a) k (yield_value w (sign Tokens.round_close c r)))
+  yield_plain (Tree.tuple o l c) r = tok round o ∷ yield_attributes l (sign Tokens.round_close c r)
+  yield_plain (Tree.lot o l c) r = tok curly o ∷ yield_listing l (sign Tokens.curly_close c r)
   yield_plain (Tree.counted o h s k b l e c) r =
       tok round o ∷ tok (text (head_word (collection_head h))) s ∷
-      sign Tokens.colon k (tok curly b ∷ yield_listing l (sign Tokens.curlyClose e (sign Tokens.roundClose c r)))
-  yield_plain (Tree.interval o b c) r = tok square o ∷ yield_bounds b (sign Tokens.squareClose c r)
+      sign Tokens.colon k (tok curly b ∷ yield_listing l (sign Tokens.curly_close e (sign Tokens.round_close c r)))
+  yield_plain (Tree.interval o b c) r = tok square o ∷ yield_bounds b (sign Tokens.square_close c r)
 
   pub yield_item : {s : Style} → Item s → List Tok → List Tok
   yield_item (Tree.alone v) r = yield_value v r

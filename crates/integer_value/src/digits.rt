@@ -1,8 +1,8 @@
 // The number of a literal's digits, as far as a signed 64-bit integer needs it. The functions with a `requires` are this crate's
 // own: their caller has found the literal.
 ghost use Rattle.std.specs.Prelude.{◌+◌, ◌*◌};
-ghost use Rattle.lexicon.specs.Bytes.{radix as radixOf};
-ghost use Rattle.lexicon.specs.Values.{digit as digitOf};
+ghost use Rattle.lexicon.specs.Bytes.{radix as radix_of};
+ghost use Rattle.lexicon.specs.Values.{digit as digit_of};
 ghost use Rattle.integer_value.specs.Parts.{Counted, Ends, Total};
 
 use lexicon::Base;
@@ -21,7 +21,7 @@ const MOST: u64 = 0x8000_0000_0000_0000;
 
 // A number with one digit more.
 fn longer(size: u64, base: Base, b: u8) -> Size
-    ensures { Counted (size * radixOf base + digitOf b) result }
+    ensures { Counted (size * radix_of base + digit_of b) result }
 {
     let n = radix(digit_set(base)) as u64;
     let d = digit(b);

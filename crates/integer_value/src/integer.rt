@@ -3,7 +3,7 @@
 ghost use Rattle.std.specs.Prelude.{◌≡◌, cond, ◌≤◌, ◌^◌, pos, neg_ℤ};
 ghost use Rattle.rules.specs.Test.{Says};
 ghost use Rattle.reading.specs.Sizes.{base as rules};
-ghost use Rattle.lexicon.specs.Literals.{integer as integerOf};
+ghost use Rattle.lexicon.specs.Literals.{integer as integer_of};
 ghost use Rattle.values.specs.Exactly.{Exactly};
 ghost use Rattle.values.specs.Integer.{refusal, IntegerAnswers};
 ghost use Rattle.integer_value.specs.Parts.{SignedOf, Valued};
@@ -32,7 +32,7 @@ fn refused(number: u32, place: usize) -> IntegerAnswer
 
 // Whether the piece is exactly one Integer literal.
 fn exactly(piece: &[u8]) -> bool
-    ensures { Says result (Exactly integerOf piece.now) }
+    ensures { Says result (Exactly integer_of piece.now) }
 {
     let Found::At(end) = number::integer::integer(piece, 0) else {
         return false;
@@ -80,7 +80,7 @@ fn signed(minus: bool, size: u64, place: usize) -> IntegerAnswer
 
 // The answer for a piece that is a literal.
 fn literal(piece: &[u8]) -> IntegerAnswer
-    requires { Exactly integerOf piece.now }
+    requires { Exactly integer_of piece.now }
     ensures { Valued piece.now result }
 {
     let signs = sign(piece);

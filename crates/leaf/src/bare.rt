@@ -2,7 +2,7 @@
 ghost use Rattle.std.specs.Prelude.{◌≡◌};
 ghost use Rattle.rules.specs.Class.{has};
 ghost use Rattle.buffer.specs.Puts.{Puts};
-ghost use Rattle.form.specs.Bare as Bare;
+ghost use Rattle.form.specs.Bare;
 ghost use Rattle.leaf.specs.Bare.{where_of, kept_bytes};
 
 use buffer::put;

@@ -3,7 +3,7 @@ use mathlib.Core.Path.{◌≡◌, refl, sym, subst}
 use mathlib.Core.Bool.{true, false}
 use Prim.Native.Nat.{ℕ}
 use Rattle.lexicon.specs.declared.Head.{Head}
-use Rattle.grammar.specs.Level.{Feature, Level, has_head, level1, level2, arrays, sets, bags, intervals, leftArrows}
+use Rattle.grammar.specs.Level.{Feature, Level, has_head, level1, level2, arrays, sets, bags, intervals, left_arrows}
 use Rattle.reading.specs.Answers.{LevelOf, first, second}
 use Rattle.moves.specs.declared.Forms.{Forms}
 use Rattle.moves.specs.declared.Style.{Style}
@@ -23,7 +23,7 @@ first_level e = level_same e by first
     by sets = refl
     by bags = refl
     by intervals = refl
-    by leftArrows = refl
+    by left_arrows = refl
 
 pub second_level : {n : ℕ} → n ≡ 2 → LevelOf n (level_of (record { arrays = true; sets = true; bags = true; intervals = true; leftward = true }))
 second_level e = level_same e by second
@@ -33,7 +33,7 @@ second_level e = level_same e by second
     by sets = refl
     by bags = refl
     by intervals = refl
-    by leftArrows = refl
+    by left_arrows = refl
 
 pub collects : (forms : Forms) (h : Head) {r : Collection} {style : Style} → r ≡ Collection.Of style → Collects forms h r →
     Collects forms h (Collection.Of style)

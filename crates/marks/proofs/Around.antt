@@ -16,47 +16,47 @@ use Rattle.marks.specs.ByNumber.{opening_by, closing_by, lead_by, member, counte
 
 -- ---- what opens and closes
 
-pub opens : (k : NodeKind) → kind_number_of Nodes.aPair ≤ kind_number_of k → opening_by (kind_number_of k) ≡ opening k
+pub opens : (k : NodeKind) → kind_number_of Nodes.a_pair ≤ kind_number_of k → opening_by (kind_number_of k) ≡ opening k
 opens Nodes.an_ignorance h = absurd (omega (arith, h))
 opens Nodes.a_boolean h = absurd (omega (arith, h))
 opens Nodes.an_integer h = absurd (omega (arith, h))
 opens Nodes.a_fraction h = absurd (omega (arith, h))
 opens Nodes.a_bits h = absurd (omega (arith, h))
 opens Nodes.a_blob h = absurd (omega (arith, h))
-opens Nodes.aText h = absurd (omega (arith, h))
-opens Nodes.aNesting h = absurd (omega (arith, h))
-opens Nodes.aPair h = refl
-opens Nodes.aTuple h = refl
-opens Nodes.aLot h = refl
-opens Nodes.anArray h = refl
-opens Nodes.aSet h = refl
-opens Nodes.aBag h = refl
-opens Nodes.anInterval h = refl
+opens Nodes.a_text h = absurd (omega (arith, h))
+opens Nodes.a_nesting h = absurd (omega (arith, h))
+opens Nodes.a_pair h = refl
+opens Nodes.a_tuple h = refl
+opens Nodes.a_lot h = refl
+opens Nodes.an_array h = refl
+opens Nodes.a_set h = refl
+opens Nodes.a_bag h = refl
+opens Nodes.an_interval h = refl
 
-pub closes : (k : NodeKind) → kind_number_of Nodes.aPair ≤ kind_number_of k → closing_by (kind_number_of k) ≡ closing k
+pub closes : (k : NodeKind) → kind_number_of Nodes.a_pair ≤ kind_number_of k → closing_by (kind_number_of k) ≡ closing k
 closes Nodes.an_ignorance h = absurd (omega (arith, h))
 closes Nodes.a_boolean h = absurd (omega (arith, h))
 closes Nodes.an_integer h = absurd (omega (arith, h))
 closes Nodes.a_fraction h = absurd (omega (arith, h))
 closes Nodes.a_bits h = absurd (omega (arith, h))
 closes Nodes.a_blob h = absurd (omega (arith, h))
-closes Nodes.aText h = absurd (omega (arith, h))
-closes Nodes.aNesting h = absurd (omega (arith, h))
-closes Nodes.aPair h = refl
-closes Nodes.aTuple h = refl
-closes Nodes.aLot h = refl
-closes Nodes.anArray h = refl
-closes Nodes.aSet h = refl
-closes Nodes.aBag h = refl
-closes Nodes.anInterval h = refl
+closes Nodes.a_text h = absurd (omega (arith, h))
+closes Nodes.a_nesting h = absurd (omega (arith, h))
+closes Nodes.a_pair h = refl
+closes Nodes.a_tuple h = refl
+closes Nodes.a_lot h = refl
+closes Nodes.an_array h = refl
+closes Nodes.a_set h = refl
+closes Nodes.a_bag h = refl
+closes Nodes.an_interval h = refl
 
 -- ---- in front of a child
 
 pub leads : (d before : ℕ) (r : Role) → lead_by d before (role_number r) ≡ lead d before r
 leads d before Nodes.root = refl
 leads d before Nodes.this = refl
-leads d before Nodes.thatAfter = refl
-leads d before Nodes.thatBefore = refl
+leads d before Nodes.that_after = refl
+leads d before Nodes.that_before = refl
 leads d before Nodes.name = refl
 leads d before Nodes.value = refl
 leads d before Nodes.count = refl
@@ -77,7 +77,7 @@ one_behind Attributes.One (more a bs) = false
 one_behind Attributes.More bs = false
 
 -- one child is counted
-pub counts : (done : Attributes) (a : Branch) (bs : Branches) → (role_number (role_of a) ≡ role_number Nodes.thatBefore → ⊥) →
+pub counts : (done : Attributes) (a : Branch) (bs : Branches) → (role_number (role_of a) ≡ role_number Nodes.that_before → ⊥) →
     one_behind done (more a bs) ≡ one_behind (counted_by done (role_number (role_of a))) bs
 counts done a bs n =
     by done bs ∙ ap (λ (x : Attributes). one_behind x bs) (sym (passed_by (role_number (role_of a)) 3 Attributes.More (member done (role_number (role_of a))) n))
@@ -105,7 +105,7 @@ counts done a bs n =
     by Attributes.More bs = refl
 
 -- a that and its this are
-pub counts_two : (done : Attributes) (a b : Branch) (bs : Branches) → role_number (role_of a) ≡ role_number Nodes.thatBefore →
+pub counts_two : (done : Attributes) (a b : Branch) (bs : Branches) → role_number (role_of a) ≡ role_number Nodes.that_before →
     one_behind done (more a (more b bs)) ≡ one_behind (counted_by done (role_number (role_of a))) bs
 counts_two done a b bs e =
     by done bs ∙ ap (λ (x : Attributes). one_behind x bs) (sym (chosen (role_number (role_of a)) 3 Attributes.More (member done (role_number (role_of a))) e))
@@ -134,12 +134,12 @@ tails k d done cs e = by k
     by Nodes.a_fraction = refl
     by Nodes.a_bits = refl
     by Nodes.a_blob = refl
-    by Nodes.aText = refl
-    by Nodes.aNesting = refl
-    by Nodes.aPair = refl
-    by Nodes.aTuple = comma_is done ∙ sym (ap (λ (o : Bool). cond o (codes ",") []) e)
-    by Nodes.aLot = refl
-    by Nodes.anArray = refl
-    by Nodes.aSet = refl
-    by Nodes.aBag = refl
-    by Nodes.anInterval = refl
+    by Nodes.a_text = refl
+    by Nodes.a_nesting = refl
+    by Nodes.a_pair = refl
+    by Nodes.a_tuple = comma_is done ∙ sym (ap (λ (o : Bool). cond o (codes ",") []) e)
+    by Nodes.a_lot = refl
+    by Nodes.an_array = refl
+    by Nodes.a_set = refl
+    by Nodes.a_bag = refl
+    by Nodes.an_interval = refl

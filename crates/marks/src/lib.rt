@@ -3,7 +3,7 @@
 
 ghost use Rattle.std.specs.Prelude.{◌≡◌};
 ghost use Rattle.buffer.specs.Puts.{Puts};
-ghost use Rattle.form.proofs.Walk.{sign_bytes, comma as commaBytes, last_sign_of};
+ghost use Rattle.form.proofs.Walk.{sign_bytes, comma as comma_bytes, last_sign_of};
 ghost use Rattle.marks.specs.ByNumber.{opening_by, closing_by, lead_by, counted_by, last_comma_of, tail_by};
 
 use buffer::{copy, put};
@@ -87,7 +87,7 @@ fn sign(detail: u32, buffer: &mut [u8], at: usize) -> usize
 
 // In front of a further member, `before` being the role of the child in front, or no child's.
 fn comma(before: u32, buffer: &mut [u8], at: usize) -> usize
-    ensures { Puts buffer.old at (commaBytes before) buffer.new result }
+    ensures { Puts buffer.old at (comma_bytes before) buffer.new result }
 {
     if before == ROOT {
         return at;

@@ -34,8 +34,8 @@ module _ (forms : Forms) where
   does_behind_sign (in_round f) v Sign.SquareOpen s K = wrong (level_of forms) _ _ s (λ e. e) refl
   does_behind_sign (in_round f) v Sign.SquareClose s K = wrong (level_of forms) _ _ s (λ e. e) refl
   does_behind_sign (in_round f) v Sign.Comma s K = does_comma_round (level_of forms) f v s K
-  does_behind_sign (in_round f) v Sign.ArrowRight s K = does_arrow_round forms Tokens.rightArrow refl Tree.rightward f v s K refl
-  does_behind_sign (in_round f) v Sign.ArrowLeft s K = does_arrow_round forms Tokens.leftArrow refl Tree.leftward f v s K refl
+  does_behind_sign (in_round f) v Sign.ArrowRight s K = does_arrow_round forms Tokens.right_arrow refl Tree.rightward f v s K refl
+  does_behind_sign (in_round f) v Sign.ArrowLeft s K = does_arrow_round forms Tokens.left_arrow refl Tree.leftward f v s K refl
   does_behind_sign (in_round f) v Sign.Dots s K = wrong (level_of forms) _ _ s (λ e. e) refl
   does_behind_sign (in_round f) v (Sign.Star a b) s K = wrong (level_of forms) _ _ s (λ e. e) refl
   does_behind_sign (Frame.in_curly f) v Sign.RoundOpen s K = wrong (level_of forms) _ _ s (λ e. e) refl
@@ -45,8 +45,8 @@ module _ (forms : Forms) where
   does_behind_sign (Frame.in_curly f) v Sign.SquareOpen s K = wrong (level_of forms) _ _ s (λ e. e) refl
   does_behind_sign (Frame.in_curly f) v Sign.SquareClose s K = wrong (level_of forms) _ _ s (λ e. e) refl
   does_behind_sign (Frame.in_curly f) v Sign.Comma s K = does_comma_curly (level_of forms) f v s K
-  does_behind_sign (Frame.in_curly f) v Sign.ArrowRight s K = does_arrow_curly forms Tokens.rightArrow refl Tree.rightward f v s K refl
-  does_behind_sign (Frame.in_curly f) v Sign.ArrowLeft s K = does_arrow_curly forms Tokens.leftArrow refl Tree.leftward f v s K refl
+  does_behind_sign (Frame.in_curly f) v Sign.ArrowRight s K = does_arrow_curly forms Tokens.right_arrow refl Tree.rightward f v s K refl
+  does_behind_sign (Frame.in_curly f) v Sign.ArrowLeft s K = does_arrow_curly forms Tokens.left_arrow refl Tree.leftward f v s K refl
   does_behind_sign (Frame.in_curly f) v Sign.Dots s K = wrong (level_of forms) _ _ s (λ e. e) refl
   does_behind_sign (Frame.in_curly f) v (Sign.Star a b) s K = wrong (level_of forms) _ _ s (λ e. e) refl
   does_behind_sign (in_square f) v Sign.RoundOpen s K = wrong (level_of forms) _ _ s (λ e. e) refl

@@ -50,28 +50,28 @@ module _ (l : Level) where
 
   -- ---- the bracket's end
 
-  close_tuple : (o : Span) (f : Lead) (v : Value) (s : Span) (K : Stack) → Takes v (in_round (in_tuple o f)) K Tokens.roundClose s (Move.Close 10 0 Role.Value)
+  close_tuple : (o : Span) (f : Lead) (v : Value) (s : Span) (K : Stack) → Takes v (in_round (in_tuple o f)) K Tokens.round_close s (Move.Close 10 0 Role.Value)
   close_tuple o f v s K =
-      closes l _ Tokens.roundClose s Role.Value (Tree.plain (Tree.tuple o (last_attribute f (Tree.alone v)) s)) Nodes.aTuple 0 refl (any_role _) refl refl
-      λ p q i x. branch Nodes.aTuple (over o s) p q 0 ((last_attribute_lem f (Tree.alone v) i ∙ sym (told_behind (leading f i) v Nodes.value i)) x)
+      closes l _ Tokens.round_close s Role.Value (Tree.plain (Tree.tuple o (last_attribute f (Tree.alone v)) s)) Nodes.a_tuple 0 refl (any_role _) refl refl
+      λ p q i x. branch Nodes.a_tuple (over o s) p q 0 ((last_attribute_lem f (Tree.alone v) i ∙ sym (told_behind (leading f i) v Nodes.value i)) x)
 
-  pub does_close_round : (f : RoundFrame) (v : Value) (s : Span) (K : Stack) → Takes v (in_round f) K Tokens.roundClose s (Model.close_round (round_of f))
+  pub does_close_round : (f : RoundFrame) (v : Value) (s : Span) (K : Stack) → Takes v (in_round f) K Tokens.round_close s (Model.close_round (round_of f))
   does_close_round (opened o) v s K = record { first = o; value = v; stack = K; config_is = refl; class_is = refl }
   does_close_round (pair_colon o p k) v s K =
-      closes l _ Tokens.roundClose s Role.ThatAfter (Tree.plain (Tree.pair o p k v s)) Nodes.aPair 0 refl (any_role _) refl refl
-      λ z q i x. branch Nodes.aPair (over o s) z q 0 (sym (told_behind (nodes_plain p i Nodes.this (i + 1)) v Nodes.thatAfter i) x)
+      closes l _ Tokens.round_close s Role.ThatAfter (Tree.plain (Tree.pair o p k v s)) Nodes.a_pair 0 refl (any_role _) refl refl
+      λ z q i x. branch Nodes.a_pair (over o s) z q 0 (sym (told_behind (nodes_plain p i Nodes.this (i + 1)) v Nodes.that_after i) x)
   does_close_round (pair_arrow o w a k) v s K =
-      closes l _ Tokens.roundClose s (Model.right_role_of (leftward a)) (Tree.plain (Tree.arrowed o w a k v s)) Nodes.aPair 0 refl (any_role _) refl refl
-      λ p q i x. branch Nodes.aPair (over o s) p q 0 ((arrowed_in w a v i ∙ sym (told_behind (nodes w i (Nodes.left_role_of a) (i + 1)) v _ i)) x)
+      closes l _ Tokens.round_close s (Model.right_role_of (leftward a)) (Tree.plain (Tree.arrowed o w a k v s)) Nodes.a_pair 0 refl (any_role _) refl refl
+      λ p q i x. branch Nodes.a_pair (over o s) p q 0 ((arrowed_in w a v i ∙ sym (told_behind (nodes w i (Nodes.left_role_of a) (i + 1)) v _ i)) x)
   does_close_round (in_tuple o (lead_comma b)) v s K = close_tuple o (lead_comma b) v s K
   does_close_round (in_tuple o (lead_row r)) v s K = close_tuple o (lead_row r) v s K
   does_close_round (attribute_name o f n k) v s K =
-      closes l _ Tokens.roundClose s Role.Value (Tree.plain (Tree.tuple o (last_attribute f (Tree.named n k v)) s)) Nodes.aTuple 0 refl (any_role _) refl refl
+      closes l _ Tokens.round_close s Role.Value (Tree.plain (Tree.tuple o (last_attribute f (Tree.named n k v)) s)) Nodes.a_tuple 0 refl (any_role _) refl refl
       λ p q i x.
-      branch Nodes.aTuple (over o s) p q 0
+      branch Nodes.a_tuple (over o s) p q 0
       ((last_attribute_lem f (Tree.named n k v) i ∙ sym (told_second (leading f i) (λ j. nodes_name n i Nodes.name) v Nodes.value i)) x)
 
-  pub does_close_curly : (f : CurlyFrame) (v : Value) (s : Span) (K : Stack) → Takes v (Frame.in_curly f) K Tokens.curlyClose s (Model.close_curly (curly_of f))
+  pub does_close_curly : (f : CurlyFrame) (v : Value) (s : Span) (K : Stack) → Takes v (Frame.in_curly f) K Tokens.curly_close s (Model.close_curly (curly_of f))
   does_close_curly (CurlyFrame.in_curly c f) v s K =
       shuts l c _ s (Model.alone_role_of (style_of c)) (last_item f (Tree.alone v)) (any_role _) refl refl
       λ i. last_listed f (Tree.alone v) i ∙ alone_in c f v i ∙ sym (told_behind (fronted f i) v _ i)
@@ -80,22 +80,22 @@ module _ (l : Level) where
       λ i. last_listed f (Tree.joined w j k v) i ∙ joined_in f w j v i ∙ sym (told_second (fronted f i) (nodes w i (Nodes.joiner_left j)) v _ i)
 
   close_up_to : (o : Span) (a : Side) (k : Span) (v : Value) (s : Span) (K : Stack) →
-      Takes v (in_square (up_to o a k)) K Tokens.squareClose s (Move.Close 15 (up_to_detail a) Role.High)
+      Takes v (in_square (up_to o a k)) K Tokens.square_close s (Move.Close 15 (up_to_detail a) Role.High)
   close_up_to o less k v s K =
-      closes l _ Tokens.squareClose s Role.High (Tree.plain (Tree.interval o (Tree.up_to less k v) s)) Nodes.anInterval 9 refl (any_role _) refl refl
-      λ p q i x. branch Nodes.anInterval (over o s) p q 9 (sym (told_first v Nodes.high i) x)
+      closes l _ Tokens.square_close s Role.High (Tree.plain (Tree.interval o (Tree.up_to less k v) s)) Nodes.an_interval 9 refl (any_role _) refl refl
+      λ p q i x. branch Nodes.an_interval (over o s) p q 9 (sym (told_first v Nodes.high i) x)
   close_up_to o less_equal k v s K =
-      closes l _ Tokens.squareClose s Role.High (Tree.plain (Tree.interval o (Tree.up_to less_equal k v) s)) Nodes.anInterval 8 refl (any_role _) refl refl
-      λ p q i x. branch Nodes.anInterval (over o s) p q 8 (sym (told_first v Nodes.high i) x)
+      closes l _ Tokens.square_close s Role.High (Tree.plain (Tree.interval o (Tree.up_to less_equal k v) s)) Nodes.an_interval 8 refl (any_role _) refl refl
+      λ p q i x. branch Nodes.an_interval (over o s) p q 8 (sym (told_first v Nodes.high i) x)
 
-  pub does_close_square : (f : SquareFrame) (v : Value) (s : Span) (K : Stack) → Takes v (in_square f) K Tokens.squareClose s (Model.close_square (square_of f))
+  pub does_close_square : (f : SquareFrame) (v : Value) (s : Span) (K : Stack) → Takes v (in_square f) K Tokens.square_close s (Model.close_square (square_of f))
   does_close_square (square_opened o) v s K =
-      closes l _ Tokens.squareClose s Role.Single (Tree.plain (Tree.interval o (Tree.single v) s)) Nodes.anInterval 1 refl (any_role _) refl refl
-      λ p q i x. branch Nodes.anInterval (over o s) p q 1 (sym (told_first v Nodes.single i) x)
+      closes l _ Tokens.square_close s Role.Single (Tree.plain (Tree.interval o (Tree.single v) s)) Nodes.an_interval 1 refl (any_role _) refl refl
+      λ p q i x. branch Nodes.an_interval (over o s) p q 1 (sym (told_first v Nodes.single i) x)
   does_close_square (low_and o w b k) v s K =
-      closes l _ Tokens.squareClose s Role.High (Tree.plain (Tree.interval o (Tree.between w b k v) s)) Nodes.anInterval (between_detail b)
+      closes l _ Tokens.square_close s Role.High (Tree.plain (Tree.interval o (Tree.between w b k v) s)) Nodes.an_interval (between_detail b)
       refl (any_role _) refl refl
-      λ p q i x. branch Nodes.anInterval (over o s) p q (between_detail b) (sym (told_behind (nodes w i Nodes.low (i + 1)) v Nodes.high i) x)
+      λ p q i x. branch Nodes.an_interval (over o s) p q (between_detail b) (sym (told_behind (nodes w i Nodes.low (i + 1)) v Nodes.high i) x)
   does_close_square (up_to o a k) v s K = close_up_to o a k v s K
 
   -- ---- a comma

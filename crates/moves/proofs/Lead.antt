@@ -26,27 +26,27 @@ module _ (l : Level) where
   abbrev Takes : Config → Mark → Span → Move → Type 0
   Takes c m s v = Does l c (tok (Tokens.mark m) s) v
 
-  does_empty_round : (f : RoundFrame) (s : Span) (K : Stack) → Takes (want (in_round f ∷ K)) Tokens.roundClose s (Model.empty_round (round_of f))
+  does_empty_round : (f : RoundFrame) (s : Span) (K : Stack) → Takes (want (in_round f ∷ K)) Tokens.round_close s (Model.empty_round (round_of f))
   does_empty_round (opened o) s K =
-      closes l _ Tokens.roundClose s Role.Root (Tree.plain (Tree.tuple o Tree.no_attribute s)) Nodes.aTuple 0 refl (λ e. refl) refl refl λ p q i. refl
-  does_empty_round (pair_colon o p k) s K = wrong_sign l _ Tokens.roundClose s refl
-  does_empty_round (pair_arrow o v a k) s K = wrong_sign l _ Tokens.roundClose s refl
-  does_empty_round (in_tuple o (lead_comma b)) s K = wrong_sign l _ Tokens.roundClose s refl
+      closes l _ Tokens.round_close s Role.Root (Tree.plain (Tree.tuple o Tree.no_attribute s)) Nodes.a_tuple 0 refl (λ e. refl) refl refl λ p q i. refl
+  does_empty_round (pair_colon o p k) s K = wrong_sign l _ Tokens.round_close s refl
+  does_empty_round (pair_arrow o v a k) s K = wrong_sign l _ Tokens.round_close s refl
+  does_empty_round (in_tuple o (lead_comma b)) s K = wrong_sign l _ Tokens.round_close s refl
   does_empty_round (in_tuple o (lead_row r)) s K =
-      closes l _ Tokens.roundClose s Role.Root (Tree.plain (Tree.tuple o (Tree.trailing_comma r) s)) Nodes.aTuple 0 refl (λ e. refl) refl refl
-      λ p q i x. branch Nodes.aTuple (over o s) p q 0 (sym (append-nil (nodes_row r i (i + 1))) x)
-  does_empty_round (attribute_name o f n k) s K = wrong_sign l _ Tokens.roundClose s refl
+      closes l _ Tokens.round_close s Role.Root (Tree.plain (Tree.tuple o (Tree.trailing_comma r) s)) Nodes.a_tuple 0 refl (λ e. refl) refl refl
+      λ p q i x. branch Nodes.a_tuple (over o s) p q 0 (sym (append-nil (nodes_row r i (i + 1))) x)
+  does_empty_round (attribute_name o f n k) s K = wrong_sign l _ Tokens.round_close s refl
 
-  does_empty_curly : (f : CurlyFrame) (s : Span) (K : Stack) → Takes (want (Frame.in_curly f ∷ K)) Tokens.curlyClose s (Model.empty_curly (curly_of f))
+  does_empty_curly : (f : CurlyFrame) (s : Span) (K : Stack) → Takes (want (Frame.in_curly f ∷ K)) Tokens.curly_close s (Model.empty_curly (curly_of f))
   does_empty_curly (CurlyFrame.in_curly c f) s K =
       shuts l c _ s Role.Root (no_further f) (λ e. refl) refl refl λ j. none_listed f j ∙ sym (append-nil (fronted f j))
-  does_empty_curly (member_joined o f v j k) s K = wrong_sign l _ Tokens.curlyClose s refl
+  does_empty_curly (member_joined o f v j k) s K = wrong_sign l _ Tokens.curly_close s refl
 
-  does_empty_square : (f : SquareFrame) (s : Span) (K : Stack) → Takes (want (in_square f ∷ K)) Tokens.squareClose s (Model.empty_square (square_of f))
+  does_empty_square : (f : SquareFrame) (s : Span) (K : Stack) → Takes (want (in_square f ∷ K)) Tokens.square_close s (Model.empty_square (square_of f))
   does_empty_square (square_opened o) s K =
-      closes l _ Tokens.squareClose s Role.Root (Tree.plain (Tree.interval o Tree.empty s)) Nodes.anInterval 0 refl (λ e. refl) refl refl λ p q i. refl
-  does_empty_square (low_and o v b k) s K = wrong_sign l _ Tokens.squareClose s refl
-  does_empty_square (up_to o a k) s K = wrong_sign l _ Tokens.squareClose s refl
+      closes l _ Tokens.square_close s Role.Root (Tree.plain (Tree.interval o Tree.empty s)) Nodes.an_interval 0 refl (λ e. refl) refl refl λ p q i. refl
+  does_empty_square (low_and o v b k) s K = wrong_sign l _ Tokens.square_close s refl
+  does_empty_square (up_to o a k) s K = wrong_sign l _ Tokens.square_close s refl
 
   does_lead_round : (f : RoundFrame) (s : Span) (K : Stack) → Takes (want (in_round f ∷ K)) Tokens.comma s (Model.lead_round (round_of f))
   does_lead_round (opened o) s K = onward l _ Tokens.comma s Role.Root (in_round (in_tuple o (lead_comma s))) refl (λ e. refl) refl refl refl λ i. refl
@@ -87,34 +87,34 @@ module _ (l : Level) where
   does_lead_sign (in_round f) Sign.RoundOpen s K = begins l (in_round f) K Tokens.round s (λ e. e)
   does_lead_sign (in_round f) Sign.RoundClose s K = does_empty_round f s K
   does_lead_sign (in_round f) Sign.CurlyOpen s K = begins l (in_round f) K Tokens.curly s (λ e. e)
-  does_lead_sign (in_round f) Sign.CurlyClose s K = wrong_sign l _ Tokens.curlyClose s refl
+  does_lead_sign (in_round f) Sign.CurlyClose s K = wrong_sign l _ Tokens.curly_close s refl
   does_lead_sign (in_round f) Sign.SquareOpen s K = begins l (in_round f) K Tokens.square s (λ e. e)
-  does_lead_sign (in_round f) Sign.SquareClose s K = wrong_sign l _ Tokens.squareClose s refl
+  does_lead_sign (in_round f) Sign.SquareClose s K = wrong_sign l _ Tokens.square_close s refl
   does_lead_sign (in_round f) Sign.Comma s K = does_lead_round f s K
-  does_lead_sign (in_round f) Sign.ArrowRight s K = wrong_sign l _ Tokens.rightArrow s refl
-  does_lead_sign (in_round f) Sign.ArrowLeft s K = wrong_sign l _ Tokens.leftArrow s refl
+  does_lead_sign (in_round f) Sign.ArrowRight s K = wrong_sign l _ Tokens.right_arrow s refl
+  does_lead_sign (in_round f) Sign.ArrowLeft s K = wrong_sign l _ Tokens.left_arrow s refl
   does_lead_sign (in_round f) Sign.Dots s K = wrong_sign l _ Tokens.dots s refl
   does_lead_sign (in_round f) (Sign.Star a b) s K = wrong_sign l _ (Tokens.star a b) s refl
   does_lead_sign (Frame.in_curly f) Sign.RoundOpen s K = begins l (Frame.in_curly f) K Tokens.round s (λ e. e)
-  does_lead_sign (Frame.in_curly f) Sign.RoundClose s K = wrong_sign l _ Tokens.roundClose s refl
+  does_lead_sign (Frame.in_curly f) Sign.RoundClose s K = wrong_sign l _ Tokens.round_close s refl
   does_lead_sign (Frame.in_curly f) Sign.CurlyOpen s K = begins l (Frame.in_curly f) K Tokens.curly s (λ e. e)
   does_lead_sign (Frame.in_curly f) Sign.CurlyClose s K = does_empty_curly f s K
   does_lead_sign (Frame.in_curly f) Sign.SquareOpen s K = begins l (Frame.in_curly f) K Tokens.square s (λ e. e)
-  does_lead_sign (Frame.in_curly f) Sign.SquareClose s K = wrong_sign l _ Tokens.squareClose s refl
+  does_lead_sign (Frame.in_curly f) Sign.SquareClose s K = wrong_sign l _ Tokens.square_close s refl
   does_lead_sign (Frame.in_curly f) Sign.Comma s K = does_lead_curly f s K
-  does_lead_sign (Frame.in_curly f) Sign.ArrowRight s K = wrong_sign l _ Tokens.rightArrow s refl
-  does_lead_sign (Frame.in_curly f) Sign.ArrowLeft s K = wrong_sign l _ Tokens.leftArrow s refl
+  does_lead_sign (Frame.in_curly f) Sign.ArrowRight s K = wrong_sign l _ Tokens.right_arrow s refl
+  does_lead_sign (Frame.in_curly f) Sign.ArrowLeft s K = wrong_sign l _ Tokens.left_arrow s refl
   does_lead_sign (Frame.in_curly f) Sign.Dots s K = wrong_sign l _ Tokens.dots s refl
   does_lead_sign (Frame.in_curly f) (Sign.Star a b) s K = wrong_sign l _ (Tokens.star a b) s refl
   does_lead_sign (in_square f) Sign.RoundOpen s K = begins l (in_square f) K Tokens.round s (λ e. e)
-  does_lead_sign (in_square f) Sign.RoundClose s K = wrong_sign l _ Tokens.roundClose s refl
+  does_lead_sign (in_square f) Sign.RoundClose s K = wrong_sign l _ Tokens.round_close s refl
   does_lead_sign (in_square f) Sign.CurlyOpen s K = begins l (in_square f) K Tokens.curly s (λ e. e)
-  does_lead_sign (in_square f) Sign.CurlyClose s K = wrong_sign l _ Tokens.curlyClose s refl
+  does_lead_sign (in_square f) Sign.CurlyClose s K = wrong_sign l _ Tokens.curly_close s refl
   does_lead_sign (in_square f) Sign.SquareOpen s K = begins l (in_square f) K Tokens.square s (λ e. e)
   does_lead_sign (in_square f) Sign.SquareClose s K = does_empty_square f s K
   does_lead_sign (in_square f) Sign.Comma s K = wrong_sign l _ Tokens.comma s refl
-  does_lead_sign (in_square f) Sign.ArrowRight s K = wrong_sign l _ Tokens.rightArrow s refl
-  does_lead_sign (in_square f) Sign.ArrowLeft s K = wrong_sign l _ Tokens.leftArrow s refl
+  does_lead_sign (in_square f) Sign.ArrowRight s K = wrong_sign l _ Tokens.right_arrow s refl
+  does_lead_sign (in_square f) Sign.ArrowLeft s K = wrong_sign l _ Tokens.left_arrow s refl
   does_lead_sign (in_square f) Sign.Dots s K = wrong_sign l _ Tokens.dots s refl
   does_lead_sign (in_square f) (Sign.Star a b) s K = does_lead_star f a b s K
 

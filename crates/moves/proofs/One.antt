@@ -292,9 +292,9 @@ module _ (l : Level) (s : Span) where
   no_pair : (o : Span) (p : Plain) (k : Span) (v : Value) (K : Stack) (m : Mark) {to : Config} (r : Role) → flat m ≡ true →
       step l (Frames.have v (Frames.in_round (Frames.pair_colon o p k) ∷ K)) (tok (Tokens.mark m) s) ≡ some to →
       children to 0 ≡ told l (Frames.have v (Frames.in_round (Frames.pair_colon o p k) ∷ K)) (tok (Tokens.mark m) s) r 0 → ⊥
-  no_pair o p k v K Tokens.roundClose r f e g = false≢true f
-  no_pair o p k v K Tokens.curlyClose r f e g = false≢true f
-  no_pair o p k v K Tokens.squareClose r f e g = false≢true f
+  no_pair o p k v K Tokens.round_close r f e g = false≢true f
+  no_pair o p k v K Tokens.curly_close r f e g = false≢true f
+  no_pair o p k v K Tokens.square_close r f e g = false≢true f
   no_pair o (Tree.literal a t) k v K Tokens.comma r f e g = no_step e
   no_pair o (Tree.text w t) k v K Tokens.comma r f e g = omega (arith, ap role_number (ap first_role e ∙ ap (λ (ns : List Node). role_at ns 0) g))
   no_pair o (Tree.nesting n) k v K Tokens.comma r f e g = omega (arith, ap role_number (ap first_role e ∙ ap (λ (ns : List Node). role_at ns 0) g))
@@ -306,8 +306,8 @@ module _ (l : Level) (s : Span) where
   no_pair o (Tree.counted a h t x b i d y) k v K Tokens.comma r f e g = no_step e
   no_pair o (Tree.interval a b d) k v K Tokens.comma r f e g = no_step e
   no_pair o p k v K Tokens.colon r f e g = no_step e
-  no_pair o p k v K Tokens.rightArrow r f e g = no_step e
-  no_pair o p k v K Tokens.leftArrow r f e g = no_step e
+  no_pair o p k v K Tokens.right_arrow r f e g = no_step e
+  no_pair o p k v K Tokens.left_arrow r f e g = no_step e
   no_pair o p k v K Tokens.dots r f e g = no_step e
   no_pair o p k v K (Tokens.star a b) r f e g = no_step e
 
@@ -333,7 +333,7 @@ module _ (l : Level) (s : Span) where
       Closes l c (tok (Tokens.mark m) s) kind detail (told l c (tok (Tokens.mark m) s) r) → opening c ≡ true → held c ≡ true → ⊥
   no_group (Frames.want K) m r f x o h = false≢true h
   no_group (Frames.have v []) m r f x o h = false≢true h
-  no_group (Frames.have v (Frames.in_round (Frames.opened a) ∷ K)) Tokens.roundClose r f x o h =
+  no_group (Frames.have v (Frames.in_round (Frames.opened a) ∷ K)) Tokens.round_close r f x o h =
       omega (
         arith,
         ap (λ (w : Value). length (nodes w 0 Nodes.root 0)) (ap (value_of v) x.steps),
@@ -341,12 +341,12 @@ module _ (l : Level) (s : Span) where
         roled_length (role_of r) (nodes v 0 Nodes.root 1),
         same_size v 0 0 Nodes.root Nodes.root 0 1,
       )
-  no_group (Frames.have v (Frames.in_round (Frames.opened a) ∷ K)) Tokens.curlyClose r f x o h = no_step x.steps
-  no_group (Frames.have v (Frames.in_round (Frames.opened a) ∷ K)) Tokens.squareClose r f x o h = no_step x.steps
+  no_group (Frames.have v (Frames.in_round (Frames.opened a) ∷ K)) Tokens.curly_close r f x o h = no_step x.steps
+  no_group (Frames.have v (Frames.in_round (Frames.opened a) ∷ K)) Tokens.square_close r f x o h = no_step x.steps
   no_group (Frames.have v (Frames.in_round (Frames.opened a) ∷ K)) Tokens.comma r f x o h = false≢true (sym f)
   no_group (Frames.have v (Frames.in_round (Frames.opened a) ∷ K)) Tokens.colon r f x o h = false≢true (sym f)
-  no_group (Frames.have v (Frames.in_round (Frames.opened a) ∷ K)) Tokens.rightArrow r f x o h = false≢true (sym f)
-  no_group (Frames.have v (Frames.in_round (Frames.opened a) ∷ K)) Tokens.leftArrow r f x o h = false≢true (sym f)
+  no_group (Frames.have v (Frames.in_round (Frames.opened a) ∷ K)) Tokens.right_arrow r f x o h = false≢true (sym f)
+  no_group (Frames.have v (Frames.in_round (Frames.opened a) ∷ K)) Tokens.left_arrow r f x o h = false≢true (sym f)
   no_group (Frames.have v (Frames.in_round (Frames.opened a) ∷ K)) Tokens.dots r f x o h = false≢true (sym f)
   no_group (Frames.have v (Frames.in_round (Frames.opened a) ∷ K)) (Tokens.star y z) r f x o h = false≢true (sym f)
   no_group (Frames.have v (Frames.in_round (Frames.pair_colon a p k) ∷ K)) m r f x o h = false≢true o
@@ -386,10 +386,10 @@ module _ (l : Level) (c : Config) (within : inside c ≡ true) (s : Span) where
       ∙ ap (Move.To mode) (role_told c r u))
 
   shut_back : (style : Style) (r : Role) → (held c ≡ false → r ≡ Role.Root) →
-      Leads l c (tok (Tokens.mark Tokens.curlyClose) s) (Mode.Headed style) (told l c (tok (Tokens.mark Tokens.curlyClose) s) r) →
-      Back (Tokens.mark Tokens.curlyClose) (Move.Shut style r)
+      Leads l c (tok (Tokens.mark Tokens.curly_close) s) (Mode.Headed style) (told l c (tok (Tokens.mark Tokens.curly_close) s) r) →
+      Back (Tokens.mark Tokens.curly_close) (Move.Shut style r)
   shut_back style r u x =
-      a_sign Tokens.curlyClose false refl x.steps
+      a_sign Tokens.curly_close false refl x.steps
       (not_value c x.to x.within x.no_value
       ∙ (λ i. Move.Shut (style_at (x.mode_is i)) (role_in c (x.members 0 i)))
       ∙ ap (Move.Shut style) (role_told c r u))
@@ -437,7 +437,7 @@ module _ (l : Level) (c : Config) (within : inside c ≡ true) (s : Span) where
       (close_back g.sign kind detail r g.flat_is u (subst (λ (k' : Class). Closes l c (tok k' s) kind detail (told l c (tok k' s) r)) g.class_is x))
   read_back k Move.Group x =
       subst (λ (k' : Class). Back k' Move.Group) (sym x.class_is)
-      (subst (λ (d : Config). back d (Tokens.mark Tokens.roundClose) (step l d (tok (Tokens.mark Tokens.roundClose) s)) ≡ Move.Group) (sym x.config_is) refl)
+      (subst (λ (d : Config). back d (Tokens.mark Tokens.round_close) (step l d (tok (Tokens.mark Tokens.round_close) s)) ≡ Move.Group) (sym x.config_is) refl)
   read_back k Move.Wrong (e, w) =
       ap (λ (b : Bool). pick b (Move.Value (frame_at (mode_of c))) (after c k (step l c (tok k s)))) (⊎_elim (λ n. not_started c k (unwanted c n)) (λ y. ap (starts c) y.1) w)
       ∙ ap (after c k) e

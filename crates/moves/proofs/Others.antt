@@ -10,7 +10,7 @@ use Rattle.lexicon.specs.declared.Kind.{Kind}
 use Rattle.grammar.specs.Tokens
 use Rattle.grammar.specs.Tokens.{Span, tok, Atom, Wording, class_sign, class_kind}
 use Rattle.grammar.specs.Tree
-use Rattle.grammar.specs.Tree.{Collection, array, set, bag, Measure, byNumber, byTruth, Count, Style, copy, Value, Item, Bounds, Listing}
+use Rattle.grammar.specs.Tree.{Collection, array, set, bag, Measure, by_number, by_truth, Count, Style, copy, Value, Item, Bounds, Listing}
 use Rattle.grammar.specs.Level.{Level}
 use Rattle.grammar.specs.Nodes as Nodes
 use Rattle.grammar.specs.Nodes.{Node, nodes, nodes_count, nodes_item, nodes_listing, nodes_bounds, leaf, branch, over, atom_kind, atom_detail, bounds_detail, kind_number_of, collection_kind}
@@ -111,13 +111,13 @@ module _ (l : Level) where
 
   -- `)` behind a collection's `}`
   close_headed : (o : Span) (h : Collection) (t k b : Span) (i : Listing (copy (Tree.counted_by h))) (e : Span) (K : Stack) (s : Span) →
-      Does l (want_close (headed o h t k b i e) K) (tok (Tokens.mark Tokens.roundClose) s) (Move.Close (kind_number_of (collection_kind h)) 0 Role.Root)
+      Does l (want_close (headed o h t k b i e) K) (tok (Tokens.mark Tokens.round_close) s) (Move.Close (kind_number_of (collection_kind h)) 0 Role.Root)
   close_headed o h t k b i e K s =
-      closes l _ Tokens.roundClose s Role.Root (Tree.plain (Tree.counted o h t k b i e s)) (collection_kind h) 0 refl (λ e. refl) refl refl
+      closes l _ Tokens.round_close s Role.Root (Tree.plain (Tree.counted o h t k b i e s)) (collection_kind h) 0 refl (λ e. refl) refl refl
       λ p q j x. branch (collection_kind h) (over o s) p q 0 (sym (append-nil (nodes_listing i j (j + 1))) x)
 
   does_headed_close : (o : Span) (h : Collection) (t k b : Span) (i : Listing (copy (Tree.counted_by h))) (e : Span) (K : Stack) (s : Span) →
-      Does l (want_close (headed o h t k b i e) K) (tok (Tokens.mark Tokens.roundClose) s) (Move.Close (Model.style_kind (collection_style h)) 0 Role.Root)
+      Does l (want_close (headed o h t k b i e) K) (tok (Tokens.mark Tokens.round_close) s) (Move.Close (Model.style_kind (collection_style h)) 0 Role.Root)
   does_headed_close o array t k b i e K s = close_headed o array t k b i e K s
   does_headed_close o set t k b i e K s = close_headed o set t k b i e K s
   does_headed_close o bag t k b i e K s = close_headed o bag t k b i e K s
@@ -144,8 +144,8 @@ module _ (l : Level) where
   does_bounded_sign o b K s Sign.CurlyClose = wrong l _ _ s (λ e. e) refl
   does_bounded_sign o b K s Sign.SquareOpen = wrong l _ _ s (λ e. e) refl
   does_bounded_sign o b K s Sign.SquareClose =
-      closes l _ Tokens.squareClose s Role.Root (Tree.plain (Tree.interval o b s)) Nodes.anInterval (bounds_detail b) refl (λ e. refl) refl refl
-      λ p q i x. branch Nodes.anInterval (over o s) p q (bounds_detail b) (sym (append-nil (nodes_bounds b i (i + 1))) x)
+      closes l _ Tokens.square_close s Role.Root (Tree.plain (Tree.interval o b s)) Nodes.an_interval (bounds_detail b) refl (λ e. refl) refl refl
+      λ p q i x. branch Nodes.an_interval (over o s) p q (bounds_detail b) (sym (append-nil (nodes_bounds b i (i + 1))) x)
   does_bounded_sign o b K s Sign.Comma = wrong l _ _ s (λ e. e) refl
   does_bounded_sign o b K s Sign.ArrowRight = wrong l _ _ s (λ e. e) refl
   does_bounded_sign o b K s Sign.ArrowLeft = wrong l _ _ s (λ e. e) refl
@@ -195,9 +195,9 @@ module _ (l : Level) where
           ∙ ap (λ (x : List Node). (then ns i h ++ []) ++ x) e
 
   -- no count for any collection
-  no_count : (u : Measure) (a : Atom) (s : Span) → count_of byNumber a s ≡ none → count_of byTruth a s ≡ none → count_of u a s ≡ none
-  no_count byNumber a s d e = d
-  no_count byTruth a s d e = e
+  no_count : (u : Measure) (a : Atom) (s : Span) → count_of by_number a s ≡ none → count_of by_truth a s ≡ none → count_of u a s ≡ none
+  no_count by_number a s d e = d
+  no_count by_truth a s d e = e
 
   wrong_count : {u : Measure} (c : Curly (copy u)) (f : Front (copy u)) (v : Value) (k : Span) (K : Stack) (s : Span) (a : Atom) → count_of u a s ≡ none →
       Does l (want_count c f v k K) (tok (Tokens.atom a) s) Move.Wrong

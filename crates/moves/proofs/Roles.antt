@@ -7,8 +7,8 @@ use Rattle.moves.specs.Means.{role_of}
 abbrev pub code_role : Nodes.Role → Role
 code_role Nodes.root = Role.Root
 code_role Nodes.this = Role.This
-code_role Nodes.thatAfter = Role.ThatAfter
-code_role Nodes.thatBefore = Role.ThatBefore
+code_role Nodes.that_after = Role.ThatAfter
+code_role Nodes.that_before = Role.ThatBefore
 code_role Nodes.name = Role.Name
 code_role Nodes.value = Role.Value
 code_role Nodes.count = Role.Count

@@ -119,12 +119,12 @@ module _ (l : Level) where
       }
 
   -- `}`
-  pub shuts : {y : Style} (b : Frames.Curly y) (c : Config) (s : Span) (r : Role) (i : Listing y) → Unheld l c (tok (Tokens.mark Tokens.curlyClose) s) r →
-      step l c (tok (Tokens.mark Tokens.curlyClose) s) ≡ some (Frames.shut b i s (below c)) → curly_span b ≡ open_of c →
-      ((j : ℕ) → nodes_listing i j (j + 1) ≡ told l c (tok (Tokens.mark Tokens.curlyClose) s) r j) →
-      Does l c (tok (Tokens.mark Tokens.curlyClose) s) (Model.shut (style_of b) r)
+  pub shuts : {y : Style} (b : Frames.Curly y) (c : Config) (s : Span) (r : Role) (i : Listing y) → Unheld l c (tok (Tokens.mark Tokens.curly_close) s) r →
+      step l c (tok (Tokens.mark Tokens.curly_close) s) ≡ some (Frames.shut b i s (below c)) → curly_span b ≡ open_of c →
+      ((j : ℕ) → nodes_listing i j (j + 1) ≡ told l c (tok (Tokens.mark Tokens.curly_close) s) r j) →
+      Does l c (tok (Tokens.mark Tokens.curly_close) s) (Model.shut (style_of b) r)
   shuts (Frames.lot_curly o) c s r i u e a g =
-      closes c Tokens.curlyClose s r (Tree.plain (Tree.lot o i s)) Nodes.aLot 0 refl u refl e λ p q j x. branch Nodes.aLot (over (a x) s) p q 0 (g j x)
+      closes c Tokens.curly_close s r (Tree.plain (Tree.lot o i s)) Nodes.a_lot 0 refl u refl e λ p q j x. branch Nodes.a_lot (over (a x) s) p q 0 (g j x)
   shuts (Frames.counted_curly o Tree.array t k b) c s r i u e a g = (refl, u, closing c _ (Frames.headed o Tree.array t k b i s) _ e a g)
   shuts (Frames.counted_curly o Tree.set t k b) c s r i u e a g = (refl, u, closing c _ (Frames.headed o Tree.set t k b i s) _ e a g)
   shuts (Frames.counted_curly o Tree.bag t k b) c s r i u e a g = (refl, u, closing c _ (Frames.headed o Tree.bag t k b i s) _ e a g)

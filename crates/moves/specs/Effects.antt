@@ -26,13 +26,13 @@ use Rattle.moves.specs.Means.{open_of, below, before, last, children, roled}
 
 -- signs that neither open nor close a bracket
 abbrev pub flat : Mark → Bool
-flat Tokens.roundClose = false
-flat Tokens.curlyClose = false
-flat Tokens.squareClose = false
+flat Tokens.round_close = false
+flat Tokens.curly_close = false
+flat Tokens.square_close = false
 flat Tokens.comma = true
 flat Tokens.colon = true
-flat Tokens.rightArrow = true
-flat Tokens.leftArrow = true
+flat Tokens.right_arrow = true
+flat Tokens.left_arrow = true
 flat Tokens.dots = true
 flat (Tokens.star a b) = true
 
@@ -172,7 +172,7 @@ module _ (l : Level) (c : Config) (t : Tok) where
     pub value : Value
     pub stack : Stack
     pub config_is : c ≡ Frames.have value (Frames.in_round (Frames.opened first) ∷ stack)
-    pub class_is : t.class ≡ Tokens.mark Tokens.roundClose
+    pub class_is : t.class ≡ Tokens.mark Tokens.round_close
 
   -- the role of the last value becomes known
   abbrev pub told : Role → ℕ → List Node
@@ -189,7 +189,7 @@ module _ (l : Level) (c : Config) (t : Tok) where
       (t.class ≡ Tokens.curly)
       × Leads (Mode.Want (Frame.Curly (Curly.Members style Front.Start))) (λ i. children c i)
   Does (Move.Shut style role) =
-      (t.class ≡ Tokens.mark Tokens.curlyClose) × Unheld role × Leads (Mode.Headed style) (told role)
+      (t.class ≡ Tokens.mark Tokens.curly_close) × Unheld role × Leads (Mode.Headed style) (told role)
   Does (Move.Close kind detail role) = Signed false t.class × Unheld role × Closes kind detail (told role)
   Does Move.Group = Groups
   Does Move.Wrong =

@@ -34,13 +34,13 @@ level_of f Level.arrays = f.arrays
 level_of f Level.sets = f.sets
 level_of f Level.bags = f.bags
 level_of f Level.intervals = f.intervals
-level_of f Level.leftArrows = f.leftward
+level_of f Level.left_arrows = f.leftward
 
 abbrev pub role_of : Role → Nodes.Role
 role_of Role.Root = Nodes.root
 role_of Role.This = Nodes.this
-role_of Role.ThatAfter = Nodes.thatAfter
-role_of Role.ThatBefore = Nodes.thatBefore
+role_of Role.ThatAfter = Nodes.that_after
+role_of Role.ThatBefore = Nodes.that_before
 role_of Role.Name = Nodes.name
 role_of Role.Value = Nodes.value
 role_of Role.Count = Nodes.count
@@ -67,7 +67,7 @@ items_of Style.Bag = Tree.copy (Tree.counted_by Tree.bag)
 
 -- the node of the whole
 abbrev pub kind_of : Style → NodeKind
-kind_of Style.Lot = Nodes.aLot
+kind_of Style.Lot = Nodes.a_lot
 kind_of Style.Array = collection_kind Tree.array
 kind_of Style.Set = collection_kind Tree.set
 kind_of Style.Bag = collection_kind Tree.bag

@@ -21,7 +21,7 @@ pub record Moves (forms : Forms) (mode : Mode) (kind : Kind) (move : Move) : Typ
 
 -- the move of `}`, which ends a Lot's bracket; that of a counted collection ends with the `)` behind it
 abbrev pub shut : Style → Role → Move
-shut Style.Lot role = Move.Close (Nodes.kind_number_of Nodes.aLot) 0 role
+shut Style.Lot role = Move.Close (Nodes.kind_number_of Nodes.a_lot) 0 role
 shut Style.Array role = Move.Shut Style.Array role
 shut Style.Set role = Move.Shut Style.Set role
 shut Style.Bag role = Move.Shut Style.Bag role

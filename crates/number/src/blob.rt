@@ -4,7 +4,7 @@ ghost use Rattle.std.specs.Prelude.{[], ◌∷◌, ◌+◌, ◌≤◌, length};
 ghost use Rattle.rules.specs.Test.{Says};
 ghost use Rattle.rules.specs.Rule.{Takes, row};
 ghost use Rattle.lexicon.specs.Found.{Finds, Judges};
-ghost use Rattle.lexicon.specs.Literals.{bits as bits_of, blob as blobOf};
+ghost use Rattle.lexicon.specs.Literals.{bits as bits_of, blob as blob_of};
 ghost use Rattle.lexicon.specs.Bad.{NoBytes};
 ghost use Rattle.number.specs.Groups.{OfDigits};
 ghost use Rattle.number.specs.Blob.{TailOf};
@@ -68,7 +68,7 @@ pub fn bits(text: &[u8], at: usize) -> Found
 
 // The Blob literal at a place; one that has no bytes is bad, which only one in base 64 can be.
 pub fn blob(text: &[u8], at: usize) -> Literal
-    ensures { Judges text.now blobOf (NoBytes text.now) at result }
+    ensures { Judges text.now blob_of (NoBytes text.now) at result }
 {
     if marked(text, at, b'x', b'b') {
         let found = tail_at(text, at + 3, Set::Binary, 8);

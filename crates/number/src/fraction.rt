@@ -3,7 +3,7 @@
 ghost use Rattle.std.specs.Prelude.{◌≤◌, length};
 ghost use Rattle.rules.specs.Rule.{◌then◌};
 ghost use Rattle.lexicon.specs.Found.{Finds, Judges};
-ghost use Rattle.lexicon.specs.Literals.{integer as integerOf, spaced, power as powerOf};
+ghost use Rattle.lexicon.specs.Literals.{integer as integer_of, spaced, power as power_of};
 ghost use Rattle.lexicon.specs.Parts.{SmallPower};
 ghost use Rattle.number.specs.Fraction.{Pointed, Divided, Behind, NumeralAt};
 
@@ -68,7 +68,7 @@ fn behind(text: &[u8], end: usize, base: Base) -> Literal
 // The radix and the exponent of a power: `^` and an Integer behind the number.
 fn exponent(text: &[u8], at: usize) -> Found
     requires { at ≤ length text.now }
-    ensures { Finds text.now (spaced "^" then integerOf) at result }
+    ensures { Finds text.now (spaced "^" then integer_of) at result }
 {
     let sign = space(text, at);
     if !stands(text, sign, b'^') {
@@ -81,7 +81,7 @@ fn exponent(text: &[u8], at: usize) -> Found
 // The power behind a significand; one with a radix below 2 is bad.
 fn power(text: &[u8], at: usize) -> Literal
     requires { at ≤ length text.now }
-    ensures { Judges text.now powerOf (SmallPower text.now) at result }
+    ensures { Judges text.now power_of (SmallPower text.now) at result }
 {
     let sign = space(text, at);
     if !stands(text, sign, b'*') {

@@ -2,7 +2,7 @@
 // A function with a `requires` is this crate's own: its place is within the text by its caller's search, so that sums of places fit.
 ghost use Rattle.std.specs.Prelude.{◌≤◌, length};
 ghost use Rattle.lexicon.specs.Found.{Finds};
-ghost use Rattle.lexicon.specs.Literals.{integer as integerOf};
+ghost use Rattle.lexicon.specs.Literals.{integer as integer_of};
 ghost use Rattle.lexicon.specs.Parts.{Start};
 ghost use Rattle.number.specs.Number.{Marks, OfBase, MarkedNumber, Numbered};
 
@@ -93,7 +93,7 @@ pub(crate) fn start(text: &[u8], at: usize) -> usize
 
 // The Integer at a place.
 pub fn integer(text: &[u8], at: usize) -> Found
-    ensures { Finds text.now integerOf at result }
+    ensures { Finds text.now integer_of at result }
 {
     if at > text.len() {
         return Found::Nothing;

@@ -2,7 +2,7 @@
 // character, whose bits the `=` leave over. `padding_run` is this crate's own, and its caller has found the run.
 ghost use Rattle.std.specs.Prelude.{◌≡◌, ◌+◌, ◌≤◌, length};
 ghost use Rattle.lexicon.specs.Values.{read};
-ghost use Rattle.lexicon.proofs.Paddings.{next_state_of as nextStateOf, opened as opened_of, pad as padOf, run};
+ghost use Rattle.lexicon.proofs.Paddings.{next_state_of, opened as opened_of, pad as pad_of, run};
 
 use text::digit::sextet;
 
@@ -36,7 +36,7 @@ fn opened(value: u32) -> u32
 
 // The state behind a `=` more; at the start it is as behind a character of value 0.
 fn pad(state: u32) -> u32
-    ensures { result ≡ padOf state }
+    ensures { result ≡ pad_of state }
 {
     if state >= CHARACTER {
         return opened(sextet(state - CHARACTER));
@@ -50,7 +50,7 @@ fn pad(state: u32) -> u32
 
 // The state behind a character more.
 fn next_state(state: u32, b: u8) -> u32
-    ensures { result ≡ nextStateOf state b }
+    ensures { result ≡ next_state_of state b }
 {
     if b == b'=' {
         return pad(state);

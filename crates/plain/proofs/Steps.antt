@@ -20,22 +20,22 @@ use Rattle.plain.specs.Nodes as Spec
 use Rattle.plain.proofs.Tables.{some_node, role_word_lem, from_first, from_rest}
 
 -- a role is told by its number
-that_before : (r : Role) → role_number r ≡ role_number Nodes.thatBefore → r ≡ Nodes.thatBefore
-that_before Nodes.root e = absurd (omega (arith, e))
-that_before Nodes.this e = absurd (omega (arith, e))
-that_before Nodes.thatAfter e = absurd (omega (arith, e))
-that_before Nodes.thatBefore e = refl
-that_before Nodes.name e = absurd (omega (arith, e))
-that_before Nodes.value e = absurd (omega (arith, e))
-that_before Nodes.count e = absurd (omega (arith, e))
-that_before Nodes.low e = absurd (omega (arith, e))
-that_before Nodes.high e = absurd (omega (arith, e))
-that_before Nodes.single e = absurd (omega (arith, e))
+that_before_lem : (r : Role) → role_number r ≡ role_number Nodes.that_before → r ≡ Nodes.that_before
+that_before_lem Nodes.root e = absurd (omega (arith, e))
+that_before_lem Nodes.this e = absurd (omega (arith, e))
+that_before_lem Nodes.that_after e = absurd (omega (arith, e))
+that_before_lem Nodes.that_before e = refl
+that_before_lem Nodes.name e = absurd (omega (arith, e))
+that_before_lem Nodes.value e = absurd (omega (arith, e))
+that_before_lem Nodes.count e = absurd (omega (arith, e))
+that_before_lem Nodes.low e = absurd (omega (arith, e))
+that_before_lem Nodes.high e = absurd (omega (arith, e))
+that_before_lem Nodes.single e = absurd (omega (arith, e))
 
 -- ---- the index behind a child
 
 -- a that before its this
-pub behind_this : {words : List ℕ} {role then r : ℕ} → role ≡ role_number Nodes.thatBefore → Past words then r → Behind words role then r
+pub behind_this : {words : List ℕ} {role then r : ℕ} → role ≡ role_number Nodes.that_before → Past words then r → Behind words role then r
 behind_this that p =
     record {
       alone = λ other. absurd (other that);
@@ -43,7 +43,7 @@ behind_this that p =
       not_before = p.not_before;
     }
 
-pub behind_alone : {words : List ℕ} {role then : ℕ} → (role ≡ role_number Nodes.thatBefore → ⊥) → Behind words role then then
+pub behind_alone : {words : List ℕ} {role then : ℕ} → (role ≡ role_number Nodes.that_before → ⊥) → Behind words role then then
 behind_alone other =
     record {
       alone = λ e. refl;
@@ -101,17 +101,17 @@ module _ (text words : List ℕ) (detail stop : ℕ) where
         go (more a cs) done left p f (child other walked l) e s q c =
             let y = from_first a cs p f in
             let h = role_is ∙ role_word_lem a p y in
-            let alone : held ≡ role_number Nodes.thatBefore → ⊥ = λ z. other (that_before (role_of a) (sym h ∙ z)) in
+            let alone : held ≡ role_number Nodes.that_before → ⊥ = λ z. other (that_before_lem (role_of a) (sym h ∙ z)) in
             let after = i + length (flat a p i) in
             let ends = past.is a p y in
             on (role_of a) p h (Spec.alone alone (record { b = a; parent = p; stands = y; walked = walked })) (behind.alone alone ∙ ends)
             (from_rest a cs p f) (omega (arith, s, length-append (flat a p i) (flats cs p after))) l e q
-            (c ∙ counts count a cs (λ z. other (that_before (role_of a) z)))
+            (c ∙ counts count a cs (λ z. other (that_before_lem (role_of a) z)))
         go (more a (more b cs)) done left p f (turned that wa wb l) e s q c =
             let y = from_first a (more b cs) p f in
             let g = from_rest a (more b cs) p f in
             let h = role_is ∙ role_word_lem a p y in
-            let turned : held ≡ role_number Nodes.thatBefore = h ∙ ap role_number that in
+            let turned : held ≡ role_number Nodes.that_before = h ∙ ap role_number that in
             let this = i + length (flat a p i) in
             let after = this + length (flat b p this) in
             let ends : then ≡ this = past.is a p y in

@@ -23,7 +23,7 @@ use Rattle.plain.specs.Nodes.{Tells, Children, Stands, Past, NodeBytes, ChildByt
 use Rattle.plain.proofs.Tables.{some_node, has_fits, has_rest, kind_word_lem, first_word, end_word_lem, detail_word_lem}
 use Rattle.plain.proofs.Steps.{Going, going_ends}
 
-leaf_kind_lem : {text : List ℕ} {k : NodeKind} {d : ℕ} {s : Span} {bs : List ℕ} → Leaf text k d s bs → kind_number_of k < kind_number_of Nodes.aPair
+leaf_kind_lem : {text : List ℕ} {k : NodeKind} {d : ℕ} {s : Span} {bs : List ℕ} → Leaf text k d s bs → kind_number_of k < kind_number_of Nodes.a_pair
 leaf_kind_lem Walk.ignorance = omega arith
 leaf_kind_lem Walk.boolean = omega arith
 leaf_kind_lem Walk.integer = omega arith
@@ -43,7 +43,7 @@ module _ {text words : List ℕ} {index : ℕ} where
   pub no_node : {t : List ℕ} {at n : ℕ} → n ≡ length words / node_words → n ≤ index → Wrote (NodeBytes text words index) t at t at
   no_node e h = wrote_none (λ bs x. absurd (omega (arith, e, h, some_node x.b x.parent index, has_fits x.stands)))
 
-  pub leaf_written : {node : Told} {t u : List ℕ} {at n : ℕ} → Tells words index node → node.kind < kind_number_of Nodes.aPair →
+  pub leaf_written : {node : Told} {t u : List ℕ} {at n : ℕ} → Tells words index node → node.kind < kind_number_of Nodes.a_pair →
       Wrote (LeafBytes text node) t at u n → Wrote (NodeBytes text words index) t at u n
   leaf_written {node} {t} {u} {at} {n} told low w =
       record { puts = λ bs x. go x.b bs x.parent x.stands x.walked; same_length = w.same_length }
@@ -64,7 +64,7 @@ module _ {text words : List ℕ} {index : ℕ} where
       go b bs p x (Walk.bracket high l) = absurd (omega (arith, low, high, told.kind_is, kind_word_lem x))
 
   pub bracket_written : {node : Told} {t u v w z : List ℕ} {at n m o q before i stop : ℕ} {count : Attributes} → Tells words index node →
-      kind_number_of Nodes.aPair ≤ node.kind → Past words index stop → Puts t at (opening_by node.kind) u n →
+      kind_number_of Nodes.a_pair ≤ node.kind → Past words index stop → Puts t at (opening_by node.kind) u n →
       Going text words node.detail stop (index + 1) u n v m before count i → stop ≤ i →
       Puts v m (tail_by node.kind node.detail count) w o → Puts w o (closing_by node.kind) z q →
       Wrote (NodeBytes text words index) t at z q
@@ -91,7 +91,7 @@ module _ {text words : List ℕ} {index : ℕ} where
 -- ---- a child
 
 module _ {text words : List ℕ} {role index : ℕ} where
-  pub child_alone : {t u : List ℕ} {at n : ℕ} → (role ≡ role_number Nodes.thatBefore → ⊥) →
+  pub child_alone : {t u : List ℕ} {at n : ℕ} → (role ≡ role_number Nodes.that_before → ⊥) →
       Wrote (NodeBytes text words index) t at u n → Wrote (ChildBytes text words role index) t at u n
   child_alone {t} {u} {at} {n} other w = record { puts = λ bs x. go x; same_length = w.same_length }
     where
@@ -99,7 +99,7 @@ module _ {text words : List ℕ} {role index : ℕ} where
       go (alone {bs} o x) = w.puts bs x
       go (turned that a b) = absurd (other that)
 
-  pub child_turned : {t u v w : List ℕ} {at n m o then : ℕ} → role ≡ role_number Nodes.thatBefore → Past words index then →
+  pub child_turned : {t u v w : List ℕ} {at n m o then : ℕ} → role ≡ role_number Nodes.that_before → Past words index then →
       Wrote (NodeBytes text words then) t at u n → Puts u n (58 ∷ []) v m → Wrote (NodeBytes text words index) v m w o →
       Wrote (ChildBytes text words role index) t at w o
   child_turned {t} {u} {v} {w} {at} {n} {m} {o} that past this colon last =

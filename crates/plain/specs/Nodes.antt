@@ -60,12 +60,12 @@ module _ (text words : List ℕ) where
 
   -- of a child by the number of its role: a that before its this, which stands just behind it, is written behind it
   pub data ChildBytes (role index : ℕ) : List ℕ → Type 0 where
-    alone : {bs : List ℕ} → (role ≡ role_number Nodes.thatBefore → ⊥) → NodeBytes index bs → ChildBytes role index bs
-    turned : {m n : List ℕ} → role ≡ role_number Nodes.thatBefore → (that : NodeBytes index m) →
+    alone : {bs : List ℕ} → (role ≡ role_number Nodes.that_before → ⊥) → NodeBytes index bs → ChildBytes role index bs
+    turned : {m n : List ℕ} → role ≡ role_number Nodes.that_before → (that : NodeBytes index m) →
         NodeBytes (index + length (flat that.b that.parent index)) n → ChildBytes role index (n ++ codes ":" ++ m)
 
 -- the index behind a child that ends at then: where it is a that before its this, behind the this too
 pub record Behind (words : List ℕ) (role then r : ℕ) : Type 0 where
-  pub alone : (role ≡ role_number Nodes.thatBefore → ⊥) → r ≡ then
-  pub turned : role ≡ role_number Nodes.thatBefore → Past words then r
+  pub alone : (role ≡ role_number Nodes.that_before → ⊥) → r ≡ then
+  pub turned : role ≡ role_number Nodes.that_before → Past words then r
   pub not_before : then ≤ r

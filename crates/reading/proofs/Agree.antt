@@ -17,7 +17,7 @@ use Rattle.lexicon.proofs.Determined.{formed_or_bad}
 use Rattle.grammar.specs.Tokens.{Tok}
 use Rattle.grammar.specs.Tree.{Value}
 use Rattle.grammar.specs.Yield.{yield_value}
-use Rattle.grammar.specs.Level.{Level, level1, level2, leftArrows, keeps, ◌Within◌}
+use Rattle.grammar.specs.Level.{Level, level1, level2, left_arrows, keeps, ◌Within◌}
 use Rattle.grammar.specs.Place.{Newer}
 use Rattle.grammar.proofs.OneTree.{one_tree}
 use Rattle.grammar.proofs.Levels.{Known, sentence_alike, sentence_alike_back, wrong_alike, newer_below, one_within_two}
@@ -35,7 +35,7 @@ use Rattle.reading.proofs.Placed.{placed_first, at_first, no_test_holds}
 use Rattle.reading.proofs.First.{follows, start, went, fault_later, fault_there}
 use Rattle.reading.proofs.Unique.{one_level, one_answer}
 
-module _ (bytes : List ℕ) (limits : Limits) (a b : Level) (within : a Within b) (arrows : a leftArrows ≡ b leftArrows) where
+module _ (bytes : List ℕ) (limits : Limits) (a b : Level) (within : a Within b) (arrows : a left_arrows ≡ b left_arrows) where
   -- ---- tokens that pass at the lower level hold none of its newer forms
 
   known : {s p : ℕ} {ts : List Tok} → Follow bytes s ts p →
@@ -194,7 +194,7 @@ module _ (bytes : List ℕ) (limits : Limits) (a b : Level) (within : a Within b
 
 -- ---- the answers
 
-module _ (bytes : List ℕ) (rules : Rules) (a b : Level) (within : a Within b) (arrows : a leftArrows ≡ b leftArrows) where
+module _ (bytes : List ℕ) (rules : Rules) (a b : Level) (within : a Within b) (arrows : a left_arrows ≡ b left_arrows) where
   module _ {n m : ℕ} (low : LevelOf n a) (high : LevelOf m b) where
     -- an answer other than 7 is the higher level's too
     answer_too : {room : ℕ} {r : Answer} {t : Option Value} → Reading rules bytes room n r t → (r.number ≡ 7 → ⊥) → Reading rules bytes room m r t

@@ -59,13 +59,13 @@ opens later = false
 
 -- the class tells the kind
 abbrev kind_mark : Mark → Kind
-kind_mark Tokens.roundClose = Kind.Symbol Sign.RoundClose
-kind_mark Tokens.curlyClose = Kind.Symbol Sign.CurlyClose
-kind_mark Tokens.squareClose = Kind.Symbol Sign.SquareClose
+kind_mark Tokens.round_close = Kind.Symbol Sign.RoundClose
+kind_mark Tokens.curly_close = Kind.Symbol Sign.CurlyClose
+kind_mark Tokens.square_close = Kind.Symbol Sign.SquareClose
 kind_mark Tokens.comma = Kind.Symbol Sign.Comma
 kind_mark Tokens.colon = Kind.Colon
-kind_mark Tokens.rightArrow = Kind.Symbol Sign.ArrowRight
-kind_mark Tokens.leftArrow = Kind.Symbol Sign.ArrowLeft
+kind_mark Tokens.right_arrow = Kind.Symbol Sign.ArrowRight
+kind_mark Tokens.left_arrow = Kind.Symbol Sign.ArrowLeft
 kind_mark Tokens.dots = Kind.Symbol Sign.Dots
 kind_mark (Tokens.star a b) = Kind.Symbol (Sign.Star a b)
 
@@ -152,13 +152,13 @@ bad_kind bytes Kind.TwoColons i j b = absurd b
 
 -- a sign is no such value
 mark_good : (m : Mark) → may_be_bad (kind_mark m) ≡ false
-mark_good Tokens.roundClose = refl
-mark_good Tokens.curlyClose = refl
-mark_good Tokens.squareClose = refl
+mark_good Tokens.round_close = refl
+mark_good Tokens.curly_close = refl
+mark_good Tokens.square_close = refl
 mark_good Tokens.comma = refl
 mark_good Tokens.colon = refl
-mark_good Tokens.rightArrow = refl
-mark_good Tokens.leftArrow = refl
+mark_good Tokens.right_arrow = refl
+mark_good Tokens.left_arrow = refl
 mark_good Tokens.dots = refl
 mark_good (Tokens.star a b) = refl
 
@@ -185,13 +185,13 @@ pred_less : (n : ℕ) → pred n ≤ n
 pred_less n = omega arith
 
 mark_less : (m : Mark) (n : ℕ) → open_mark m n ≤ n
-mark_less Tokens.roundClose n = pred_less n
-mark_less Tokens.curlyClose n = pred_less n
-mark_less Tokens.squareClose n = pred_less n
+mark_less Tokens.round_close n = pred_less n
+mark_less Tokens.curly_close n = pred_less n
+mark_less Tokens.square_close n = pred_less n
 mark_less Tokens.comma n = same_less n
 mark_less Tokens.colon n = same_less n
-mark_less Tokens.rightArrow n = same_less n
-mark_less Tokens.leftArrow n = same_less n
+mark_less Tokens.right_arrow n = same_less n
+mark_less Tokens.left_arrow n = same_less n
 mark_less Tokens.dots n = same_less n
 mark_less (Tokens.star a b) n = same_less n
 

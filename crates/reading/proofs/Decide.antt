@@ -56,13 +56,13 @@ whole_final (want_close c K) e = absurd (false≢true e)
 -- ---- the backward arrow
 
 abbrev is_arrow_mark : Mark → Bool
-is_arrow_mark Tokens.roundClose = false
-is_arrow_mark Tokens.curlyClose = false
-is_arrow_mark Tokens.squareClose = false
+is_arrow_mark Tokens.round_close = false
+is_arrow_mark Tokens.curly_close = false
+is_arrow_mark Tokens.square_close = false
 is_arrow_mark Tokens.comma = false
 is_arrow_mark Tokens.colon = false
-is_arrow_mark Tokens.rightArrow = false
-is_arrow_mark Tokens.leftArrow = true
+is_arrow_mark Tokens.right_arrow = false
+is_arrow_mark Tokens.left_arrow = true
 is_arrow_mark Tokens.dots = false
 is_arrow_mark (Tokens.star a b) = false
 
@@ -76,18 +76,18 @@ is_arrow Tokens.square = false
 is_arrow (Tokens.mark m) = is_arrow_mark m
 is_arrow Tokens.later = false
 
-arrow_mark_lem : (m : Mark) → is_arrow_mark m ≡ true → m ≡ Tokens.leftArrow
-arrow_mark_lem Tokens.roundClose e = absurd (false≢true e)
-arrow_mark_lem Tokens.curlyClose e = absurd (false≢true e)
-arrow_mark_lem Tokens.squareClose e = absurd (false≢true e)
+arrow_mark_lem : (m : Mark) → is_arrow_mark m ≡ true → m ≡ Tokens.left_arrow
+arrow_mark_lem Tokens.round_close e = absurd (false≢true e)
+arrow_mark_lem Tokens.curly_close e = absurd (false≢true e)
+arrow_mark_lem Tokens.square_close e = absurd (false≢true e)
 arrow_mark_lem Tokens.comma e = absurd (false≢true e)
 arrow_mark_lem Tokens.colon e = absurd (false≢true e)
-arrow_mark_lem Tokens.rightArrow e = absurd (false≢true e)
-arrow_mark_lem Tokens.leftArrow e = refl
+arrow_mark_lem Tokens.right_arrow e = absurd (false≢true e)
+arrow_mark_lem Tokens.left_arrow e = refl
 arrow_mark_lem Tokens.dots e = absurd (false≢true e)
 arrow_mark_lem (Tokens.star a b) e = absurd (false≢true e)
 
-pub arrow_class : (c : Class) → is_arrow c ≡ true → c ≡ Tokens.mark Tokens.leftArrow
+pub arrow_class : (c : Class) → is_arrow c ≡ true → c ≡ Tokens.mark Tokens.left_arrow
 arrow_class (Tokens.atom a) e = absurd (false≢true e)
 arrow_class (Tokens.text w) e = absurd (false≢true e)
 arrow_class Tokens.names e = absurd (false≢true e)

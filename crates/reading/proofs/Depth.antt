@@ -92,7 +92,7 @@ mutual
   balanced_plain n (Tree.group o v c) r = balanced (suc n) v _
   balanced_plain n (Tree.pair o p k v c) r = balanced_plain (suc n) p _ ∙ balanced (suc n) v _
   balanced_plain n (Tree.arrowed o v a k w c) r =
-      balanced (suc n) v _ ∙ arrow_level (suc n) a k (yield_value w (sign Tokens.roundClose c r)) ∙ balanced (suc n) w _
+      balanced (suc n) v _ ∙ arrow_level (suc n) a k (yield_value w (sign Tokens.round_close c r)) ∙ balanced (suc n) w _
   balanced_plain n (Tree.tuple o i c) r = balanced_attributes (suc n) i _
   balanced_plain n (Tree.lot o i c) r = balanced_listing (suc n) i _
   balanced_plain n (Tree.counted o h s k b i e c) r = balanced_listing (suc (suc n)) i _

@@ -32,7 +32,7 @@ module _ (l : Level) (bytes : List ℕ) where
 
 -- two readings of one text with equal tables, at the lower level and at the higher: answer and table at exit of each
 pub record Agree (lower : Level) (bytes : List ℕ)
-    (old : Answer) (oldTable : List ℕ) (new : Answer) (newTable : List ℕ) : Type 0 where
-  pub alike : (old.number ≡ 7 → ⊥) → (old ≡ new) × (oldTable ≡ newTable)
+    (old : Answer) (old_table : List ℕ) (new : Answer) (new_table : List ℕ) : Type 0 where
+  pub alike : (old.number ≡ 7 → ⊥) → (old ≡ new) × (old_table ≡ new_table)
   pub first_newer_lem : old.number ≡ 7 → FirstNewer lower bytes old.place
   pub there_or_later : old.number ≡ 7 → (new.number ≡ 0) ⊎ (old.place ≤ new.place)

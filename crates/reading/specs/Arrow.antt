@@ -8,7 +8,7 @@ use Rattle.lexicon.specs.declared.Next.TheVariants as Next
 use Rattle.lexicon.specs.Utf8.{WellFormed}
 use Rattle.lexicon.specs.Front.{Front}
 use Rattle.lexicon.specs.Token.{Comes}
-use Rattle.grammar.specs.Tokens.{Tok, mark, leftArrow}
+use Rattle.grammar.specs.Tokens.{Tok, mark, left_arrow}
 use Rattle.grammar.specs.Level.{Level}
 use Rattle.grammar.specs.Place.{Wrong}
 use Rattle.reading.specs.declared.Answer.{Answer}
@@ -21,7 +21,7 @@ use Rattle.reading.specs.Answers.{LevelOf, answer}
 
 -- the token is the backward arrow
 abbrev pub IsArrow : Tok → Type 0
-IsArrow t = t.class ≡ mark leftArrow
+IsArrow t = t.class ≡ mark left_arrow
 
 -- no token of the text is one, whatever row of tokens from the front it stands behind
 pub record NoArrows (bytes : List ℕ) : Type 0 where
@@ -44,10 +44,10 @@ pub record FirstArrow (old : Limits) (l : Level) (bytes : List ℕ) (place : ℕ
   pub place_is : place ≡ token.first
 
 -- a reading of one text by the old rules and one by today's, with equal tables: answer and table at exit of each
-pub record Retirement (rules : Rules) (bytes : List ℕ) (number : ℕ) (old : Answer) (oldTable : List ℕ) (new : Answer)
-    (newTable : List ℕ) : Type 0 where
+pub record Retirement (rules : Rules) (bytes : List ℕ) (number : ℕ) (old : Answer) (old_table : List ℕ) (new : Answer)
+    (new_table : List ℕ) : Type 0 where
   -- but for 15 nothing changed
-  pub alike : (new.number ≡ 15 → ⊥) → (old ≡ new) × (oldTable ≡ newTable)
+  pub alike : (new.number ≡ 15 → ⊥) → (old ≡ new) × (old_table ≡ new_table)
   -- 15 names the first arrow, which was allowed; the old rules accept the text, or refuse it behind that
   pub named : new.number ≡ 15 →
       (l : Level) × LevelOf number l × FirstArrow (with_arrow rules).limits l bytes new.place

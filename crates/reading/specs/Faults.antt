@@ -7,7 +7,7 @@ use Rattle.lexicon.specs.declared.Token as Token
 use Rattle.lexicon.specs.declared.Next.TheVariants as Next
 use Rattle.lexicon.specs.Front.{Front}
 use Rattle.lexicon.specs.Token.{BadPlace, Comes}
-use Rattle.grammar.specs.Tokens.{Tok, mark, leftArrow}
+use Rattle.grammar.specs.Tokens.{Tok, mark, left_arrow}
 use Rattle.grammar.specs.Level.{Level}
 use Rattle.grammar.specs.Place.{Wrong, WrongEnd, Newer}
 use Rattle.reading.specs.declared.Limits.{Limits}
@@ -24,7 +24,7 @@ pub record NewerAt (l : Level) (bytes : List ℕ) (ts : List Tok) (t : Token.Tok
 -- it is the backward arrow, which may not be read any more
 pub record Retired (limits : Limits) (t : Token.Token) : Type 0 where
   pub retired : limits.arrow ≡ false
-  pub arrow : (seen t).class ≡ mark leftArrow
+  pub arrow : (seen t).class ≡ mark left_arrow
 
 -- it opens one bracket more than may be open at once
 pub record TooDeep (limits : Limits) (ts : List Tok) (t : Token.Token) : Type 0 where

@@ -3,8 +3,8 @@ use Rattle.std.specs.Prelude.{List, [], ◌∷◌, ℕ, suc, pred}
 use Rattle.lexicon.specs.declared.Token as Token
 use Rattle.lexicon.specs.declared.Next.TheVariants as Next
 use Rattle.lexicon.specs.Token.{Comes}
-use Rattle.grammar.specs.Tokens.{Tok, tok, Class, atom, text, names, round, curly, square, mark, later, roundClose}
-use Rattle.grammar.specs.Tokens.{curlyClose, squareClose, comma, colon, rightArrow, leftArrow, dots, star, Mark}
+use Rattle.grammar.specs.Tokens.{Tok, tok, Class, atom, text, names, round, curly, square, mark, later, round_close}
+use Rattle.grammar.specs.Tokens.{curly_close, square_close, comma, colon, right_arrow, left_arrow, dots, star, Mark}
 use Rattle.grammar.specs.Tokens.{class_kind}
 
 -- a token as the tree rules see it
@@ -19,13 +19,13 @@ pub data Follow (bytes : List ℕ) : ℕ → List Tok → ℕ → Type 0 where
 
 -- the brackets that stand open behind the tokens: each of `(` `{` `[` counts, groups too
 abbrev pub open_mark : Mark → ℕ → ℕ
-open_mark roundClose n = pred n
-open_mark curlyClose n = pred n
-open_mark squareClose n = pred n
+open_mark round_close n = pred n
+open_mark curly_close n = pred n
+open_mark square_close n = pred n
 open_mark comma n = n
 open_mark colon n = n
-open_mark rightArrow n = n
-open_mark leftArrow n = n
+open_mark right_arrow n = n
+open_mark left_arrow n = n
 open_mark dots n = n
 open_mark (star a b) n = n
 

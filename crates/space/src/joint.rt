@@ -1,13 +1,13 @@
 // What joins two units of a literal's digits: one `_`, or one stretch of dividing space.
 ghost use Rattle.rules.specs.Rule.{opt, Longest};
-ghost use Rattle.lexicon.specs.Literals.{joint as jointOf};
+ghost use Rattle.lexicon.specs.Literals.{joint as joint_of};
 
 use crate::space;
 
 // Where the joint at `at` ends: `at` itself if there is none. It is asked for behind every unit and seldom there, so most bytes are
 // told at one look, with no call.
 pub fn joint(text: &[u8], at: usize) -> usize
-    ensures { Longest text.now (opt jointOf) at result }
+    ensures { Longest text.now (opt joint_of) at result }
 {
     if text.len() <= at {
         return at;

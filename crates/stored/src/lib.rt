@@ -10,7 +10,7 @@ ghost use Rattle.buffer.specs.Puts.{Puts};
 ghost use Rattle.grammar.specs.Nodes.{node_words};
 ghost use Rattle.reading.specs.Sizes.{base, old_rules};
 ghost use Rattle.reading.specs.Answers.{Answers, answer};
-ghost use Rattle.files.specs.File.{file as fileOf};
+ghost use Rattle.files.specs.File.{file as file_of};
 ghost use Rattle.files.specs.Writes.{Writes};
 ghost use Rattle.files.specs.Checks.{Unmarked, OtherVersion, Stored, Checks};
 ghost use Rattle.stored.specs.Holds.{Whenever};
@@ -36,7 +36,7 @@ fn file_bytes(nodes: usize) -> usize
 // The file from the buffer's start on.
 fn fill(table: &[u32], nodes: usize, size: usize, buffer: &mut [u8])
     requires { (nodes ≤ base.nodes) × (node_words * nodes ≤ length table.now) }
-    ensures { Whenever table.now nodes size (λ text v. Puts buffer.old 0 (fileOf text v) buffer.new (length (fileOf text v))) }
+    ensures { Whenever table.now nodes size (λ text v. Puts buffer.old 0 (file_of text v) buffer.new (length (file_of text v))) }
 {
     let needed = file_bytes(nodes);
     let mut at = 0;
@@ -100,7 +100,7 @@ fn other_version(file: &[u8]) -> bool
 // Whether the file is the one of the table, byte for byte.
 fn same(table: &[u32], nodes: usize, size: usize, file: &[u8]) -> bool
     requires { (nodes ≤ base.nodes) × (node_words * nodes ≤ length table.now) }
-    ensures { Whenever table.now nodes size (λ text v. Says result (file.now ≡ fileOf text v)) }
+    ensures { Whenever table.now nodes size (λ text v. Says result (file.now ≡ file_of text v)) }
 {
     let end = file_bytes(nodes);
     if file.len() != end {

@@ -23,7 +23,7 @@ use Rattle.string.specs.Parts.{item, plain_rest}
 use Rattle.string.specs.FirstBad.{met, marked_at, sooner_of, place_or, Stops, Points, RestWalked, SegmentWalked, QuotedWalked}
 use Rattle.string.proofs.Among.{place, found, said, beyond, at_end_lem}
 use Rattle.string.proofs.Items.{backslash, item_single, item_strict}
-use Rattle.string.proofs.Segments.{segment_escaped, segment_plain, segment-strict, further_strict, Going, none, some, going_on, going_nowhere, going_ends, first_same, further_judged}
+use Rattle.string.proofs.Segments.{segment_escaped, segment_plain, segment_strict, further_strict, Going, none, some, going_on, going_nowhere, going_ends, first_same, further_judged}
 
 pub none_met : {p : ℕ} → Found.Nothing ≡ Found.At p → ⊥
 none_met e = false≢true (ap met e)
@@ -287,7 +287,7 @@ module _ (text : List ℕ) where
     where
       go : {next : ℕ} {bad : Bool} → Going text at end next bad → Fails text segment next → Points text at at
       go (none d n b) f = gone_ends (record { end = end; going = none d n refl }) f
-      go (some g t b k) f = absurd (omega (arith, e, (segment-strict text).less g, forward t))
+      go (some g t b k) f = absurd (omega (arith, e, (segment_strict text).less g, forward t))
 
   pub segments_end : {at end next : ℕ} (f : Found) → Segments at end next f → Fails text segment next → (end ≡ at → ⊥) → QuotedWalked text at (Walk.At end f)
   segments_end (Found.At q) v x n = (going_ends text v.0 x n, v.1 q refl)

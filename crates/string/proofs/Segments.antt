@@ -181,8 +181,8 @@ module _ (text : List ℕ) where
             (which text further (BadFurther text) (further_single text) further_strict t s
             (place (Among text further (BadFurther text)) (first_same x) refl a))
 
-  pub segment-strict : Strict text segment
-  segment-strict = strict_of segment refl
+  pub segment_strict : Strict text segment
+  segment_strict = strict_of segment refl
 
   -- ---- the segments so far, and where the next would begin
 
@@ -200,7 +200,7 @@ module _ (text : List ℕ) where
 
   pub going_nowhere : {at end next : ℕ} {bad : Bool} → Going at end next bad → Fails text segment next → end ≡ at → Fails text quoted at
   going_nowhere (none e n b) f q = no_quoted (subst (λ (i : ℕ). Fails text segment i) n f)
-  going_nowhere (some g t b k) f q = absurd (omega (arith, q, segment-strict.less g, forward t))
+  going_nowhere (some g t b k) f q = absurd (omega (arith, q, segment_strict.less g, forward t))
 
   pub going_ends : {at end next : ℕ} {bad : Bool} → Going at end next bad → Fails text segment next → (end ≡ at → ⊥) → Judges text quoted (BadQuoted text) at (Literal.TheVariants.At end bad)
   going_ends (none e n b) f q = absurd (q e)

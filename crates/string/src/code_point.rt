@@ -3,7 +3,7 @@ ghost use Rattle.rules.specs.Test.{Says};
 ghost use Rattle.lexicon.specs.Found.{Judges};
 ghost use Rattle.lexicon.specs.Literals.{code_point_of};
 ghost use Rattle.lexicon.specs.Bad.{Scalar, BadCode};
-ghost use Rattle.string.specs.Parts as Parts;
+ghost use Rattle.string.specs.Parts;
 ghost use Rattle.string.specs.Parts.{BadNumber, Counts};
 
 use lexicon::{Base, Literal};

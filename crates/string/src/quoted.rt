@@ -1,7 +1,7 @@
 // Quoted texts: one segment or more, with dividing space between them.
 ghost use Rattle.std.specs.Prelude.{◌≡◌};
 ghost use Rattle.lexicon.specs.Found.{Judges};
-ghost use Rattle.lexicon.specs.Literals as Literals;
+ghost use Rattle.lexicon.specs.Literals;
 ghost use Rattle.lexicon.specs.Bad.{BadQuoted};
 ghost use Rattle.string.specs.FirstBad.{met, QuotedWalked, Points};
 

@@ -3,10 +3,10 @@ ghost use Rattle.std.specs.Prelude.{◌≡◌, ◌+◌};
 ghost use Rattle.rules.specs.Test.{Says};
 ghost use Rattle.rules.specs.Rule.{one, many, Takes, Longest};
 ghost use Rattle.lexicon.specs.Found.{Finds, Judges};
-ghost use Rattle.lexicon.specs.Literals as Literals;
+ghost use Rattle.lexicon.specs.Literals;
 ghost use Rattle.lexicon.specs.Bad.{BadEscape};
 ghost use Rattle.string.specs.FirstBad.{marked_at, sooner_of, RestWalked, SegmentWalked};
-ghost use Rattle.string.specs.Parts as Parts;
+ghost use Rattle.string.specs.Parts;
 ghost use Rattle.string.specs.Parts.{BadAngled};
 
 use crate::code_point::code_point;

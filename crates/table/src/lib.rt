@@ -4,9 +4,9 @@
 ghost use Rattle.std.specs.Prelude.{◌≡◌, [], ◌∷◌, ◌+◌, ◌*◌, ◌≤◌, length};
 ghost use Rattle.rules.specs.Over.{over};
 ghost use Rattle.grammar.specs.Nodes.{role_number, node_words};
-ghost use Rattle.reading.specs.Sizes.{room as roomOf};
+ghost use Rattle.reading.specs.Sizes.{room as room_of};
 ghost use Rattle.moves.specs.Means.{role_of};
-ghost use Rattle.table.specs.Over.{under, capped as cappedOf, entry_words, Stored, Assigned, Raised};
+ghost use Rattle.table.specs.Over.{under, capped as capped_of, entry_words, Stored, Assigned, Raised};
 
 use grammar::{DETAIL, END, FIRST, KIND, NODE_WORDS, PARENT, ROLE, SKIP};
 use moves::Role;
@@ -46,7 +46,7 @@ fn role_number(role: Role) -> u32
 
 // How many nodes the table has room for.
 pub fn room(rules: Rules, table: &[u32]) -> usize
-    ensures { result ≡ roomOf rules (length table.now) }
+    ensures { result ≡ room_of rules (length table.now) }
 {
     let nodes = table.len() / NODE_WORDS;
     if nodes < rules.nodes {
@@ -120,7 +120,7 @@ pub fn assign(table: &mut [u32], index: usize, role: Role)
 
 // The number as a word holds it.
 fn capped(number: usize) -> u32
-    ensures { result ≡ cappedOf number }
+    ensures { result ≡ capped_of number }
 {
     if number > LARGEST {
         return LARGEST as u32;
@@ -130,7 +130,7 @@ fn capped(number: usize) -> u32
 
 // One more, as a word holds it.
 fn next(word: u32) -> u32
-    ensures { result ≡ cappedOf (word + 1) }
+    ensures { result ≡ capped_of (word + 1) }
 {
     capped(word as usize + 1)
 }

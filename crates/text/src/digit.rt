@@ -2,9 +2,9 @@
 // counted up to a limit.
 ghost use Rattle.std.specs.Prelude.{◌≡◌};
 ghost use Rattle.lexicon.specs.Bytes.{digit_set_of};
-ghost use Rattle.lexicon.specs.Parts.{size, sextet as sextetOf};
-ghost use Rattle.lexicon.specs.Values.{digit as digitOf};
-ghost use Rattle.lexicon.specs.Limited.{limited as limitedOf};
+ghost use Rattle.lexicon.specs.Parts.{size, sextet as sextet_of};
+ghost use Rattle.lexicon.specs.Values.{digit as digit_of};
+ghost use Rattle.lexicon.specs.Limited.{limited as limited_of};
 ghost use Rattle.text.specs.Letters.{Letters};
 
 use lexicon::{Base, Set};
@@ -62,7 +62,7 @@ pub fn radix(set: Set) -> u32
 
 // The number that a digit stands for.
 pub fn digit(b: u8) -> u64
-    ensures { result ≡ digitOf b }
+    ensures { result ≡ digit_of b }
 {
     if b < 0x30 {
         return 0;
@@ -75,7 +75,7 @@ pub fn digit(b: u8) -> u64
 
 // The number that a base-64 character stands for. Its byte comes as a wider number, as the padding's state keeps it.
 pub fn sextet(b: u32) -> u32
-    ensures { result ≡ sextetOf b }
+    ensures { result ≡ sextet_of b }
 {
     if b >= 0x61 {
         return b - 0x61 + 26;
@@ -94,7 +94,7 @@ pub fn sextet(b: u32) -> u32
 
 // A number with one digit more, up to the limit.
 pub fn limited(sum: u32, radix: u32, b: u8) -> u32
-    ensures { result ≡ limitedOf radix sum b }
+    ensures { result ≡ limited_of radix sum b }
 {
     let next = sum as u64 * radix as u64 + digit(b);
     if next < LIMIT as u64 {

@@ -1,6 +1,6 @@
 // Code points as bytes into a lent buffer, from a place on.
 ghost use Rattle.std.specs.Prelude.{[], ◌∷◌, ◌<◌};
-ghost use Rattle.lexicon.specs.Encode.{tail_of, encode as encodeOf};
+ghost use Rattle.lexicon.specs.Encode.{tail_of, encode as encode_of};
 ghost use Rattle.buffer.specs.Puts.{Puts};
 
 use buffer::put;
@@ -15,7 +15,7 @@ fn tail(code: u32, buffer: &mut [u8], at: usize) -> usize
 // A code point, in one to four bytes. Its caller has found it to be one.
 pub(crate) fn encode(code: u32, buffer: &mut [u8], at: usize) -> usize
     requires { code < 0x110000 }
-    ensures { Puts buffer.old at (encodeOf code) buffer.new result }
+    ensures { Puts buffer.old at (encode_of code) buffer.new result }
 {
     if code < 0x80 {
         return put(buffer, at, code as u8);

@@ -2,7 +2,7 @@
 // A function with a `requires` is this crate's own: its caller has tested the piece. `text`, the public one, has none.
 ghost use Rattle.std.specs.Prelude.{◌≡◌, ◌≤◌, length};
 ghost use Rattle.rules.specs.Rule.{Fails};
-ghost use Rattle.lexicon.specs.Literals as Literals;
+ghost use Rattle.lexicon.specs.Literals;
 ghost use Rattle.lexicon.specs.Utf8.{WellFormed};
 ghost use Rattle.reading.specs.Answers.{answer};
 ghost use Rattle.reading.specs.Sizes.{base as rules};

@@ -96,13 +96,13 @@ module _ (text : List ℕ) where
 
   -- ---- two bytes
 
-  pub right_arrow : {i : ℕ} → At text (just 0x2D) i → At text (just 0x3E) (i + 1) → Here text (a_symbol ArrowRight) i (i + 2)
+  pub right_arrow_lem : {i : ℕ} → At text (just 0x2D) i → At text (just 0x3E) (i + 1) → Here text (a_symbol ArrowRight) i (i + 2)
   unfolding covers apart apart_span
-  right_arrow x y = no_further_lem ArrowRight refl (both (byte x refl) (byte y (omega arith)))
+  right_arrow_lem x y = no_further_lem ArrowRight refl (both (byte x refl) (byte y (omega arith)))
 
-  pub left_arrow : {i : ℕ} → At text (just 0x3C) i → At text (just 0x2D) (i + 1) → Here text (a_symbol ArrowLeft) i (i + 2)
+  pub left_arrow_lem : {i : ℕ} → At text (just 0x3C) i → At text (just 0x2D) (i + 1) → Here text (a_symbol ArrowLeft) i (i + 2)
   unfolding covers apart apart_span
-  left_arrow x y = no_further_lem ArrowLeft refl (both (byte x refl) (byte y (omega arith)))
+  left_arrow_lem x y = no_further_lem ArrowLeft refl (both (byte x refl) (byte y (omega arith)))
 
   pub two_dots_lem : {i : ℕ} → At text (just 0x2E) i → At text (just 0x2E) (i + 1) → Here text (a_symbol Dots) i (i + 2)
   unfolding covers apart apart_span
@@ -114,25 +114,25 @@ module _ (text : List ℕ) where
   unfolding covers apart apart_span
   round_open x = no_further_lem RoundOpen refl (byte x refl)
 
-  pub round_close : {i : ℕ} → At text (just 0x29) i → Here text (a_symbol RoundClose) i (i + 1)
+  pub round_close_lem : {i : ℕ} → At text (just 0x29) i → Here text (a_symbol RoundClose) i (i + 1)
   unfolding covers apart apart_span
-  round_close x = no_further_lem RoundClose refl (byte x refl)
+  round_close_lem x = no_further_lem RoundClose refl (byte x refl)
 
   pub curly_open : {i : ℕ} → At text (just 0x7B) i → Here text (a_symbol CurlyOpen) i (i + 1)
   unfolding covers apart apart_span
   curly_open x = no_further_lem CurlyOpen refl (byte x refl)
 
-  pub curly_close : {i : ℕ} → At text (just 0x7D) i → Here text (a_symbol CurlyClose) i (i + 1)
+  pub curly_close_lem : {i : ℕ} → At text (just 0x7D) i → Here text (a_symbol CurlyClose) i (i + 1)
   unfolding covers apart apart_span
-  curly_close x = no_further_lem CurlyClose refl (byte x refl)
+  curly_close_lem x = no_further_lem CurlyClose refl (byte x refl)
 
   pub square_open : {i : ℕ} → At text (just 0x5B) i → Here text (a_symbol SquareOpen) i (i + 1)
   unfolding covers apart apart_span
   square_open x = no_further_lem SquareOpen refl (byte x refl)
 
-  pub square_close : {i : ℕ} → At text (just 0x5D) i → Here text (a_symbol SquareClose) i (i + 1)
+  pub square_close_lem : {i : ℕ} → At text (just 0x5D) i → Here text (a_symbol SquareClose) i (i + 1)
   unfolding covers apart apart_span
-  square_close x = no_further_lem SquareClose refl (byte x refl)
+  square_close_lem x = no_further_lem SquareClose refl (byte x refl)
 
   pub comma : {i : ℕ} → At text (just 0x2C) i → Here text (a_symbol Comma) i (i + 1)
   unfolding covers apart apart_span

@@ -52,7 +52,7 @@ atom_kind_lem Tokens.fraction = record { kind_is = refl; detail_is = refl; shape
 atom_kind_lem Tokens.bits = record { kind_is = refl; detail_is = refl; shape_is = refl }
 atom_kind_lem Tokens.blob = record { kind_is = refl; detail_is = refl; shape_is = refl }
 
-text_kind : (w : Wording) → LeafTells (kind_of (Tokens.text w)) Nodes.aText (wording_detail w) (wording_shape w)
+text_kind : (w : Wording) → LeafTells (kind_of (Tokens.text w)) Nodes.a_text (wording_detail w) (wording_shape w)
 text_kind (Tokens.spelled Tokens.quoted) = record { kind_is = refl; detail_is = refl; shape_is = refl }
 text_kind (Tokens.spelled Tokens.word) = record { kind_is = refl; detail_is = refl; shape_is = refl }
 text_kind (Tokens.spelled Tokens.code_point_of) = record { kind_is = refl; detail_is = refl; shape_is = refl }
@@ -61,15 +61,15 @@ text_kind (Tokens.head_word h) = record { kind_is = refl; detail_is = refl; shap
 pub atom_tells : (k : Kind) {a : Atom} → class_kind k ≡ Tokens.atom a → LeafTells k (atom_kind a) (atom_detail a) Shape.Other
 atom_tells k {a} e = subst (λ (x : Kind). LeafTells x (atom_kind a) (atom_detail a) Shape.Other) (sym (class_kind_lem k e)) (atom_kind_lem a)
 
-pub text_tells : (k : Kind) {w : Wording} → class_kind k ≡ Tokens.text w → LeafTells k Nodes.aText (wording_detail w) (wording_shape w)
-text_tells k {w} e = subst (λ (x : Kind). LeafTells x Nodes.aText (wording_detail w) (wording_shape w)) (sym (class_kind_lem k e)) (text_kind w)
+pub text_tells : (k : Kind) {w : Wording} → class_kind k ≡ Tokens.text w → LeafTells k Nodes.a_text (wording_detail w) (wording_shape w)
+text_tells k {w} e = subst (λ (x : Kind). LeafTells x Nodes.a_text (wording_detail w) (wording_shape w)) (sym (class_kind_lem k e)) (text_kind w)
 
 -- of a Text's value
 pub text_shape : (w : Wording) (s : Span) → shape_of (text_value w s) ≡ wording_shape w
 text_shape (Tokens.spelled w) s = refl
 text_shape (Tokens.head_word h) s = refl
 
-pub text_nodes : (w : Wording) (s : Span) (p : ℕ) (r : Nodes.Role) (i : ℕ) → nodes (text_value w s) p r i ≡ leaf Nodes.aText s p r (wording_detail w)
+pub text_nodes : (w : Wording) (s : Span) (p : ℕ) (r : Nodes.Role) (i : ℕ) → nodes (text_value w s) p r i ≡ leaf Nodes.a_text s p r (wording_detail w)
 text_nodes (Tokens.spelled w) s p r i = refl
 text_nodes (Tokens.head_word h) s p r i = refl
 
@@ -119,9 +119,9 @@ literal_value l k s K (Tokens.text w) e h =
       no_names_lem = text_names w s;
       shape_is = text_shape w s ∙ sym d.shape_is;
       bare = λ g x. class_kind_lem k e ∙ text_bare w g (sym d.shape_is ∙ x);
-      kind = Nodes.aText;
+      kind = Nodes.a_text;
       kind_is = sym d.kind_is;
-      nodes_are = λ p i. text_nodes w s p Nodes.root i ∙ ap (leaf Nodes.aText s p Nodes.root) (sym d.detail_is);
+      nodes_are = λ p i. text_nodes w s p Nodes.root i ∙ ap (leaf Nodes.a_text s p Nodes.root) (sym d.detail_is);
     }
 literal_value l k s K Tokens.names e h = absurd (false≢true h)
 literal_value l k s K Tokens.round e h = absurd (false≢true h)

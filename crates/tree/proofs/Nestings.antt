@@ -164,7 +164,7 @@ module _ (text : List ℕ) where
             sized = (omega (arith, h, b.low, y.0), omega (arith, b.low, y.0), y.1);
             outcome = λ limits forms K d at a e.
                 let w = has b n limits forms K d at a e in
-                let node : Nodes.Node = record { kind = Nodes.aNesting; at = names_span w.names; parent = parent; role = Nodes.root; detail = 0; stretch = 1 } in
+                let node : Nodes.Node = record { kind = Nodes.a_nesting; at = names_span w.names; parent = parent; role = Nodes.root; detail = 0; stretch = 1 } in
                 record {
                   tree = Tree.plain (Tree.nesting w.names);
                   depth = d;

@@ -315,8 +315,8 @@ module _ (text : List ℕ) (limits : Limits) (forms : Forms) where
                   let v = first_read (Read.Value end n shape) q K a in
                   record {
                     tree = Tree.plain (Tree.group (span_of t) v.tree (span_of w));
-                    depth = open_mark Tokens.roundClose v.depth;
-                    stands = sign_on limits (level_of forms) text v.stands w k' Tokens.roundClose i (λ p. not_arrow w (ap is_arrow i) p) (ap (λ (p : Class). have_class (level_of forms) p v.tree (span_of w) (opened t K)) i);
+                    depth = open_mark Tokens.round_close v.depth;
+                    stands = sign_on limits (level_of forms) text v.stands w k' Tokens.round_close i (λ p. not_arrow w (ap is_arrow i) p) (ap (λ (p : Class). have_class (level_of forms) p v.tree (span_of w) (opened t K)) i);
                     stops = λ p p' p''. refl;
                     shape_is = refl;
                     bare = λ p p'. absurd (false≢true (ap is_bare p'));

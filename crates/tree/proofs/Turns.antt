@@ -130,13 +130,13 @@ other_names (Tree.plain (Tree.interval o b c)) e = refl
 other_names (Tree.bare h s) e = refl
 
 flat_depth : (m : Mark) (d : ℕ) → flat m ≡ true → open_mark m d ≡ d
-flat_depth Tokens.roundClose d e = absurd (false≢true e)
-flat_depth Tokens.curlyClose d e = absurd (false≢true e)
-flat_depth Tokens.squareClose d e = absurd (false≢true e)
+flat_depth Tokens.round_close d e = absurd (false≢true e)
+flat_depth Tokens.curly_close d e = absurd (false≢true e)
+flat_depth Tokens.square_close d e = absurd (false≢true e)
 flat_depth Tokens.comma d e = refl
 flat_depth Tokens.colon d e = refl
-flat_depth Tokens.rightArrow d e = refl
-flat_depth Tokens.leftArrow d e = refl
+flat_depth Tokens.right_arrow d e = refl
+flat_depth Tokens.left_arrow d e = refl
 flat_depth Tokens.dots d e = refl
 flat_depth (Tokens.star a b) d e = refl
 
@@ -144,18 +144,18 @@ flat_depth (Tokens.star a b) d e = refl
 
 -- it ends no bracket
 arrow_flat : (m : Mark) → flat m ≡ false → is_arrow (Tokens.mark m) ≡ false
-arrow_flat Tokens.roundClose e = refl
-arrow_flat Tokens.curlyClose e = refl
-arrow_flat Tokens.squareClose e = refl
+arrow_flat Tokens.round_close e = refl
+arrow_flat Tokens.curly_close e = refl
+arrow_flat Tokens.square_close e = refl
 arrow_flat Tokens.comma e = refl
 arrow_flat Tokens.colon e = refl
-arrow_flat Tokens.rightArrow e = refl
-arrow_flat Tokens.leftArrow e = absurd (false≢true (sym e))
+arrow_flat Tokens.right_arrow e = refl
+arrow_flat Tokens.left_arrow e = absurd (false≢true (sym e))
 arrow_flat Tokens.dots e = refl
 arrow_flat (Tokens.star a b) e = refl
 
 -- and leads nowhere behind `:` and a value
-arrow_paired : {l : Level} {c to : Config} {t : Tok} → Paired l c t → step l c t ≡ some to → t.class ≡ Tokens.mark Tokens.leftArrow → ⊥
+arrow_paired : {l : Level} {c to : Config} {t : Tok} → Paired l c t → step l c t ≡ some to → t.class ≡ Tokens.mark Tokens.left_arrow → ⊥
 arrow_paired {l} {t = t} p e a =
     false≢true (sym (ap (λ (x : Config). given (step l x t)) p.config_is
     ∙ ap (λ (k : Class). given (have_class l k p.value t.at (Frames.in_round (Frames.pair_colon p.first p.name p.colon) ∷ p.stack))) a) ∙ ap given e)
@@ -231,7 +231,7 @@ module _ (text : List ℕ) (limits : Limits) (forms : Forms) where
     shut_on {left} {style} {role} r parent (m, u, g) e l =
         subst (Turns text limits forms opener lent left index parent K) (sym l.turn_is) (
           g.to,
-          leads_holds t h g (sign_on limits (level_of forms) text h.stands t k Tokens.curlyClose m (λ x. not_arrow t (ap is_arrow m) x) g.steps)
+          leads_holds t h g (sign_on limits (level_of forms) text h.stands t k Tokens.curly_close m (λ x. not_arrow t (ap is_arrow m) x) g.steps)
               e (h.count_is ∙ sym (told_length c (role_of role) index))
               (role_written index c role h.written h.length_is l.role_is h.last_is u),
         )

@@ -4,7 +4,7 @@ ghost use Rattle.std.specs.Prelude.{◌≡◌, pred, ◌≤◌};
 ghost use Rattle.reading.specs.Sizes.{widest};
 ghost use Rattle.look.specs.declared.answer.Read.TheVariants as Read;
 ghost use Rattle.tree.specs.declared.bracket.Turn.TheVariants as Turn;
-ghost use Rattle.tree.specs.Readers.{entering as enteringOf, Ends, Taken};
+ghost use Rattle.tree.specs.Readers.{entering as entering_of, Ends, Taken};
 ghost use Rattle.tree.specs.Turning.{Narrow, Outer, Led, Leading, Tupled, Counted, Deepened, Shuts, Closed};
 
 use crate::leaf::told;
@@ -35,7 +35,7 @@ pub enum Turn {
 // Where a bracket is entered: it has no member yet.
 pub(crate) fn entering(mode: Mode, at: usize, depth: usize, index: usize) -> State
     requires { depth ≤ widest }
-    ensures { result ≡ enteringOf mode at depth index }
+    ensures { result ≡ entering_of mode at depth index }
 {
     State {
         mode,

@@ -3,7 +3,7 @@
 
 ghost use Rattle.rules.specs.Rule.{◌then◌, many, Longest};
 ghost use Rattle.lexicon.specs.Found.{Finds};
-ghost use Rattle.lexicon.specs.Utf8 as Utf8;
+ghost use Rattle.lexicon.specs.Utf8;
 ghost use Rattle.lexicon.specs.Steps.{eight, TestedAs};
 
 use eight::ascii;

@@ -1,6 +1,6 @@
 // Bare words, and which of the thirteen head words one is.
 ghost use Rattle.lexicon.specs.Found.{Finds};
-ghost use Rattle.lexicon.specs.Literals as Literals;
+ghost use Rattle.lexicon.specs.Literals;
 ghost use Rattle.word.specs.Heads.{Tells, TellsOf, tuples, intervals, collections};
 
 use crate::spelling::spells;

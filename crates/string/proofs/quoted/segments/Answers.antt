@@ -5,7 +5,7 @@ use native.Mathlib.Omega.{arith}
 use Rattle.rules.proofs.Matches.{forward}
 use Rattle.rules.proofs.Ways.{begins_within}
 use Rattle.lexicon.specs.Literals.{segment}
-use Rattle.string.proofs.Segments.{segment-strict, none}
+use Rattle.string.proofs.Segments.{segment_strict, none}
 use Rattle.string.proofs.FirstBad.{none_met, walked_at, walked_none, segments_on, segments_none, segments_end}
 use Rattle.string.proofs.quoted.segments.Goals as goal
 
@@ -14,7 +14,7 @@ loop-stop-init c = (none refl refl refl, λ p e. absurd (none_met e))
 
 pub loop-stop-smaller : goal.loop-stop-smaller
 loop-stop-smaller c = let y = walked_at _ c.in-At.is c.segment.ensures in
-    omega (arith, begins_within segment refl y.0.0.takes, (segment-strict _).less y.0.0.takes, forward c.space-next.ensures.takes)
+    omega (arith, begins_within segment refl y.0.0.takes, (segment_strict _).less y.0.0.takes, forward c.space-next.ensures.takes)
 
 pub loop-stop-preserved : goal.loop-stop-preserved
 loop-stop-preserved c = segments_on _ c.sooner-bad.ensures c.loop-stop.invariant

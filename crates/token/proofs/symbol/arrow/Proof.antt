@@ -1,6 +1,6 @@
 -- `token::symbol::arrow` meets its contract. Assumes nothing.
 use Rattle.rules.proofs.Tests.{there, not_there}
-use Rattle.token.proofs.Symbols.{right_arrow, dash_none}
+use Rattle.token.proofs.Symbols.{right_arrow_lem, dash_none}
 use borrow.Author.Rules.{rules}
 use Rattle.token.proofs.symbol.arrow.Statement.{statement}
 use Rattle.token.proofs.symbol.arrow.Tie as tie
@@ -15,7 +15,7 @@ add-t6 : tie.Need-overflow-add-t6
 add-t6 c = search rules
 
 returns : tie.Need-returns
-returns c = right_arrow _ c.before.before.before.requires (there c.before.stands.ensures c.if1.true)
+returns c = right_arrow_lem _ c.before.before.before.requires (there c.before.stands.ensures c.if1.true)
 
 returns-2 : tie.Need-returns-2
 returns-2 c = dash_none _ _ c.before.before.before.requires (not_there c.before.stands.ensures c.if1.false)

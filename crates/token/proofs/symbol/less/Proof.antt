@@ -4,7 +4,7 @@ use Rattle.token.proofs.Bytes.{add_two}
 use borrow.Author.Tests.{not-true, not-false}
 use Rattle.rules.specs.Rule.{byte, both}
 use Rattle.rules.proofs.Tests.{there, not_there}
-use Rattle.token.proofs.Symbols.{left_arrow, less_none}
+use Rattle.token.proofs.Symbols.{left_arrow_lem, less_none}
 use borrow.Author.Rules.{rules}
 use Rattle.token.proofs.symbol.less.Statement.{statement}
 use Rattle.token.proofs.symbol.less.Tie as tie
@@ -19,7 +19,7 @@ add-t6 : tie.Need-overflow-add-t6
 add-t6 c = search rules
 
 returns : tie.Need-returns
-returns c = left_arrow _ c.before.before.before.requires (there c.before.stands.ensures c.if1.true)
+returns c = left_arrow_lem _ c.before.before.before.requires (there c.before.stands.ensures c.if1.true)
 
 add-stands-2 : tie.Need-overflow-add-stands-2
 add-stands-2 c = search rules

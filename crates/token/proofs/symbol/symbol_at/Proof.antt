@@ -2,7 +2,7 @@
 use mathlib.Core.Path.{refl}
 use Rattle.rules.specs.Rule.{nothing}
 use Rattle.token.proofs.Bytes.{read_at}
-use Rattle.token.proofs.Symbols.{round_open, round_close, curly_open, curly_close, square_open, square_close, comma, other_none}
+use Rattle.token.proofs.Symbols.{round_open, round_close_lem, curly_open, curly_close_lem, square_open, square_close_lem, comma, other_none}
 use borrow.Author.Rules.{rules}
 use Rattle.token.proofs.symbol.symbol_at.Statement.{statement}
 use Rattle.token.proofs.symbol.symbol_at.Tie as tie
@@ -29,19 +29,19 @@ returns : tie.Need-returns
 returns c = round_open _ (read_at c.before.before.before.args.text.now 0x28 c.before.before.before.args.at c.before.before.before.requires c.match.keys1)
 
 returns-2 : tie.Need-returns-2
-returns-2 c = round_close _ (read_at c.before.before.before.args.text.now 0x29 c.before.before.before.args.at c.before.before.before.requires c.match.keys2)
+returns-2 c = round_close_lem _ (read_at c.before.before.before.args.text.now 0x29 c.before.before.before.args.at c.before.before.before.requires c.match.keys2)
 
 returns-3 : tie.Need-returns-3
 returns-3 c = curly_open _ (read_at c.before.before.before.args.text.now 0x7B c.before.before.before.args.at c.before.before.before.requires c.match.keys3)
 
 returns-4 : tie.Need-returns-4
-returns-4 c = curly_close _ (read_at c.before.before.before.args.text.now 0x7D c.before.before.before.args.at c.before.before.before.requires c.match.keys4)
+returns-4 c = curly_close_lem _ (read_at c.before.before.before.args.text.now 0x7D c.before.before.before.args.at c.before.before.before.requires c.match.keys4)
 
 returns-5 : tie.Need-returns-5
 returns-5 c = square_open _ (read_at c.before.before.before.args.text.now 0x5B c.before.before.before.args.at c.before.before.before.requires c.match.keys5)
 
 returns-6 : tie.Need-returns-6
-returns-6 c = square_close _ (read_at c.before.before.before.args.text.now 0x5D c.before.before.before.args.at c.before.before.before.requires c.match.keys6)
+returns-6 c = square_close_lem _ (read_at c.before.before.before.args.text.now 0x5D c.before.before.before.args.at c.before.before.before.requires c.match.keys6)
 
 returns-7 : tie.Need-returns-7
 returns-7 c = comma _ (read_at c.before.before.before.args.text.now 0x2C c.before.before.before.args.at c.before.before.before.requires c.match.keys7)
