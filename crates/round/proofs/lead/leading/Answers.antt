@@ -1,8 +1,7 @@
--- The move is the model's, arm by arm.
+-- Directly behind `(` alone a comma leads.
 -- Assumes nothing.
-use Rattle.std.proofs.Common.{arith}
 use Rattle.moves.proofs.Moved.{moved}
 use Rattle.round.proofs.lead.leading.Goals as goal
 
 pub returns : goal.returns
-returns c = λ forms. moved (grind arith)
+returns c = λ forms. rw c.in-Opened.is (moved c.want.ensures)
