@@ -15,7 +15,6 @@ use Rattle.rules.proofs.Matches.{inside, ending}
 use Rattle.rules.proofs.Tests.{says_no}
 use Rattle.lexicon.specs.declared.Base.{Base}
 use Rattle.lexicon.specs.declared.Encoding.{Encoding}
-use Rattle.lexicon.specs.declared.Encoding.TheVariants as Encoding
 use Rattle.lexicon.specs.Bytes.{radix}
 use Rattle.lexicon.specs.Literals.{integer}
 use Rattle.lexicon.specs.Utf8.{WellFormed, Encoded}
@@ -24,7 +23,6 @@ use Rattle.lexicon.proofs.Answers.{encoded_as}
 use Rattle.reading.specs.Sizes.{base}
 use Rattle.values.specs.declared.IntegerAnswer.{IntegerAnswer}
 use Rattle.integer_value.specs.declared.digits.Size.{Size}
-use Rattle.integer_value.specs.declared.digits.Size.TheVariants as Size
 use Rattle.values.specs.Exactly.{Exactly}
 use Rattle.values.specs.Integer.{refusal, IntegerAnswers, too_long, not_utf8, not_integer, outside, accepted}
 use Rattle.integer_value.specs.Parts as Parts

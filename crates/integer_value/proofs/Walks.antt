@@ -13,7 +13,6 @@ use Rattle.lexicon.specs.Values.{Digits, last_unit, next_unit, digit, value, val
 use Rattle.lexicon.proofs.Groups.{digits_at, digits_forward, unit_end, joint_end}
 use Rattle.lexicon.proofs.Numbers.{clear}
 use Rattle.integer_value.specs.declared.digits.Size.{Size}
-use Rattle.integer_value.specs.declared.digits.Size.TheVariants as Size
 use Rattle.integer_value.specs.Parts.{Counted, Ends, Total}
 use Rattle.integer_value.proofs.Numbers.{radix_some, grows}
 
