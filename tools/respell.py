@@ -29,6 +29,7 @@ USE = re.compile(r"\b(?:ghost )?use ([^\s;{]+?)\.?(?:\{([^}]*)\})?(?: as (\S+?))
 # strings, comments and all else of an .antt or .rt file, in order
 ANTT = re.compile(r'"(?:[^"\\\n]|\\.)*"|(?<![^\s(){}.;,@"«»])--[^\n]*|\{-.*?-\}', re.S)
 RUST = re.compile(r"""//[^\n]*|b?"(?:\\.|[^"\\])*"|b?'(?:\\.[^']*|[^'\\])'""", re.S)
+CLAUSE = re.compile(r"ghost use [^;]*;|\b(?:requires|ensures|ghost)\*?\s*(?:\w+\s*:?\s*)?\{")
 SPAN = re.compile(r"`[^`\n]+`")
 FENCE = re.compile(r"^( *)```.*?^\1```", re.S | re.M)
 INDENTED = re.compile(r"(?m)^(?:    |\t).*$")
@@ -126,9 +127,13 @@ class Turner:
     def __init__(self, turned):
         self.turned, self.clashes = turned, []
 
-    def words(self, text, kept, only=None):
+    def words(self, text, kept, only=None, old=False):
+        """The text with its names turned; those alone that `only` has, if it is given; and, if `old`, those alone of the older spelling."""
+
         def one(m):
             word = m[0]
+            if old and not is_old(word.rstrip("'")):
+                return word
             bare = word.rstrip("'")
             new = word if word in kept else self.turned.get(word)
             if new is None and bare != word and bare not in kept and bare in self.turned:
@@ -139,14 +144,31 @@ class Turner:
 
         return re.sub(rf"({NAME}) as \1(?={END})", r"\1", re.sub(NAME, one, text))
 
+    def clauses(self, text, kept):
+        out, at = [], 0
+        for m in CLAUSE.finditer(text):
+            if m.start() < at:
+                continue
+            end, depth = m.end(), 1
+            while m[0].endswith("{") and end < len(text) and depth:
+                depth += {"{": 1, "}": -1}.get(text[end], 0)
+                end += 1
+            out.append(self.words(text[at:m.start()], kept, old=True))
+            out.append(self.words(text[m.start():end], kept))
+            at = end
+        out.append(self.words(text[at:], kept, old=True))
+        return "".join(out)
+
     def code(self, path, text, quiet):
         kept = from_libraries(text)
         if re.search(r"/proofs/.+/", path):
             kept |= goals(text)
         own = set(re.findall(NAME, quiet.sub(" ", text)))
         out, at = [], 0
+        # a function of code may be spelled as a lemma is: outside clauses no name turns but of the older spelling
+        turn = (lambda part: self.clauses(part, kept)) if quiet is RUST else (lambda part: self.words(part, kept))
         for m in quiet.finditer(text):
-            out.append(self.words(text[at:m.start()], kept))
+            out.append(turn(text[at:m.start()]))
             said = m[0]
             if said.startswith(("--", "{-")):
                 said = self.words(said, kept, own)
@@ -154,7 +176,7 @@ class Turner:
                 said = SPAN.sub(lambda s: self.words(s[0], kept), said)
             out.append(said)
             at = m.end()
-        out.append(self.words(text[at:], kept))
+        out.append(turn(text[at:]))
         new = {}
         for word in own:
             new.setdefault(self.words(word, kept), set()).add(word)

@@ -1,0 +1,16 @@
+-- `token::bad::bad_place` meets its contract: by the token's kind. Assumes nothing.
+use borrow.Author.Rules.{rules}
+use mathlib.Core.Path.{ap, ◌∙◌}
+use Rattle.lexicon.specs.declared.Kind.TheVariants.{Text}
+use Rattle.lexicon.proofs.Variants.{no_text, not_in_quotes}
+use Rattle.token.proofs.Places.{points_first, points_inside}
+use Rattle.token.proofs.bad.bad_place.Goals as goal
+
+pub returns-in_default : goal.returns-in_default
+returns-in_default c = points_first _ (no_text _ c.in_default.keys2 _)
+
+pub returns-in_default-form : goal.returns-in_default-form
+returns-in_default-form c = points_first _ (not_in_quotes _ c.in-Text.is c.in_default-form.keys2)
+
+pub returns : goal.returns
+returns c = points_inside _ (c.in-Text.is ∙ ap Text c.in-Quoted.is) c.first_bad.ensures

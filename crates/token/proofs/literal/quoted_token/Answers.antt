@@ -1,0 +1,13 @@
+-- `token::literal::quoted_token` meets its contract. Assumes nothing.
+use Rattle.token.proofs.Dispatch.{quoted_none, quoted_is}
+use Rattle.lexicon.proofs.Answers.{judged_at, judged_none}
+use mathlib.Core.Path.{refl}
+use borrow.Author.Rules.{rules}
+use Rattle.token.proofs.literal.quoted_token.Goals as goal
+
+pub returns-in_default : goal.returns-in_default
+returns-in_default c = (refl, quoted_none _ c.requires (judged_none _ c.in_default.is c.quoted.ensures))
+
+pub returns : goal.returns
+returns c = let l = judged_at _ c.in-At.is c.quoted.ensures in
+    (refl, quoted_is _ l.0 l.1)

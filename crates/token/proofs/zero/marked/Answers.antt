@@ -1,0 +1,18 @@
+-- `token::zero::marked` meets its contract. Assumes nothing.
+use Rattle.token.proofs.Dispatch.{bits_is, blob_is, code_is, zero_only}
+use Rattle.lexicon.proofs.Answers.{judged_at, judged_none, found_at, found_none}
+use mathlib.Core.Path.{refl}
+use borrow.Author.Rules.{rules}
+use Rattle.token.proofs.zero.marked.Goals as goal
+
+pub returns-in-At : goal.returns-in-At
+returns-in-At c = (refl, bits_is _ (found_at c.in-At.is c.bits.ensures))
+
+pub returns-in-At-blob : goal.returns-in-At-blob
+returns-in-At-blob c = (refl, blob_is _ (judged_at _ c.in-At-blob.is c.blob.ensures))
+
+pub returns-in-At-code_point : goal.returns-in-At-code_point
+returns-in-At-code_point c = (refl, code_is _ (judged_at _ c.in-At-code_point.is c.code_point.ensures))
+
+pub number_token-requires : goal.number_token-requires
+number_token-requires c = (c.requires.0.0, zero_only _ c.requires.0 c.requires.1 (found_none c.in_default.is c.bits.ensures) (judged_none _ c.in_default-blob.is c.blob.ensures) (judged_none _ c.in_default-code_point.is c.code_point.ensures))
