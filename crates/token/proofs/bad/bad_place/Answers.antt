@@ -7,10 +7,10 @@ use Rattle.token.proofs.Places.{points_first, points_inside}
 use Rattle.token.proofs.bad.bad_place.Goals as goal
 
 pub returns-in_default : goal.returns-in_default
-returns-in_default c = points_first _ (no_text _ c.in_default.keys2 _)
+returns-in_default c = points_first _ (c.in_default.not-Text _)
 
 pub returns-in_default-form : goal.returns-in_default-form
-returns-in_default-form c = points_first _ (not_in_quotes _ c.in-Text.is c.in_default-form.keys2)
+returns-in_default-form c = points_first _ (not_in_quotes _ c.in-Text.is c.in_default-form.not-Quoted)
 
 pub returns : goal.returns
 returns c = points_inside _ (c.in-Text.is ∙ ap Text c.in-Quoted.is) c.first_bad.ensures

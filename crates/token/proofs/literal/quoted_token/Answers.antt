@@ -6,8 +6,8 @@ use borrow.Author.Rules.{rules}
 use Rattle.token.proofs.literal.quoted_token.Goals as goal
 
 pub returns-in_default : goal.returns-in_default
-returns-in_default c = (refl, quoted_none _ c.requires (judged_none _ c.in_default.is c.quoted.ensures))
+returns-in_default c = (refl, quoted_none _ c.requires c.in_default.ensures)
 
 pub returns : goal.returns
-returns c = let l = judged_at _ c.in-At.is c.quoted.ensures in
+returns c = let l = c.in-At.ensures in
     (refl, quoted_is _ l.0 l.1)

@@ -3,7 +3,7 @@ use mathlib.Core.Path.{refl}
 use Rattle.rules.specs.Rule.{nothing}
 use Rattle.token.proofs.Bytes.{read_at}
 use Rattle.token.proofs.Symbols.{round_open, round_close_lem, curly_open, curly_close_lem, square_open, square_close_lem, comma, other_none}
-use borrow.Author.Rules.{rules}
+use native.Mathlib.Omega.{arith}
 use Rattle.token.proofs.symbol.symbol_at.Goals as goal
 
 pub star-requires : goal.star-requires
@@ -40,4 +40,4 @@ pub returns-in-44 : goal.returns-in-44
 returns-in-44 c = comma _ (read_at c.args.text.now 0x2C c.args.at c.requires c.in-44.is)
 
 pub returns-in_default : goal.returns-in_default
-returns-in_default c = other_none _ _ _ refl c.in_default.rest.0.0.0.0.0.0.0.0.0.0.1 c.in_default.rest.0.0.0.0.0.0.0.0.0.1 c.in_default.rest.0.0.0.0.0.0.0.0.1 c.in_default.rest.0.0.0.0.0.0.0.1 c.in_default.rest.0.0.0.0.0.0.1 c.in_default.rest.0.0.0.0.0.1 c.in_default.rest.0.0.0.0.1 c.in_default.rest.0.0.0.1 c.in_default.rest.0.0.1 c.in_default.rest.0.1 c.in_default.rest.1
+returns-in_default c = other_none _ _ _ refl (omega arith) (omega arith) (omega arith) (omega arith) (omega arith) (omega arith) (omega arith) (omega arith) (omega arith) (omega arith) (omega arith)

@@ -9,10 +9,10 @@ pub returns-in-At : goal.returns-in-At
 returns-in-At c = (refl, bits_is _ (found_at c.in-At.is c.bits.ensures))
 
 pub returns-in-At-blob : goal.returns-in-At-blob
-returns-in-At-blob c = (refl, blob_is _ (judged_at _ c.in-At-blob.is c.blob.ensures))
+returns-in-At-blob c = (refl, blob_is _ c.in-At-blob.ensures)
 
 pub returns-in-At-code_point : goal.returns-in-At-code_point
-returns-in-At-code_point c = (refl, code_is _ (judged_at _ c.in-At-code_point.is c.code_point.ensures))
+returns-in-At-code_point c = (refl, code_is _ c.in-At-code_point.ensures)
 
 pub number_token-requires : goal.number_token-requires
-number_token-requires c = (c.requires.0.0, zero_only _ c.requires.0 c.requires.1 (found_none c.in_default.is c.bits.ensures) (judged_none _ c.in_default-blob.is c.blob.ensures) (judged_none _ c.in_default-code_point.is c.code_point.ensures))
+number_token-requires c = (c.requires.0.0, zero_only _ c.requires.0 c.requires.1 (found_none c.in_default.is c.bits.ensures) c.in_default-blob.ensures c.in_default-code_point.ensures)
