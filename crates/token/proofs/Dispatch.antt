@@ -34,13 +34,10 @@ use Rattle.lexicon.proofs.Tokens.{every, for_every, begins, begins_with, outreac
 use Rattle.lexicon.proofs.Unique.{integer_below}
 use Rattle.word.specs.Heads.{Tells}
 use Rattle.number.specs.declared.Numeral.{Numeral}
-use Rattle.number.specs.declared.Numeral.TheVariants as Numeral
 use Rattle.number.specs.Fraction.{NumeralAt}
 use Rattle.lexicon.specs.declared.Next.{Next}
-use Rattle.lexicon.specs.declared.Next.TheVariants as Next
 use Rattle.token.specs.declared.symbol.Symbol as Symbols
 use Rattle.token.specs.declared.zero.Fixed.{Fixed}
-use Rattle.token.specs.declared.zero.Fixed.TheVariants as Fixed
 use Rattle.token.specs.Answers.{NoSymbol, Symboled, NoneAt, TokenAt, StartsAt, NumberOnly, Marked, FixedAt, NotOpening}
 use Rattle.token.proofs.Symbols.{taken_as}
 use Rattle.token.proofs.Starts.{nothing_starts}

@@ -7,15 +7,12 @@ use Rattle.lexicon.specs.declared.Sign.{Sign}
 use Rattle.lexicon.specs.declared.Kind.{Kind}
 use Rattle.lexicon.specs.declared.Kind.TheVariants.{Colon}
 use Rattle.lexicon.specs.declared.Next.{Next}
-use Rattle.lexicon.specs.declared.Next.TheVariants as Next
 use Rattle.lexicon.specs.Symbols.{symbol}
 use Rattle.lexicon.specs.Bytes.{word_start, decimal}
 use Rattle.lexicon.specs.Literals.{ignorance, boolean, later}
 use Rattle.lexicon.specs.Token.{Lexeme, an_integer, a_fraction, a_symbol, rule, Here, Is, Bad}
 use Rattle.token.specs.declared.symbol.Symbol.{Symbol}
-use Rattle.token.specs.declared.symbol.Symbol.TheVariants as Symbol
 use Rattle.token.specs.declared.zero.Fixed.{Fixed}
-use Rattle.token.specs.declared.zero.Fixed.TheVariants as Fixed
 
 -- no symbol stands at i
 pub record NoSymbol (text : List ℕ) (i : ℕ) : Type 0 where

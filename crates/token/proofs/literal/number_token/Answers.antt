@@ -1,7 +1,6 @@
 -- `token::literal::number_token` meets its contract. Assumes nothing.
 use Rattle.token.proofs.Dispatch.{integer_is, fraction_is, number_none, integer_found, fraction_found, numeral_missing, signed_plus, signed_other}
 use mathlib.Core.Path.{refl}
-use borrow.Author.Rules.{rules}
 use Rattle.token.proofs.literal.number_token.Goals as goal
 
 pub returns-then-b-eq43 : goal.returns-then-b-eq43

@@ -1,8 +1,6 @@
 -- `token::literal::quoted_token` meets its contract. Assumes nothing.
 use Rattle.token.proofs.Dispatch.{quoted_none, quoted_is}
-use Rattle.lexicon.proofs.Answers.{judged_at, judged_none}
 use mathlib.Core.Path.{refl}
-use borrow.Author.Rules.{rules}
 use Rattle.token.proofs.literal.quoted_token.Goals as goal
 
 pub returns-in_default : goal.returns-in_default

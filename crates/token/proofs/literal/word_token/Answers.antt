@@ -2,7 +2,6 @@
 use Rattle.token.proofs.Dispatch.{word_none, word_is}
 use Rattle.lexicon.proofs.Answers.{found_at, found_none}
 use mathlib.Core.Path.{refl}
-use borrow.Author.Rules.{rules}
 use Rattle.token.proofs.literal.word_token.Goals as goal
 
 pub returns-in_default : goal.returns-in_default

@@ -2,7 +2,6 @@
 use Rattle.token.proofs.Dispatch.{symbol_found, symbol_missing, minus_only, none_starts}
 use mathlib.Core.Path.{refl}
 use Rattle.token.proofs.Bytes.{read_at}
-use borrow.Author.Rules.{rules}
 use Rattle.token.proofs.next.punctuation.Goals as goal
 
 pub returns-in-At : goal.returns-in-At

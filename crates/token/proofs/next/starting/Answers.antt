@@ -2,7 +2,6 @@
 use Rattle.token.proofs.Dispatch.{nonzero_only, plus_only}
 use Rattle.lexicon.specs.declared.Set.TheVariants.{WordStart, Decimal}
 use Rattle.token.proofs.Bytes.{read_at, by_class}
-use borrow.Author.Rules.{rules}
 use Rattle.token.proofs.next.starting.Goals as goal
 
 pub quoted_token-requires : goal.quoted_token-requires

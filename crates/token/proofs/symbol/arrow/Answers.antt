@@ -1,7 +1,6 @@
 -- `token::symbol::arrow` meets its contract. Assumes nothing.
 use Rattle.rules.proofs.Tests.{there, not_there}
 use Rattle.token.proofs.Symbols.{right_arrow_lem, dash_none}
-use borrow.Author.Rules.{rules}
 use Rattle.token.proofs.symbol.arrow.Goals as goal
 
 pub returns-then-stands : goal.returns-then-stands

@@ -4,7 +4,6 @@ use mathlib.Core.Path.{refl, ap}
 use borrow.Author.Tests.{not-true, not-false}
 use Rattle.rules.proofs.Tests.{there, not_there}
 use Rattle.token.proofs.Starts.{colon_answer, one_colon, two_colons, three_colons, more_colons}
-use borrow.Author.Rules.{rules}
 use Rattle.token.proofs.symbol.colons.Goals as goal
 
 pub returns-then-not-stands : goal.returns-then-not-stands

@@ -1,7 +1,6 @@
 -- `token::symbol::dots` meets its contract. Assumes nothing.
 use Rattle.rules.proofs.Tests.{there, not_there}
 use Rattle.token.proofs.Symbols.{two_dots_lem, dot_none}
-use borrow.Author.Rules.{rules}
 use Rattle.token.proofs.symbol.dots.Goals as goal
 
 pub returns-then-stands : goal.returns-then-stands

@@ -6,7 +6,6 @@ use borrow.Author.Tests.{not-true, not-false}
 use Rattle.rules.specs.Rule.{byte, both}
 use Rattle.rules.proofs.Tests.{there, not_there}
 use Rattle.token.proofs.Symbols.{left_arrow_lem, less_none}
-use borrow.Author.Rules.{rules}
 use Rattle.token.proofs.symbol.less.Goals as goal
 
 pub returns-then-stands : goal.returns-then-stands

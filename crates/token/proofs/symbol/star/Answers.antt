@@ -4,7 +4,6 @@ use mathlib.Core.Path.{ap}
 use borrow.Author.Tests.{not-true, not-false}
 use Rattle.rules.proofs.Tests.{there, not_there}
 use Rattle.token.proofs.Symbols.{open_star, less_star, less_equal_star}
-use borrow.Author.Rules.{rules}
 use Rattle.token.proofs.symbol.star.Goals as goal
 
 pub returns-then-not-stands : goal.returns-then-not-stands

@@ -1,8 +1,6 @@
 -- `token::zero::fixed_at` meets its contract: one comparison a spelling.
 -- Assumes nothing.
 use Rattle.token.proofs.Dispatch.{ignorance_is, false_is, true_is, later_is, spelled_none}
-use mathlib.Core.Path.{refl}
-use borrow.Author.Rules.{rules}
 use Rattle.token.proofs.zero.fixed_at.Goals as goal
 
 pub spells-requires : goal.spells-requires
@@ -31,8 +29,8 @@ returns-then-spells-4 c = later_is _ (c.spells-4.ensures.true_holds c.if-spells-
 
 pub returns : goal.returns
 returns c = record {
-      no_ignorance = spelled_none _ "0sIGNORANCE" _ c.spells.result c.spells.ensures c.if-spells.false;
-      no_false = spelled_none _ "0bFALSE" _ c.spells-2.result c.spells-2.ensures c.if-spells-2.false;
-      no_true = spelled_none _ "0bTRUE" _ c.spells-3.result c.spells-3.ensures c.if-spells-3.false;
-      no_later = spelled_none _ "0L" _ c.spells-4.result c.spells-4.ensures c.if-spells-4.false;
-    }
+  no_ignorance = spelled_none _ "0sIGNORANCE" _ c.spells.result c.spells.ensures c.if-spells.false;
+  no_false = spelled_none _ "0bFALSE" _ c.spells-2.result c.spells-2.ensures c.if-spells-2.false;
+  no_true = spelled_none _ "0bTRUE" _ c.spells-3.result c.spells-3.ensures c.if-spells-3.false;
+  no_later = spelled_none _ "0L" _ c.spells-4.result c.spells-4.ensures c.if-spells-4.false;
+}

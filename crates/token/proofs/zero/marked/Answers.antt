@@ -1,8 +1,7 @@
 -- `token::zero::marked` meets its contract. Assumes nothing.
 use Rattle.token.proofs.Dispatch.{bits_is, blob_is, code_is, zero_only}
-use Rattle.lexicon.proofs.Answers.{judged_at, judged_none, found_at, found_none}
+use Rattle.lexicon.proofs.Answers.{found_at, found_none}
 use mathlib.Core.Path.{refl}
-use borrow.Author.Rules.{rules}
 use Rattle.token.proofs.zero.marked.Goals as goal
 
 pub returns-in-At : goal.returns-in-At

@@ -1,7 +1,6 @@
 -- `token::zero::zero` meets its contract. Assumes nothing.
 use Rattle.token.proofs.Dispatch.{fixed_found, fixed_missing}
 use mathlib.Core.Path.{refl}
-use borrow.Author.Rules.{rules}
 use Rattle.token.proofs.zero.zero.Goals as goal
 
 pub returns-in-At : goal.returns-in-At
