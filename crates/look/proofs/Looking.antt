@@ -8,13 +8,10 @@ use Rattle.lexicon.specs.declared.Form.TheVariants as Form
 use Rattle.lexicon.specs.declared.Kind.TheVariants as Kind
 use Rattle.lexicon.specs.declared.Token as Token
 use Rattle.lexicon.specs.declared.Next.{Next}
-use Rattle.lexicon.specs.declared.Next.TheVariants as Next
 use Rattle.lexicon.specs.Token.{Comes}
 use Rattle.reading.proofs.Rows.{pick, no_end, no_none}
 use Rattle.look.specs.declared.answer.Got.{Got}
-use Rattle.look.specs.declared.answer.Got.TheVariants as Got
 use Rattle.look.specs.declared.head.Headed.{Headed}
-use Rattle.look.specs.declared.head.Headed.TheVariants as Headed
 use Rattle.look.specs.Looks.{Gets, HeadHere, NoHead, Heads}
 
 -- ---- tokens

@@ -8,21 +8,16 @@ use native.Mathlib.Omega.{arith}
 use lib.ListN.{length}
 use Rattle.lexicon.specs.declared.Form.{Form}
 use Rattle.lexicon.specs.declared.Kind.{Kind}
-use Rattle.lexicon.specs.declared.Kind.TheVariants as Kind
 use Rattle.lexicon.specs.declared.Token as Token
 use Rattle.lexicon.specs.declared.Next.{Next}
-use Rattle.lexicon.specs.declared.Next.TheVariants as Next
 use Rattle.lexicon.specs.Token.{Comes}
 use Rattle.lexicon.proofs.Determined.{one_answer}
 use Rattle.lexicon.proofs.Pieces.{token_bounds}
 use Rattle.token.specs.Places.{PointsIn}
 use Rattle.token.proofs.Places.{bad_placed}
 use Rattle.look.specs.declared.answer.Got.{Got}
-use Rattle.look.specs.declared.answer.Got.TheVariants as Got
 use Rattle.look.specs.declared.names.Further.{Further}
-use Rattle.look.specs.declared.names.Further.TheVariants as Further
 use Rattle.look.specs.declared.names.Named.{Named}
-use Rattle.look.specs.declared.names.Named.TheVariants as Named
 use Rattle.look.specs.Looks.{Gets, NotNext}
 use Rattle.look.specs.Names.{ColonsNext, ColonsHere, NameNext, NameHere, unnamed_by}
 

@@ -2,10 +2,8 @@
 use Rattle.std.specs.Prelude.{List, ℕ}
 use Rattle.lexicon.specs.declared.Token as Token
 use Rattle.lexicon.specs.declared.Next.{Next}
-use Rattle.lexicon.specs.declared.Next.TheVariants as Next
 use Rattle.lexicon.specs.Token.{Comes}
 use Rattle.look.specs.declared.answer.Read.{Read}
-use Rattle.look.specs.declared.answer.Read.TheVariants as Read
 
 module _ (text : List ℕ) where
   -- what stands behind the value: a token, no token, or the end, which leaves the reading as it is

@@ -3,20 +3,15 @@ use Rattle.std.specs.Prelude.{◌≡◌, ◌⊎◌, List, ℕ}
 use Rattle.lexicon.specs.declared.Head.{Head}
 use Rattle.lexicon.specs.declared.Form.TheVariants as Form
 use Rattle.lexicon.specs.declared.Kind.{Kind}
-use Rattle.lexicon.specs.declared.Kind.TheVariants as Kind
 use Rattle.lexicon.specs.declared.Token as Token
 use Rattle.lexicon.specs.declared.Next.TheVariants as Next
 use Rattle.lexicon.specs.declared.Encoding.{Encoding}
-use Rattle.lexicon.specs.declared.Encoding.TheVariants as Encoding
 use Rattle.lexicon.specs.Token.{Comes}
 use Rattle.reading.specs.declared.Answer.{Answer}
 use Rattle.reading.specs.Answers.{answer}
 use Rattle.look.specs.declared.answer.Read.{Read}
-use Rattle.look.specs.declared.answer.Read.TheVariants as Read
 use Rattle.look.specs.declared.answer.Got.{Got}
-use Rattle.look.specs.declared.answer.Got.TheVariants as Got
 use Rattle.look.specs.declared.head.Headed.{Headed}
-use Rattle.look.specs.declared.head.Headed.TheVariants as Headed
 
 module _ (text : List ℕ) where
   -- a token, or why there is none where one must come

@@ -6,13 +6,9 @@ use Rattle.lexicon.specs.declared.Token as Token
 use Rattle.lexicon.specs.declared.Next.TheVariants as Next
 use Rattle.lexicon.specs.Token.{BadPlace, Comes}
 use Rattle.look.specs.declared.answer.Read.{Read}
-use Rattle.look.specs.declared.answer.Read.TheVariants as Read
 use Rattle.look.specs.declared.answer.Got.{Got}
-use Rattle.look.specs.declared.answer.Got.TheVariants as Got
 use Rattle.look.specs.declared.names.Further.{Further}
-use Rattle.look.specs.declared.names.Further.TheVariants as Further
 use Rattle.look.specs.declared.names.Named.{Named}
-use Rattle.look.specs.declared.names.Named.TheVariants as Named
 use Rattle.look.specs.Looks.{NotNext}
 
 module _ (text : List ℕ) where
