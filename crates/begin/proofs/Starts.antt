@@ -9,7 +9,6 @@ use Rattle.grammar.specs.Tokens.{Mark, class_kind}
 use Rattle.reading.specs.declared.Limits.{Limits}
 use Rattle.moves.specs.declared.Forms.{Forms}
 use Rattle.begin.specs.declared.Begin.{Begin}
-use Rattle.begin.specs.declared.Begin.TheVariants as Begin
 use Rattle.begin.specs.Begins.{Begins, a_mark}
 
 module _ (text : List ℕ) (limits : Limits) (forms : Forms) (d : ℕ) (t : Token.Token) where

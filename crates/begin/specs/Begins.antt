@@ -10,7 +10,6 @@ use Rattle.grammar.specs.Level.{has_head}
 use Rattle.reading.specs.declared.Limits.{Limits}
 use Rattle.moves.specs.declared.Forms.{Forms}
 use Rattle.moves.specs.declared.Style.{Style}
-use Rattle.moves.specs.declared.Style.TheVariants as Style
 use Rattle.moves.specs.declared.Front.TheVariants as Front
 use Rattle.moves.specs.declared.CurlyFrame.TheVariants as Curly
 use Rattle.moves.specs.declared.SquareFrame.TheVariants as Square
@@ -21,7 +20,6 @@ use Rattle.look.specs.declared.answer.Got.{Got}
 use Rattle.look.specs.Looks.{Gets, HeadHere, NoHead}
 use Rattle.level.specs.declared.Collection.TheVariants as Collection
 use Rattle.begin.specs.declared.Begin.{Begin}
-use Rattle.begin.specs.declared.Begin.TheVariants as Begin
 use Rattle.level.specs.Levels.{Collects}
 use Rattle.begin.specs.Signs.{literal}
 
