@@ -28,12 +28,10 @@ use Rattle.values.specs.Blob.{blob_call}
 use Rattle.values.proofs.BytesDetermined.{Good}
 use Rattle.values.proofs.BitsAndBlobs.{blob_settled}
 use Rattle.blob_value.specs.declared.Kind.{Kind}
-use Rattle.blob_value.specs.declared.Kind.TheVariants as Kind
 use Rattle.blob_value.specs.declared.mark.Mark.{Mark}
 use Rattle.blob_value.specs.declared.mark.Mark.TheVariants.{BlobBinary, BlobHexadecimal, BlobBase64, BitsBinary, BitsOctal, BitsHexadecimal}
 use Rattle.blob_value.specs.Marks.{kind_of}
 use Rattle.blob_value.specs.declared.value.Verdict.{Verdict}
-use Rattle.blob_value.specs.declared.value.Verdict.TheVariants as Verdict
 use Rattle.blob_value.specs.Spread.{Whole, Has}
 use Rattle.blob_value.specs.Calls.{call_of, Sound, Judged, other, bad, good}
 

@@ -1,24 +1,14 @@
 -- Marks and digits: what the small functions over them answer. Assumes nothing.
-use mathlib.Core.Path.{◌≡◌, refl, sym, ap, subst, ◌∙◌}
-use mathlib.Core.List.{[], ◌∷◌}
+use mathlib.Core.Path.{◌≡◌, refl, sym, ap, ◌∙◌}
 use Prim.Native.Nat.{ℕ, ◌*◌, ◌/◌, ◌%◌, ◌^◌, ◌≤◌, ◌<◌}
 use native.Mathlib.Omega.{arith}
-use types.Run.{OneOf, miss}
-use denote.Enum.Declared.{tag_of}
 use borrow.Author.Tests.{eq-eqb, ne_eqb, lt-ltb, le-ltb}
 use Rattle.rules.specs.Class.{byte_of}
 use Rattle.lexicon.specs.Values.{digit}
 use Rattle.lexicon.specs.Parts.{sextet}
 use Rattle.blob_value.specs.declared.Kind.{Kind}
-use Rattle.blob_value.specs.declared.Kind.TheVariants as Kind
 use Rattle.blob_value.specs.declared.mark.Mark.{Mark}
-use Rattle.blob_value.specs.declared.mark.Mark.TheVariants.{BlobBase64}
-use Rattle.blob_value.specs.contracts.mark.Mark as MarkType
 use Rattle.blob_value.specs.Marks.{width_of, size_of, value_of}
-
--- the other marks
-pub not_base64 : (m : Mark) → OneOf (0 ∷ 1 ∷ 3 ∷ 4 ∷ 5 ∷ []) (tag_of MarkType.the_type m) → m ≡ BlobBase64 → ⊥
-not_base64 m o e = miss (0 ∷ 1 ∷ 3 ∷ 4 ∷ 5 ∷ []) 2 tt (subst (λ (x : Mark). OneOf (0 ∷ 1 ∷ 3 ∷ 4 ∷ 5 ∷ []) (tag_of MarkType.the_type x)) e o)
 
 pub radix_told : {m k : Mark} → m ≡ k → 2 ^ width_of k ≡ 2 ^ width_of m
 radix_told e = ap (λ (m : Mark). 2 ^ width_of m) (sym e)

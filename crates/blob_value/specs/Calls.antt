@@ -8,11 +8,9 @@ use Rattle.values.specs.Bytes.{Call, BadPiece, PieceBytes}
 use Rattle.values.specs.Blob.{blob_call}
 use Rattle.values.specs.Bits.{bits_call}
 use Rattle.blob_value.specs.declared.Kind.{Kind}
-use Rattle.blob_value.specs.declared.Kind.TheVariants as Kind
 use Rattle.blob_value.specs.declared.mark.Mark.{Mark}
 use Rattle.blob_value.specs.declared.mark.Mark.TheVariants.{BlobBase64}
 use Rattle.blob_value.specs.declared.value.Verdict.{Verdict}
-use Rattle.blob_value.specs.declared.value.Verdict.TheVariants as Verdict
 use Rattle.blob_value.specs.Marks.{kind_of}
 use Rattle.blob_value.specs.Spread.{Whole, Has}
 

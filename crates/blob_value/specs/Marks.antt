@@ -6,7 +6,6 @@ use Rattle.lexicon.specs.Bytes.{binary, octal, hexadecimal, base64}
 use Rattle.lexicon.specs.Values.{digit}
 use Rattle.lexicon.specs.Parts.{sextet}
 use Rattle.blob_value.specs.declared.Kind.{Kind}
-use Rattle.blob_value.specs.declared.Kind.TheVariants as Kind
 use Rattle.blob_value.specs.declared.mark.Mark.{Mark}
 use Rattle.blob_value.specs.declared.mark.Mark.TheVariants.{BlobBinary, BlobHexadecimal, BlobBase64}
 use Rattle.blob_value.specs.declared.mark.Mark.TheVariants.{BitsBinary, BitsOctal, BitsHexadecimal}

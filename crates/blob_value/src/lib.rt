@@ -6,7 +6,7 @@ mod spread;
 pub mod value;
 
 // Which of the two calls.
-#[derive(Drop)]
+#[derive(Clone, Copy)]
 enum Kind {
     Blob,
     Bits,

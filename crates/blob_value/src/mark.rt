@@ -6,7 +6,7 @@ use crate::Kind;
 use text::digit::{digit, sextet};
 
 // The marks `0xb`, `0xx`, `0xy` of Blobs and `0bb`, `0bo`, `0bx` of Bits.
-#[derive(Drop)]
+#[derive(Clone, Copy)]
 pub enum Mark {
     BlobBinary,
     BlobHexadecimal,

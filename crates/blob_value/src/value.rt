@@ -131,6 +131,7 @@ fn padding(piece: &[u8], mark: Mark) -> usize
 }
 
 // The bytes if they fit. They are measured first, so that nothing is written where they don't.
+#[tactic(auto, using(crate::proofs::Calls::too_small))]
 fn fitting(piece: &[u8], mark: Mark, buffer: &mut [u8]) -> Answer
     requires { Sound piece.now mark × (length piece.now ≤ rules.text) × WellFormed piece.now }
     ensures { BytesAnswers (call_of (kind_of mark)) rules piece.now buffer.old result buffer.new }

@@ -1,0 +1,11 @@
+-- The invariant of the loop of `blob_value::spread::units`: the bytes of the units before `i` are put, up to `n`.
+use Prim.Native.Nat.{◌-◌}
+use lib.ListN.{length}
+use Rattle.blob_value.proofs.Walks.{Walk}
+use Rattle.blob_value.proofs.spread.units.Given as goal
+
+abbrev pub invariant-loop-i : goal.invariant-loop-i
+invariant-loop-i l = Walk l.piece l.mark l.at l.initial.buffer l.i l.buffer l.n
+
+abbrev pub decreases-loop-i : goal.decreases-loop-i
+decreases-loop-i l = length l.piece - l.i
