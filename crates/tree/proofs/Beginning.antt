@@ -1,9 +1,9 @@
 -- How a value begins, by its first token: what the begun value is to the machine, one law for each way. Assumes nothing.
 use mathlib.Core.Path.{◌≡◌, refl, sym, ap, subst, ◌∙◌}
-use mathlib.Core.Logic.{◌⊎◌, ⊎_elim}
+use mathlib.Core.Logic.{⊎_elim}
 use mathlib.Core.Bool.{Bool, true, false}
 use mathlib.Core.List.{List, [], ◌∷◌}
-use mathlib.Core.Option.{none, some}
+use mathlib.Core.Option.{some}
 use Prim.Native.Nat.{ℕ, suc, ◌≤◌, ◌<◌}
 use native.Mathlib.Omega.{arith}
 use lib.ListN.{length}
@@ -11,14 +11,13 @@ use Rattle.lexicon.specs.declared.Head.{Head}
 use Rattle.lexicon.specs.declared.Form.TheVariants as Form
 use Rattle.lexicon.specs.declared.Sign.TheVariants as Sign
 use Rattle.lexicon.specs.declared.Kind.{Kind}
-use Rattle.lexicon.specs.declared.Kind.TheVariants as Kind
 use Rattle.lexicon.specs.declared.Token as Token
 use Rattle.lexicon.proofs.Pieces.{token_bounds}
 use Rattle.grammar.specs.Tokens
 use Rattle.grammar.specs.Tokens.{Span, Mark, Class, class_kind}
 use Rattle.grammar.specs.Tree as Tree
 use Rattle.grammar.specs.Yield.{collection_head}
-use Rattle.grammar.specs.Level.{Level, intervals, has_head, has_collection}
+use Rattle.grammar.specs.Level.{Level, has_head, has_collection}
 use Rattle.grammar.proofs.Frames as Frames
 use Rattle.grammar.proofs.Frames.{Config, Stack, want, have, want_curly}
 use Rattle.grammar.proofs.Machine.{when, want_class, have_class, head_colon, step}
@@ -30,20 +29,16 @@ use Rattle.reading.proofs.Decide.{is_arrow, not_arrow}
 use Rattle.reading.proofs.At as Place
 use Rattle.moves.specs.declared.Forms.{Forms}
 use Rattle.moves.specs.declared.Style.{Style}
-use Rattle.moves.specs.declared.Style.TheVariants as Style
 use Rattle.moves.specs.declared.Front.TheVariants as Front
 use Rattle.moves.specs.declared.CurlyFrame.TheVariants as Curly
 use Rattle.moves.specs.declared.SquareFrame.TheVariants as Square
 use Rattle.moves.specs.declared.Frame.TheVariants as Frame
-use Rattle.moves.specs.declared.Mode.TheVariants as Mode
 use Rattle.moves.specs.declared.Mode.{Mode}
 use Rattle.moves.specs.Means.{level_of, mode_of, inside, open_of, below, children, collection_style}
 use Rattle.moves.specs.Effects.{held, opening}
 use Rattle.look.specs.declared.answer.Got.{Got}
 use Rattle.begin.specs.declared.Begin.{Begin}
-use Rattle.begin.specs.declared.Begin.TheVariants as Begin
 use Rattle.level.specs.declared.Collection.{Collection}
-use Rattle.level.specs.declared.Collection.TheVariants as Collection
 use Rattle.look.specs.Looks.{Gets, HeadHere, NoHead}
 use Rattle.level.specs.Levels.{Collects}
 use Rattle.begin.specs.Signs.{literal}

@@ -9,7 +9,6 @@ use lib.ListN.{length}
 use Rattle.lexicon.specs.declared.Head.{Head}
 use Rattle.lexicon.specs.declared.Form.TheVariants as Form
 use Rattle.lexicon.specs.declared.Kind.{Kind}
-use Rattle.lexicon.specs.declared.Kind.TheVariants as Kind
 use Rattle.lexicon.specs.declared.Token as Token
 use Rattle.grammar.specs.Tokens
 use Rattle.grammar.specs.Tokens.{Span, Atom, Wording, Class, class_kind}
@@ -23,7 +22,6 @@ use Rattle.grammar.proofs.Machine.{text_value, want_class}
 use Rattle.reading.proofs.At.{plain, kind_of, class_kind_lem, literal_on, bad_here}
 use Rattle.moves.specs.declared.Role.TheVariants as Role
 use Rattle.moves.specs.declared.Shape.{Shape}
-use Rattle.moves.specs.declared.Shape.TheVariants as Shape
 use Rattle.moves.specs.Means.{level_of, shape_of}
 use Rattle.table.specs.declared.Entry.{Entry}
 use Rattle.table.specs.Over.{entry_words, Stored, Written}

@@ -7,9 +7,7 @@ use Prim.Native.Nat.{ℕ, ◌+◌, ◌≤◌, ◌<◌}
 use native.Mathlib.Omega.{arith}
 use lib.ListN.{length}
 use Rattle.lexicon.specs.declared.Form.{Form}
-use Rattle.lexicon.specs.declared.Form.TheVariants as Form
 use Rattle.lexicon.specs.declared.Kind.{Kind}
-use Rattle.lexicon.specs.declared.Kind.TheVariants as Kind
 use Rattle.lexicon.specs.declared.Token as Token
 use Rattle.lexicon.proofs.Pieces.{token_bounds}
 use Rattle.grammar.specs.Tokens
@@ -29,9 +27,7 @@ use Rattle.moves.specs.Means.{level_of}
 use Rattle.table.specs.declared.Entry.{Entry}
 use Rattle.table.specs.Over.{entry_words, Stored}
 use Rattle.table.proofs.Written.{told_put, written_node}
-use Rattle.look.specs.declared.answer.Read.TheVariants as Read
 use Rattle.look.specs.declared.names.Named.{Named}
-use Rattle.look.specs.declared.names.Named.TheVariants as Named
 use Rattle.look.specs.declared.answer.Read.{Read}
 use Rattle.look.specs.Looks.{NotNext}
 use Rattle.tree.specs.Readers.{span_of, Stands, Faulty, Asks, Nesting}

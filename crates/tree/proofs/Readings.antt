@@ -3,13 +3,9 @@ use mathlib.Core.Path.{◌≡◌, refl, sym, ap, subst, ◌∙◌}
 use mathlib.Core.Bool.{Bool, true, false, not, false≢true}
 use mathlib.Core.Logic.{inl, inr}
 use mathlib.Core.List.{List, [], ◌∷◌, append-nil}
-use mathlib.Core.Option.{none}
 use Prim.Native.Nat.{ℕ, suc, ◌+◌, ◌-◌, ◌*◌, ◌≤◌, ◌<◌}
 use native.Mathlib.Omega.{arith}
 use lib.ListN.{length, length-append}
-use types.Run.{OneOf, miss}
-use denote.Enum.Declared.{tag_of}
-use Rattle.moves.specs.contracts.Move as MoveType
 use Rattle.rules.proofs.Bools.{clash}
 use Rattle.lexicon.specs.declared.Head.{Head}
 use Rattle.lexicon.specs.declared.Token as Token
@@ -35,14 +31,10 @@ use Rattle.reading.proofs.At.{none_here, end_here, sign_on}
 use Rattle.reading.proofs.Depth.{depth_is}
 use Rattle.moves.specs.declared.Forms.{Forms}
 use Rattle.moves.specs.declared.Shape.{Shape}
-use Rattle.moves.specs.declared.Shape.TheVariants as Shape
 use Rattle.moves.specs.declared.RoundFrame.TheVariants as Round
 use Rattle.moves.specs.declared.Frame.{Frame}
-use Rattle.moves.specs.declared.Frame.TheVariants as Frame
 use Rattle.moves.specs.declared.Mode.{Mode}
-use Rattle.moves.specs.declared.Mode.TheVariants as Mode
 use Rattle.moves.specs.declared.Move.{Move}
-use Rattle.moves.specs.declared.Move.TheVariants as Move
 use Rattle.moves.specs.Means.{level_of, given, shape_of, frame_of, mode_of, inside, framed}
 use Rattle.moves.specs.Effects.{head_bare, nested, opening_frame, held, Does, Begins, Asked}
 use Rattle.moves.specs.Moves.{Moves}
@@ -50,14 +42,10 @@ use Rattle.table.specs.Over.{Written, Raised, Reserved}
 use Rattle.table.proofs.Written.{written_nothing, written_more}
 use Rattle.table.proofs.Raised.{raised_value, raised_length, reserved_written, reserved_length}
 use Rattle.look.specs.declared.answer.Read.{Read}
-use Rattle.look.specs.declared.answer.Read.TheVariants as Read
 use Rattle.look.specs.declared.answer.Got.{Got}
-use Rattle.look.specs.declared.answer.Got.TheVariants as Got
 use Rattle.begin.specs.declared.Begin.{Begin}
-use Rattle.begin.specs.declared.Begin.TheVariants as Begin
 use Rattle.tree.specs.declared.bracket.State as State
 use Rattle.tree.specs.declared.bracket.Turn.{Turn}
-use Rattle.tree.specs.declared.bracket.Turn.TheVariants as Turn
 use Rattle.look.specs.Looks.{Gets, NoHead, handed_on}
 use Rattle.look.proofs.Looking.{got_token}
 use Rattle.begin.specs.Signs.{no_mark, is_close_of}
@@ -132,8 +120,8 @@ want_same_lem : {a b : Frame} → Mode.Want a ≡ Mode.Want b → a ≡ b
 want_same_lem e = cc
 
 -- a move that begins no value, as the code tells it
-pub signs_told : (m : Move) → OneOf (1 ∷ 2 ∷ 3 ∷ 4 ∷ 5 ∷ 6 ∷ 7 ∷ 8 ∷ []) (tag_of MoveType.the_type m) → signs m ≡ true
-signs_told (Move.Value f) x = absurd (miss (1 ∷ 2 ∷ 3 ∷ 4 ∷ 5 ∷ 6 ∷ 7 ∷ 8 ∷ []) 0 tt x)
+pub signs_told : (m : Move) → ((f : Frame) → m ≡ Move.Value f → ⊥) → signs m ≡ true
+signs_told (Move.Value f) x = absurd (x f refl)
 signs_told (Move.To m r) x = refl
 signs_told Move.Tuple x = refl
 signs_told (Move.Count y) x = refl

@@ -29,16 +29,13 @@ use Rattle.reading.proofs.Decide.{is_arrow, not_arrow}
 use Rattle.reading.proofs.At.{At, opens, sign_on, literal_on, open_on, never_bad, may_be_bad, plain, kind_of, curly_known, sign_wrong, not_here, deep_here, retired_here, class_kind_lem}
 use Rattle.moves.specs.declared.Forms.{Forms}
 use Rattle.moves.specs.declared.Role.{Role}
-use Rattle.moves.specs.declared.Role.TheVariants as Role
 use Rattle.moves.specs.declared.Shape.{Shape}
-use Rattle.moves.specs.declared.Shape.TheVariants as Shape
 use Rattle.moves.specs.declared.Style.{Style}
 use Rattle.moves.specs.declared.Frame.{Frame}
 use Rattle.moves.specs.declared.Mode.{Mode}
 use Rattle.moves.specs.declared.Move.{Move}
-use Rattle.moves.specs.declared.Move.TheVariants as Move
 use Rattle.moves.specs.Means.{given, level_of, role_of, shape_of, before, last, children, open_of}
-use Rattle.moves.specs.Effects.{flat, counting, opening, held, Leads, Paired, told, Does}
+use Rattle.moves.specs.Effects.{flat, counting, opening, held, Leads, Paired, Does}
 use Rattle.moves.proofs.Steps.{paired_held, paired_named}
 use Rattle.table.specs.Over.{Written, Stored, Assigned, Put, entry_words}
 use Rattle.table.proofs.Words.{roled_length}
@@ -46,7 +43,6 @@ use Rattle.table.proofs.Written.{told_put, written_more, written_node, written_f
 use Rattle.look.specs.declared.answer.Read.TheVariants as Read
 use Rattle.tree.specs.declared.bracket.State as State
 use Rattle.tree.specs.declared.bracket.Turn.{Turn}
-use Rattle.tree.specs.declared.bracket.Turn.TheVariants as Turn
 use Rattle.begin.specs.Signs.{is_close_of}
 use Rattle.tree.specs.declared.leaf.Telling as Telling
 use Rattle.tree.specs.Tellings.{leaf_detail, LeafTold}

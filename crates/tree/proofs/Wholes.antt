@@ -2,14 +2,13 @@
 use mathlib.Core.Path.{◌≡◌, refl, sym, ap, subst, ◌∙◌}
 use mathlib.Core.List.{List, [], ◌++◌}
 use mathlib.Core.Option.{none, some}
-use Prim.Native.Nat.{ℕ, ◌+◌, ◌*◌, ◌≤◌, ◌<◌}
+use Prim.Native.Nat.{ℕ, ◌*◌, ◌≤◌, ◌<◌}
 use native.Mathlib.Omega.{arith}
 use lib.ListN.{length, drop}
 use Rattle.lexicon.specs.declared.Token as Token
 use Rattle.lexicon.specs.declared.Next.TheVariants as Next
 use Rattle.lexicon.specs.declared.Encoding.{Encoding}
-use Rattle.lexicon.specs.declared.Encoding.TheVariants as Encoding
-use Rattle.lexicon.specs.Utf8.{WellFormed, BadAt, Encoded}
+use Rattle.lexicon.specs.Utf8.{Encoded}
 use Rattle.lexicon.specs.Front.{Front}
 use Rattle.lexicon.specs.Token.{Comes}
 use Rattle.lexicon.proofs.Pieces.{token_bounds}
@@ -35,11 +34,8 @@ use Rattle.moves.specs.Means.{level_of}
 use Rattle.table.specs.Over.{Written}
 use Rattle.table.proofs.Written.{written_whole}
 use Rattle.look.specs.declared.answer.Read.{Read}
-use Rattle.look.specs.declared.answer.Read.TheVariants as Read
 use Rattle.look.specs.declared.answer.Got.{Got}
-use Rattle.look.specs.declared.answer.Got.TheVariants as Got
 use Rattle.level.specs.declared.Leveled.{Leveled}
-use Rattle.level.specs.declared.Leveled.TheVariants as Leveled
 use Rattle.look.specs.Looks.{Gets, handed_on, unformed_by}
 use Rattle.look.specs.Ends.{Behind, further, nothing, at_end}
 use Rattle.look.proofs.Looking.{got_token}

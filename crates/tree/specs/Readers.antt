@@ -4,7 +4,6 @@ use Rattle.std.proofs.Math.Option.{none}
 use Rattle.lexicon.specs.declared.Head.{Head}
 use Rattle.lexicon.specs.declared.Form.TheVariants as Form
 use Rattle.lexicon.specs.declared.Kind.{Kind}
-use Rattle.lexicon.specs.declared.Kind.TheVariants as Kind
 use Rattle.lexicon.specs.declared.Token as Token
 use Rattle.lexicon.specs.declared.Next.TheVariants as Next
 use Rattle.lexicon.specs.Token.{Comes}
@@ -23,19 +22,15 @@ use Rattle.reading.specs.Faults.{FirstFault}
 use Rattle.reading.proofs.At as Place
 use Rattle.moves.specs.declared.Forms.{Forms}
 use Rattle.moves.specs.declared.Shape.{Shape}
-use Rattle.moves.specs.declared.Shape.TheVariants as Shape
 use Rattle.moves.specs.declared.Frame.{Frame}
 use Rattle.moves.specs.declared.Mode.{Mode}
 use Rattle.moves.specs.declared.Move.{Move}
-use Rattle.moves.specs.declared.Move.TheVariants as Move
 use Rattle.moves.specs.Means.{level_of, shape_of, mode_of, inside, open_of, below, before, children}
 use Rattle.moves.specs.Effects.{head_bare, nested, held, opening, Does, Begins}
 use Rattle.table.specs.Over.{Written}
 use Rattle.look.specs.declared.answer.Read.{Read}
-use Rattle.look.specs.declared.answer.Read.TheVariants as Read
 use Rattle.tree.specs.declared.bracket.State as State
 use Rattle.tree.specs.declared.bracket.Turn.{Turn}
-use Rattle.tree.specs.declared.bracket.Turn.TheVariants as Turn
 use Rattle.look.specs.Looks.{NotNext, NoHead}
 use Rattle.begin.specs.Signs.{no_mark, is_close_of, literal}
 

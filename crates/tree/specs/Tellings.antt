@@ -1,12 +1,10 @@
 -- What a literal's node tells, and what the literal is to a colon; a token that is none tells nothing. Assumes nothing.
 use Rattle.std.specs.Prelude.{◌≡◌, ℕ}
 use Rattle.lexicon.specs.declared.Kind.{Kind}
-use Rattle.lexicon.specs.declared.Kind.TheVariants as Kind
 use Rattle.grammar.specs.Tokens
 use Rattle.grammar.specs.Tokens.{Wording, wording}
 use Rattle.grammar.specs.Nodes.{truth_detail, spelling_detail}
 use Rattle.moves.specs.declared.Shape.{Shape}
-use Rattle.moves.specs.declared.Shape.TheVariants as Shape
 use Rattle.tree.specs.declared.leaf.Telling.{Telling}
 
 abbrev pub wording_detail : Wording → ℕ

@@ -5,7 +5,6 @@ use Rattle.reading.specs.declared.Limits.{Limits}
 use Rattle.reading.specs.Sizes.{widest}
 use Rattle.reading.specs.Faults.{Retired}
 use Rattle.moves.specs.declared.Role.{Role}
-use Rattle.moves.specs.declared.Role.TheVariants as Role
 use Rattle.moves.specs.declared.Shape.TheVariants as Shape
 use Rattle.moves.specs.declared.Style.{Style}
 use Rattle.moves.specs.declared.Front.TheVariants as Front
@@ -13,14 +12,12 @@ use Rattle.moves.specs.declared.RoundFrame.TheVariants as Round
 use Rattle.moves.specs.declared.CurlyFrame.TheVariants as Curly
 use Rattle.moves.specs.declared.Frame.TheVariants as Frame
 use Rattle.moves.specs.declared.Mode.{Mode}
-use Rattle.moves.specs.declared.Mode.TheVariants as Mode
 use Rattle.table.specs.declared.Entry as Entry
 use Rattle.table.specs.Over.{Stored, entry_words, Assigned}
 use Rattle.tree.specs.Tellings.{leaf_kind, leaf_detail}
 use Rattle.look.specs.declared.answer.Read.TheVariants as Read
 use Rattle.tree.specs.declared.bracket.State as State
 use Rattle.tree.specs.declared.bracket.Turn.{Turn}
-use Rattle.tree.specs.declared.bracket.Turn.TheVariants as Turn
 
 -- ---- the numbers asked for
 

@@ -11,7 +11,6 @@ use Rattle.moves.specs.declared.Forms.{Forms}
 use Rattle.moves.specs.Means.{level_of}
 use Rattle.table.specs.Over.{Written}
 use Rattle.look.specs.declared.answer.Read.{Read}
-use Rattle.look.specs.declared.answer.Read.TheVariants as Read
 use Rattle.tree.specs.Readers.{Faulty}
 
 module _ (text : List ℕ) where
