@@ -1,6 +1,5 @@
 -- `tabled::judge` meets its contract. Assumes nothing.
 use native.Mathlib.Omega.{arith}
-use borrow.Author.Rules.{rules}
 use lib.ListN.{length-take}
 use Rattle.tabled.proofs.judge.Goals as goal
 

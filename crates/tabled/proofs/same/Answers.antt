@@ -1,9 +1,7 @@
 -- `tabled::same` meets its contract: the words before i are the same. Assumes nothing.
-use Prim.Native.Nat.{◌-◌, ◌≤◌}
 use native.Mathlib.Omega.{arith}
-use borrow.Author.Rules.{rules}
 use Rattle.rules.proofs.Tests.{says_no, says_yes}
-use Rattle.tabled.proofs.Words.{Same, one_more_lem, all_same, other}
+use Rattle.tabled.proofs.Words.{one_more_lem, all_same, other}
 use Rattle.tabled.proofs.same.Goals as goal
 
 pub loop-i-init : goal.loop-i-init
