@@ -5,8 +5,9 @@ usage: tools/respell.py [--check] [ROOT]
 
 Run once, behind the kit's port.py, which turns only the names that a library had too. A name turns in every file of ROOT (by default the
 checkout) that does not import it from a library: in definitions and proofs, in the clauses and ghost imports of code, in must-fail edits,
-and in the code spans of the pages. A lemma that would have its definition's name gets `_lem`. Functions of src/, strings, inputs and
-outputs keep their names, and a definition that has a function of its name beside it gets `_of`. --check writes nothing. It fails where two names of a file would fall together.
+and in the code spans of the pages. A lemma that would have its definition's name gets `_lem`; a record's field, which is reached by a dot
+or set in braces, may have that name. Functions of src/, strings, inputs and outputs keep their names, and a definition that has a function
+of its name beside it gets `_of`. --check writes nothing. It fails where two names of a file would fall together.
 """
 
 import collections
@@ -31,6 +32,11 @@ ANTT = re.compile(r'"(?:[^"\\\n]|\\.)*"|(?<![^\s(){}.;,@"«»])--[^\n]*|\{-.*?-\
 RUST = re.compile(r"""//[^\n]*|b?"(?:\\.|[^"\\])*"|b?'(?:\\.[^']*|[^'\\])'""", re.S)
 CLAUSE = re.compile(r"ghost use [^;]*;|\b(?:requires|ensures|ghost)\*?\s*(?:\w+\s*:?\s*)?\{")
 SPAN = re.compile(r"`[^`\n]+`")
+RECORD = re.compile(r"(?m)^( *)(?:(?:pub|abbrev|unfoldable) )*record [^\s(){}]")
+FIELD = re.compile(r"(?m)^ +(?:pub )?([^(){}:=→.,;\"\n]+) :(?= |$)")
+# a bracket, what parts fields, or a name
+PART = re.compile(rf"[({{\[)}}\];]|{NAME}")
+MARK = "\ue000"  # stands before a field's name while a file turns
 FENCE = re.compile(r"^( *)```.*?^\1```", re.S | re.M)
 INDENTED = re.compile(r"(?m)^(?:    |\t).*$")
 
@@ -74,6 +80,56 @@ def declared(root):
             for row in BOUND.findall(text):
                 found.update(it for it in row.split() if "-" not in it)
     return found
+
+
+def blank(text):
+    """The text of an .antt file with spaces for its strings and comments."""
+    return ANTT.sub(lambda m: re.sub(r"[^\n]", " ", m[0]), text)
+
+
+def records(text):
+    """Where the fields of each record begin and end, in a text without comments."""
+    for m in RECORD.finditer(text):
+        where = re.compile(r"\bwhere *\n").search(text, m.end())
+        end = where.end() if where else len(text)
+        below = re.compile(r"(?m)^ {0,%d}[^ \n]" % len(m[1])).search(text, end)
+        yield end, below.start() if below else len(text)
+
+
+def fields(text):
+    """The fields that the records of a text without comments declare, each with its record's place."""
+    for start, end in records(text):
+        for row in FIELD.findall(text[start:end]):
+            for name in row.split():
+                yield name, start, end
+
+
+def all_fields(root):
+    paths = files(os.path.join(root, "crates"), ".antt")
+    return {name for path in paths if is_lemma_file(path) for name, _, _ in fields(blank(read(path)))}
+
+
+def field_places(text, names):
+    """Where a word of `names` is a record's field: declared, behind a value's dot, or set in braces."""
+    text, found = blank(text), set()
+    for name, start, end in fields(text):
+        if name in names:
+            found.update(m.start() for m in re.compile(NAME).finditer(text, start, end) if m[0] == name)
+    for m in re.finditer(rf"(?<=\.){NAME}", text):
+        before = re.search(rf"({NAME})?\.$", text[max(0, m.start() - 200):m.start()])[1]
+        if m[0] in names and not (before and before[0].isupper()):
+            found.add(m.start())
+    within, last = [], ""
+    for m in PART.finditer(text):
+        it = m[0]
+        if it in "({[":
+            within.append(last == "record")
+        elif it in ")}]":
+            within = within[:-1]
+        elif it in names and last in ("{", ";") and within and within[-1]:
+            found.add(m.start())
+        last = it
+    return sorted(found)
 
 
 def renamed(root):
@@ -124,14 +180,18 @@ def goals(text):
 
 
 class Turner:
-    def __init__(self, turned):
+    def __init__(self, turned, fields=()):
         self.turned, self.clashes = turned, []
+        # the fields that a lemma's ending would be a mistake for
+        self.fields = {it for it in fields if turned.get(it) == snake(it) + "_lem"}
 
     def words(self, text, kept, only=None, old=False):
         """The text with its names turned; those alone that `only` has, if it is given; and, if `old`, those alone of the older spelling."""
 
         def one(m):
             word = m[0]
+            if word.startswith(MARK):
+                return snake(word[1:])
             if old and not is_old(word.rstrip("'")):
                 return word
             bare = word.rstrip("'")
@@ -164,6 +224,8 @@ class Turner:
         if re.search(r"/proofs/.+/", path):
             kept |= goals(text)
         own = set(re.findall(NAME, quiet.sub(" ", text)))
+        for at in reversed(field_places(text, self.fields - kept) if quiet is ANTT else []):
+            text = text[:at] + MARK + text[at:]
         out, at = [], 0
         # a function of code may be spelled as a lemma is: outside clauses no name turns but of the older spelling
         turn = (lambda part: self.clauses(part, kept)) if quiet is RUST else (lambda part: self.words(part, kept))
@@ -192,10 +254,20 @@ class Turner:
             out.append(self.words(line, kept) if line.startswith(("old:", "new:")) else SPAN.sub(lambda s: self.words(s[0], kept), line))
         return "\n".join(out)
 
-    def page(self, text):
+    def page(self, root, text):
         turn = lambda m: self.words(m[0], set())
+        own = set()
+
+        def span(m):
+            """A span that is a field's name alone, behind the file that declares it."""
+            nonlocal own
+            path = os.path.join(root, "crates", m[0].strip("`"))
+            if path.endswith(".antt") and os.path.exists(path):
+                own = {name for name, _, _ in fields(blank(read(path)))} & self.fields
+            return self.words(re.sub(rf"^`(?={NAME}`$)", "`" + MARK, m[0]) if m[0].strip("`") in own else m[0], set())
+
         text = FENCE.sub(turn, text)
-        return INDENTED.sub(turn, SPAN.sub(turn, text))
+        return INDENTED.sub(turn, SPAN.sub(span, text))
 
 
 def main(argv):
@@ -203,14 +275,14 @@ def main(argv):
     rest = [a for a in argv if a != "--check"]
     root = rest[0] if rest else os.path.dirname(os.path.dirname(os.path.abspath(__file__)))
     turned = table(declared(root))
-    turner = Turner({**{it: snake(it) for it in renamed(root)}, **turned})
+    turner = Turner({**{it: snake(it) for it in renamed(root)}, **turned}, all_fields(root))
     texts = {}
     for path in files(os.path.join(root, "crates"), ".antt", ".rt"):
         texts[path] = turner.code(path, read(path), ANTT if path.endswith(".antt") else RUST)
     for path in files(os.path.join(root, "crates"), ".edit"):
         texts[path] = turner.edit(root, path, read(path))
     for path in [os.path.join(root, "README.md")] + list(files(os.path.join(root, "docs"), ".md")):
-        texts[path] = turner.page(read(path))
+        texts[path] = turner.page(root, read(path))
     for it in turner.clashes:
         print("clash: " + it)
     changed = [p for p, t in texts.items() if read(p) != t]

@@ -75,10 +75,10 @@ module _ (text : List ℕ) where
       (λ k t. row text 0 (digits b) j (λ ds. f (value (radix b) ds)) (λ ds. P (value (radix b) ds)) (λ ds. s (value (radix b) ds)) k j (omega arith))))
     where
       to : (b : Base) × Prefixed P i j b → (v : ℕ) × Number text i j v × P v
-      to (b, (k, t, (ds, d, p))) = (value (radix b) ds, (b, record { start = k; before = t; bytes = ds; digits_are_lem = d; value_is = refl }), p)
+      to (b, (k, t, (ds, d, p))) = (value (radix b) ds, (b, record { start = k; before = t; bytes = ds; digits_are = d; value_is = refl }), p)
 
       from : (v : ℕ) × Number text i j v × P v → (b : Base) × Prefixed P i j b
-      from (v, (b, o), p) = (b, (o.start, o.before, (o.bytes, o.digits_are_lem, subst P o.value_is p)))
+      from (v, (b, o), p) = (b, (o.start, o.before, (o.bytes, o.digits_are, subst P o.value_is p)))
 
   pub number_takes : {s e v : ℕ} → Number text s e v → Takes text nonsigned s e
   number_takes m = to_nonsigned text m.0 (to_base text (numeral text m.1))

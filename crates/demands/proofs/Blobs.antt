@@ -29,7 +29,7 @@ use Rattle.demands.proofs.Fives.{whole, Begins, Valued, Agrees, bad_token, call_
 
 pub zero_begins : Begins zero
 unfolding never apart apart_span
-zero_begins = record { no_mark_lem = refl; no_line = refl; no_blank = refl }
+zero_begins = record { no_mark = refl; no_line = refl; no_blank = refl }
 
 -- a Blob begins with the digit 0
 blob_zero : opens zero blob ≡ true

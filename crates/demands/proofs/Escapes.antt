@@ -41,11 +41,11 @@ use Rattle.demands.proofs.Blobs.{zero_begins}
 
 quote_begins : Begins quote
 unfolding never apart apart_span
-quote_begins = record { no_mark_lem = refl; no_line = refl; no_blank = refl }
+quote_begins = record { no_mark = refl; no_line = refl; no_blank = refl }
 
 word_begins : Begins word_start
 unfolding never apart apart_span
-word_begins = record { no_mark_lem = refl; no_line = refl; no_blank = refl }
+word_begins = record { no_mark = refl; no_line = refl; no_blank = refl }
 
 word_opens : opens word_start word ≡ true
 unfolding opens includes in_some
@@ -121,7 +121,7 @@ module _ (rules : Rules) (text table : List ℕ) (level : ℕ) {r : Answer} {exi
         is = t.is;
         bad = t.bad;
         within = (place_from text t.at, place_within text (token_forward text t.is) t.at);
-        inside_quotes_lem = λ q. escape t.at q;
+        inside_quotes = λ q. escape t.at q;
         backslash = λ q. row_matches (codes "\\<") (plain text (first_bad_takes text (escape t.at q)));
         as_before = λ n. before t.at n;
         in_call = λ f q buffer kept c b.

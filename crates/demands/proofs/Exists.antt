@@ -69,7 +69,7 @@ module _ (limits : Limits) (bytes : List ℕ) (l : Level) where
     where
       go : Decided bytes (comes bytes) (bad_place bytes) limits l ts p → Outcome
       go (stops n q f) = stopped n q (record { before = ts; from = p; good = a; fault = f })
-      go (ends q b s) = finished s (record { from = p; good = a; ends = λ w. w.none s; at_end_lem = (refl, b.1, b.2, b.3) })
+      go (ends q b s) = finished s (record { from = p; good = a; ends = λ w. w.none s; at_end = (refl, b.1, b.2, b.3) })
       go (goes t d b f r) = again t d b (passed a b f) r
 
   -- each token takes a byte at least, so the bytes left are tokens enough

@@ -51,7 +51,7 @@ whole t = record { takes = t; most = λ m u. inside u (omega arith) }
 
 -- nothing that is dropped at the front begins with a byte of the class, nor does dividing space
 pub record Begins (c : Class) : Type 0 where
-  pub no_mark_lem : never c byte_order_mark ≡ true
+  pub no_mark : never c byte_order_mark ≡ true
   pub no_line : never c first_line ≡ true
   pub no_blank : never c blank ≡ true
 
@@ -69,7 +69,7 @@ module _ (text : List ℕ) (k : Kind) (is : Is text k 0 (length text)) (valued :
   at_front : Front text 0
   at_front =
       let f = (front text).1 in
-      subst (Front text) (not_dropped first_line begins.no_line (not_dropped byte_order_mark begins.no_mark_lem refl f.mark.takes) f.line.takes) f
+      subst (Front text) (not_dropped first_line begins.no_line (not_dropped byte_order_mark begins.no_mark refl f.mark.takes) f.line.takes) f
 
   abbrev token : Bool → Token.Token
   token b = record { kind = k; first = 0; end = length text; bad = b }

@@ -473,7 +473,7 @@ pub record BadLiteral (rules : Rules) (text : List ℕ) (place : ℕ) : Type 0 w
   -- in the literal, never before it
   pub within : (first ≤ place) × (place < end)
   -- 'the backslash of that escape, the first such one'
-  pub inside_quotes_lem : kind ≡ Text Quoted → FirstBad text first end place
+  pub inside_quotes : kind ≡ Text Quoted → FirstBad text first end place
   pub backslash : kind ≡ Text Quoted → between text place (place + 2) ≡ codes "\\<"
   -- 'Bare code points are as before', and so are Fractions and Blobs
   pub as_before : (kind ≡ Text Quoted → ⊥) → place ≡ first

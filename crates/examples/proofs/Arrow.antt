@@ -65,7 +65,7 @@ arrow =
       old = all_hold old_rules (omega arith) before old_tested;
       converted = all_rewritten old_rules conversions conversions_tested;
       written = λ lent h. told read_before (Buffer.written h);
-      no_room_lem = λ lent h. told read_before (Buffer.no_room h);
+      no_room = λ lent h. told read_before (Buffer.no_room h);
       passed_on = λ lent. refused broken_off;
       not_stored = λ lent. Files.refused read_today;
       still_accepted = accepted (record { read_as = answer 0 6 3; tree = tree; read = read_before; bytes_are = refl });

@@ -138,7 +138,7 @@ pub contents : Contents
 unfolding has all_below
 contents =
     record {
-      one_byte_lem =
+      one_byte =
           blob_hands "0xyAQ==" (0x01 ∷ []) refl
           (BlobOf.in_base64 (digits_are_lem (codes "0xyAQ==") "0xy" 3 base64 (codes "AQ==") refl) (below 256 (0x01 ∷ []) refl) encodes_one);
       three_bytes =
@@ -147,7 +147,7 @@ contents =
       eight_digits =
           blob_hands "0xb00000001" (0x01 ∷ []) refl
           (BlobOf.in_binary (digits_are_lem (codes "0xb00000001") "0xb" 7 binary (codes "00000001") refl) (below 256 (0x01 ∷ []) refl) refl);
-      no_byte_lem = blob_hands "0xy" [] refl (BlobOf.in_base64 (alone "0xy" refl 4 base64) none encodes_none);
+      no_byte = blob_hands "0xy" [] refl (BlobOf.in_base64 (alone "0xy" refl 4 base64) none encodes_none);
       octal =
           bits_hands "0bo17" (0 ∷ 0 ∷ 1 ∷ 1 ∷ 1 ∷ 1 ∷ []) refl (BitsOf.in_octal (digits_are_lem (codes "0bo17") "0bo" 0 octal (codes "17") refl));
       hexadecimal = bits_hands "0bxA" (1 ∷ 0 ∷ 1 ∷ 0 ∷ []) refl (BitsOf.in_hexadecimal (digits_are_lem (codes "0bxA") "0bx" 0 hexadecimal (codes "A") refl));
@@ -156,7 +156,7 @@ contents =
       four_pads = bad_blob_lem "0xy====" (codes "====") refl refl (more_than_two (omega arith));
       four_bits_left = bad_blob_lem "0xyAB==" (codes "AB==") refl refl four_left;
       two_bits_left = bad_blob_lem "0xyAAB=" (codes "AAB=") refl refl two_left;
-      not_at_end_lem = bad_blob_lem "0xyAA== AAAA" (codes "AA==AAAA") refl refl (not_at_end (codes "AA") (codes "=") (codes "AAA") (byte_of "A") (λ e. omega (arith, e)) refl);
+      not_at_end = bad_blob_lem "0xyAA== AAAA" (codes "AA==AAAA") refl refl (not_at_end (codes "AA") (codes "=") (codes "AAA") (byte_of "A") (λ e. omega (arith, e)) refl);
       three_of_four = nine blob_call "0xyTWF" refl refl;
       half_a_byte = nine blob_call "0xxA" refl refl;
       bits_for_blob = nine blob_call "0bb1" refl refl;

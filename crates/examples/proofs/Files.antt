@@ -99,7 +99,7 @@ pub files : Files
 files =
     record {
       written = λ lent h. Writes.written x_y_read h;
-      no_room_lem = λ lent h. Writes.no_room x_y_read h;
+      no_room = λ lent h. Writes.no_room x_y_read h;
       level_two = λ lent h. Writes.no_room from_to_read h;
       passed_on = λ lent. Writes.refused not_ended;
       stored = accepted pair_stored;

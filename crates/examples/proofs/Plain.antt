@@ -99,8 +99,8 @@ plain =
     record {
       forms = all_rewritten base rewritings tested;
       written = λ rest lent h. told (shown (reads (words 3 ++ rest) (long 3 rest)) refl) (Buffer.written h);
-      no_room_lem = λ rest lent h. told (shown (reads (words 3 ++ rest) (long 3 rest)) refl) (Buffer.no_room h);
-      other_table_lem = λ w rest lent n. not_shown w rest lent n;
+      no_room = λ rest lent h. told (shown (reads (words 3 ++ rest) (long 3 rest)) refl) (Buffer.no_room h);
+      other_table = λ w rest lent n. not_shown w rest lent n;
       table_first = λ w rest n. not_shown w rest [] n;
       short_table = λ table lent h. refused (Tabled.refused (too_many table h));
     }

@@ -90,14 +90,14 @@ pub all_positions : Positions
 unfolding has
 all_positions =
     record {
-      no_byte_lem = found _ _ _ 0 0 _ refl refl refl refl;
-      first_line_lem = found _ _ _ 0 1 _ refl refl refl refl;
+      no_byte = found _ _ _ 0 0 _ refl refl refl refl;
+      first_line = found _ _ _ 0 1 _ refl refl refl refl;
       at_the_feed = found _ _ _ 0 2 _ refl refl refl refl;
       behind_the_feed = found _ _ _ 3 3 _ refl refl refl refl;
       at_the_end = found _ _ _ 3 5 _ refl refl refl refl;
       beyond_the_end = found _ _ _ 3 5 _ refl refl refl refl;
       behind_the_last_feed = found _ _ _ 3 3 _ refl refl refl refl;
-      carriage_return_lem = found _ _ _ 0 1 _ refl refl refl refl;
+      carriage_return = found _ _ _ 0 1 _ refl refl refl refl;
       carriage_return_alone = found _ _ _ 2 3 _ refl refl refl refl;
       before_it = found _ _ _ 0 0 _ refl refl refl refl;
       inside_of_it = found _ _ _ 0 0 _ refl refl refl refl;

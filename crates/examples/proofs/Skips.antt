@@ -71,7 +71,7 @@ pub skips : Skips
 skips =
     record {
       listed = all_hold base (omega arith) skipped tested;
-      six_words_lem = λ lent h. record { tree = none; reading = no_room_lem (room base (length lent)) (omega (arith, h)); left_is = refl };
+      six_words = λ lent h. record { tree = none; reading = no_room_lem (room base (length lent)) (omega (arith, h)); left_is = refl };
       seven_words = λ lent h. record { tree = some (letter 0); reading = room_for_it (room base (length lent)) (omega (arith, h)); left_is = refl };
       too_few = λ lent. refused (Tabled.refused few);
       not_its_table = λ u v w lent. refused (other_table enough (λ h. absurd (omega (arith, ap (λ (l : List ℕ). get_or l 6 0) h))));

@@ -71,7 +71,7 @@ pub record Arrow : Type 0 where
   -- the converter, for every lent buffer
   pub written : (lent : List ℕ) → 5 ≤ length lent →
       Converts old_rules (codes "(b<-a)") lent 2 (answer 0 6 5) (codes "(a:b)" ++ drop 5 lent)
-  pub no_room_lem : (lent : List ℕ) → length lent < 5 → Converts old_rules (codes "(b<-a)") lent 2 (answer 8 6 5) lent
+  pub no_room : (lent : List ℕ) → length lent < 5 → Converts old_rules (codes "(b<-a)") lent 2 (answer 8 6 5) lent
   pub passed_on : (lent : List ℕ) → Converts old_rules (codes "(a<-$") lent 2 (answer 4 4 0) lent
   -- 'Nothing new is stored with an arrow', and what was stored before is accepted
   pub not_stored : (lent : List ℕ) → Writes base (codes "(b<-a)") lent (answer 15 2 0) lent

@@ -24,10 +24,10 @@ abbrev pub Refuses : Call → String → ℕ → Type 0
 Refuses call text number = RefusesAt call text number 0
 
 pub record Contents : Type 0 where
-  pub one_byte_lem : Hands blob_call "0xyAQ==" (0x01 ∷ [])
+  pub one_byte : Hands blob_call "0xyAQ==" (0x01 ∷ [])
   pub three_bytes : Hands blob_call "0xxA7_05 FF" (0xA7 ∷ 0x05 ∷ 0xFF ∷ [])
   pub eight_digits : Hands blob_call "0xb00000001" (0x01 ∷ [])
-  pub no_byte_lem : Hands blob_call "0xy" []
+  pub no_byte : Hands blob_call "0xy" []
   pub octal : Hands bits_call "0bo17" (0 ∷ 0 ∷ 1 ∷ 1 ∷ 1 ∷ 1 ∷ [])
   pub hexadecimal : Hands bits_call "0bxA" (1 ∷ 0 ∷ 1 ∷ 0 ∷ [])
   pub joined : Hands bits_call "0bb1_0 1" (1 ∷ 0 ∷ 1 ∷ [])
@@ -35,7 +35,7 @@ pub record Contents : Type 0 where
   pub four_pads : Refuses blob_call "0xy====" 5
   pub four_bits_left : Refuses blob_call "0xyAB==" 5
   pub two_bits_left : Refuses blob_call "0xyAAB=" 5
-  pub not_at_end_lem : Refuses blob_call "0xyAA== AAAA" 5
+  pub not_at_end : Refuses blob_call "0xyAA== AAAA" 5
   pub three_of_four : Refuses blob_call "0xyTWF" 9
   pub half_a_byte : Refuses blob_call "0xxA" 9
   pub bits_for_blob : Refuses blob_call "0bb1" 9

@@ -21,7 +21,7 @@ pub record Files : Type 0 where
   -- the writer, for every lent buffer
   pub written : (lent : List ℕ) → 45 ≤ length lent →
       Writes base (codes "(x:y)") lent (answer 0 5 45) (pair ++ drop 45 lent)
-  pub no_room_lem : (lent : List ℕ) → length lent < 45 → Writes base (codes "(x:y)") lent (answer 8 5 45) lent
+  pub no_room : (lent : List ℕ) → length lent < 45 → Writes base (codes "(x:y)") lent (answer 8 5 45) lent
   -- at level 1 this is refused
   pub level_two : (lent : List ℕ) → length lent < 45 → Writes base (codes "[1..10]") lent (answer 8 7 45) lent
   pub passed_on : (lent : List ℕ) → Writes base (codes "(x") lent (answer 6 2 0) lent

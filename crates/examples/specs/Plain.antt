@@ -61,10 +61,10 @@ pub record Plain : Type 0 where
   -- words behind those of the nodes are free, and bytes behind the plain form stay
   pub written : (rest lent : List ℕ) → 5 ≤ length lent →
       Writes base (codes "{a->b}") (words 3 ++ rest) lent 2 (answer 0 6 5) (codes "{a:b}" ++ drop 5 lent)
-  pub no_room_lem : (rest lent : List ℕ) → length lent < 5 →
+  pub no_room : (rest lent : List ℕ) → length lent < 5 →
       Writes base (codes "{a->b}") (words 3 ++ rest) lent 2 (answer 8 6 5) lent
   -- 14 comes behind the reader's 8
-  pub other_table_lem : (w : ℕ) (rest lent : List ℕ) → (w ≡ 3 → ⊥) →
+  pub other_table : (w : ℕ) (rest lent : List ℕ) → (w ≡ 3 → ⊥) →
       Writes base (codes "{a->b}") (words w ++ rest) lent 2 (answer 14 0 0) lent
   pub short_table : (table lent : List ℕ) → length table < 21 →
       Writes base (codes "{a->b}") table lent 2 (answer 8 6 3) lent

@@ -4,16 +4,16 @@ use Rattle.rules.specs.Class.{codes}
 use Rattle.values.specs.Position.{Position}
 
 pub record Positions : Type 0 where
-  pub no_byte_lem : Position [] 0 1 1
+  pub no_byte : Position [] 0 1 1
   -- the line feed is the last byte in its line, and behind it the next one begins
-  pub first_line_lem : Position (codes "ab\ncd") 1 1 2
+  pub first_line : Position (codes "ab\ncd") 1 1 2
   pub at_the_feed : Position (codes "ab\ncd") 2 1 3
   pub behind_the_feed : Position (codes "ab\ncd") 3 2 1
   pub at_the_end : Position (codes "ab\ncd") 5 2 3
   pub beyond_the_end : Position (codes "ab\ncd") 900 2 3
   pub behind_the_last_feed : Position (codes "ab\n") 3 2 1
   -- a carriage return is a character like any other
-  pub carriage_return_lem : Position (0x0D ∷ 0x0A ∷ 0x0D ∷ []) 1 1 2
+  pub carriage_return : Position (0x0D ∷ 0x0A ∷ 0x0D ∷ []) 1 1 2
   pub carriage_return_alone : Position (0x0D ∷ 0x0A ∷ 0x0D ∷ []) 3 2 2
   -- a longer sequence is one character, also inside of it
   pub before_it : Position (0xC3 ∷ 0xA9 ∷ codes "x") 0 1 1

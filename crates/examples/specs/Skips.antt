@@ -33,7 +33,7 @@ before = 9 ∷ 0 ∷ 5 ∷ 0 ∷ 0 ∷ 0 ∷ 7 ∷ 1 ∷ 2 ∷ 0 ∷ 1 ∷ 2 ∷
 pub record Skips : Type 0 where
   pub listed : AllHold base skipped
   -- 'words divided by 7, rounded down'
-  pub six_words_lem : (lent : List ℕ) → length lent < 7 → Answers base (codes "x") lent 2 (answer 8 1 1) lent
+  pub six_words : (lent : List ℕ) → length lent < 7 → Answers base (codes "x") lent 2 (answer 8 1 1) lent
   pub seven_words : (lent : List ℕ) → 7 ≤ length lent →
       Answers base (codes "x") lent 2 (answer 0 1 1) (7 ∷ 0 ∷ 1 ∷ 0 ∷ 0 ∷ 2 ∷ 1 ∷ drop 7 lent)
   -- the words of before, lent with their text, have no room for its nodes; with three more they are not its table

@@ -9,7 +9,7 @@ pub record Steps : Type 0 where
   pub seventeen : Utf8Answers (codes "aaaaaaaaaaaaaaaaa") 0 17 3
   pub eight : Utf8Answers (codes "aaaaaaaa") 0 8 1
   pub seven : Utf8Answers (codes "aaaaaaa") 0 7 7
-  pub no_byte_lem : Utf8Answers [] 0 0 0
+  pub no_byte : Utf8Answers [] 0 0 0
   -- a longer sequence is one step
   pub behind_eight : Utf8Answers (codes "aaaaaaaa" ++ (0xC3 ∷ 0xA9 ∷ [])) 0 10 2
   -- seven, the sequence, eight from place 9, and one; the look at FF is no step

@@ -120,7 +120,7 @@ pub record Parted (r : Rule) (n : ℕ) (c : Class) (a ds : List ℕ) : Type 0 wh
   pub rest : List ℕ
   pub whole : a ≡ front ++ rest
   pub before : Matches r front
-  pub digits_are_lem : Digits rest n c 0 (length rest) ds
+  pub digits_are : Digits rest n c 0 (length rest) ds
 
 abbrev Moving : (n : ℕ) (c : Class) (ds : List ℕ) → Moves (λ (text : List ℕ) (i j : ℕ). Digits text n c i j ds)
 Moving n c ds a b p q m w i j d h k = digits_moved a b p q m w n c d h k
@@ -133,7 +133,7 @@ part a r n c {k} {ds} t d =
       rest = between a k (length a);
       whole = sym (joined_between a 0 k (length a) (omega arith) h ∙ whole_between a);
       before = plain a t;
-      digits_are_lem = alone a h (omega arith) (λ (text : List ℕ) (i j : ℕ). Digits text n c i j ds) (Moving n c ds) d;
+      digits_are = alone a h (omega arith) (λ (text : List ℕ) (i j : ℕ). Digits text n c i j ds) (Moving n c ds) d;
     }
 
 pub unpart : (r : Rule) (n : ℕ) (c : Class) {a ds : List ℕ} → Parted r n c a ds → (k : ℕ) × Takes a r 0 k × Digits a n c k (length a) ds
@@ -143,7 +143,7 @@ unpart r n c {a} {ds} p =
     let f : length x + length g ≡ length (x ++ g) = omega (arith, length-append x g) in
     let t = ending e (there (x ++ g) x g 0 refl r ((takes_whole r x).1 p.before)) in
     let d = moves_there (x ++ g) g [] (length x) (drop-append_seam x g ∙ sym (append-nil g)) (λ (text : List ℕ) (i j : ℕ). Digits text n c i j ds)
-    (Moving n c ds) (omega (arith, f)) p.digits_are_lem in
+    (Moving n c ds) (omega (arith, f)) p.digits_are in
     subst (λ (l : List ℕ). (k : ℕ) × Takes l r 0 k × Digits l n c k (length l) ds) (sym p.whole)
     (length x, t, subst (λ (k : ℕ). Digits (x ++ g) n c (length x) k ds) f d)
 
@@ -156,7 +156,7 @@ bare_parted r n c a f e p =
       rest = bare p.rest;
       whole = ap bare p.whole ∙ s.on p.rest;
       before = s.matches;
-      digits_are_lem = bare_digits n c p.rest e p.digits_are_lem;
+      digits_are = bare_digits n c p.rest e p.digits_are;
     }
 
 -- ---- Blobs

@@ -50,8 +50,8 @@ number_bare : (d : List ℕ) {v : ℕ} → Number d 0 (length d) v → Number (b
 number_bare d (b, n) =
     let p = unpart (prefix b) 1 (digits b)
     (bare_parted (prefix b) 0 (digits b) d (prefix_fits numbers numbers_kept b) (sub (digits b) numbers (digits_numeric b))
-    (part d (prefix b) 1 (digits b) n.before n.digits_are_lem)) in
-    (b, record { start = p.0; before = p.1; bytes = n.bytes; digits_are_lem = p.2; value_is = n.value_is })
+    (part d (prefix b) 1 (digits b) n.before n.digits_are)) in
+    (b, record { start = p.0; before = p.1; bytes = n.bytes; digits_are = p.2; value_is = n.value_is })
 
 -- the number of bytes made bare is that of the bytes
 number_back_to : (d : List ℕ) {v : ℕ} → Matches nonsigned d → Number (bare d) 0 (length (bare d)) v → Number d 0 (length d) v

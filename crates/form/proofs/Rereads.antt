@@ -125,7 +125,7 @@ module _ (limits other : Limits) (l m : Level) (text : List ℕ) (v : Value) (d 
         front = plain_front text v ps;
         end = length P;
         row = subst (λ (r : List Tok). Follow P 0 r (length P)) row_is (spelled_reads text v ps);
-        at_end_lem = spelled_ends text v;
+        at_end = spelled_ends text v;
         sound = sound;
         shallow = shallow;
       }

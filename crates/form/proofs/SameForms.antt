@@ -140,5 +140,5 @@ module _ (limits : Limits) (l : Level) (text : List ℕ) (v : Value) (a : Accept
   same_forms other {b} {w} x m arrows =
       let ps = derived_pieces limits l text v (accepted_derived limits text a) in
       let t = plain_tree text v in
-      let row = whole_row (plain_form text v) (follows (plain_form text v) other b (plain_front text v ps) x.passed.good) x.passed.at_end_lem (spelled_reads text v ps) (spelled_ends text v) in
+      let row = whole_row (plain_form text v) (follows (plain_form text v) other b (plain_front text v ps) x.passed.good) x.passed.at_end (spelled_reads text v ps) (spelled_ends text v) in
       ap (keeps m) (one_tree w t.0 (row ∙ t.1)) ∙ tree_forms m arrows v t.0 t.2

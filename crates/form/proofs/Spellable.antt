@@ -53,7 +53,7 @@ module _ (l : Level) (v : Value) (of_level : keeps l v ≡ true) where
         end = end_of 0 ws;
         row = subst (λ (ts : List Tok). Follow (bytes_of ws) 0 ts (end_of 0 ws)) found.1
             (separate_all ws (samples_lone (yield_value v [])) (yielded_neighbours v));
-        at_end_lem = past_end (bytes_of ws) (end_of 0 ws) (omega (arith, end_is ws 0));
+        at_end = past_end (bytes_of ws) (end_of 0 ws) (omega (arith, end_is ws 0));
         sound = λ f c b. sound_all (bytes_of ws) stands refl f c b;
         same_classes = ap classes (sym found.1) ∙ same;
       }

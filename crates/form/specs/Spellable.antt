@@ -27,7 +27,7 @@ pub record Spellable (l : Level) (v : Value) : Type 0 where
   pub of_level : keeps l tree ≡ true
   pub end : ℕ
   pub row : Follow text 0 (yield_value tree []) end
-  pub at_end_lem : Comes text end (Next.End (length text))
+  pub at_end : Comes text end (Next.End (length text))
   -- none of them has a bad value
   pub sound : {before : List Tok} {p : ℕ} {t : Token.Token} → Follow text 0 before p → Comes text p (Next.Token t) →
       Bad text t.kind t.first t.end → ⊥

@@ -54,7 +54,7 @@ module _ (piece : List ℕ) where
       valued_beyond e f =
           record {
             integer = _;
-            integer_of = integer_of piece n m t.digits_are_lem;
+            integer_of = integer_of piece n m t.digits_are;
             signed =
                 subst (λ (x : IntegerAnswer). SignedOf (length piece) (cond minus (neg_ℤ (pos (value (radix b) t.bytes))) (pos (value (radix b) t.bytes))) x) (sym f)
                 (Parts.outside (size_outside minus _ (subst (λ (x : Size). Counted (value (radix b) t.bytes) x) e t.counted)));
@@ -65,7 +65,7 @@ module _ (piece : List ℕ) where
           let c = subst (λ (x : Size). Counted (value (radix b) t.bytes) x) e t.counted in
           record {
             integer = _;
-            integer_of = integer_of piece n m t.digits_are_lem;
+            integer_of = integer_of piece n m t.digits_are;
             signed = subst (λ (x : ℕ). SignedOf (length piece) (cond minus (neg_ℤ (pos x)) (pos x)) a) c.0 f;
           }
 

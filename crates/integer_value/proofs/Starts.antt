@@ -74,7 +74,7 @@ module _ (piece : List ℕ) where
 
   -- the digits of a literal
   pub literal_digits : {minus : Bool} {g s : ℕ} {b : Base} → Exactly integer piece → SignOf piece minus g → MarkOf piece g b s → Ends piece b s
-  literal_digits t n m = let x = of_integer piece n.start t in record { bytes = x.bytes; digits_are_lem = digits_of_lem refl m x.is }
+  literal_digits t n m = let x = of_integer piece n.start t in record { bytes = x.bytes; digits_are = digits_of_lem refl m x.is }
 
   -- and its integer
   pub integer_of : {minus : Bool} {g s : ℕ} {b : Base} {ds : List ℕ} → SignOf piece minus g → MarkOf piece g b s → Digits piece 1 (digits b) s (length piece) ds → IntegerOf piece 0 (length piece) (cond minus (neg_ℤ (pos (value (radix b) ds))) (pos (value (radix b) ds)))

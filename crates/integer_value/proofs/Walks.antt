@@ -27,7 +27,7 @@ pub record Walk (piece : List ℕ) (b : Base) (at i sum : ℕ) : Type 0 where
 module _ (piece : List ℕ) (b : Base) (at : ℕ) where
   pub walk_begins : Ends piece b at → Walk piece b at at 0
   walk_begins e =
-      record { whole = e.bytes; whole_are = e.digits_are_lem; rest = e.bytes; rest_are = e.digits_are_lem; so_far = refl }
+      record { whole = e.bytes; whole_are = e.digits_are; rest = e.bytes; rest_are = e.digits_are; so_far = refl }
 
   module _ (i sum : ℕ) (w : Walk piece b at i sum) where
     pub walk_within : i < length piece
@@ -44,7 +44,7 @@ module _ (piece : List ℕ) (b : Base) (at : ℕ) where
     pub walk_beyond : (r : Size) → Counted longer r → r ≡ Size.Beyond → Total piece b at Size.Beyond
     walk_beyond r k e =
         let h : 2 ^ 63 < longer = subst (λ (x : Size). Counted longer x) e k in
-        record { bytes = w.whole; digits_are_lem = w.whole_are; counted = let x = least w.rest_are in let y = w.so_far in omega arith }
+        record { bytes = w.whole; digits_are = w.whole_are; counted = let x = least w.rest_are in let y = w.so_far in omega arith }
 
     last : {ds : List ℕ} → Digits piece 1 (digits b) i (length piece) ds → i + 1 ≡ length piece → value_from (radix b) sum ds ≡ longer
     last (last_unit u) e = refl
@@ -58,7 +58,7 @@ module _ (piece : List ℕ) (b : Base) (at : ℕ) where
         let o = counted_of r v k e in
         let x = last w.rest_are h in
         let y = w.so_far in
-        record { bytes = w.whole; digits_are_lem = w.whole_are; counted = (omega arith, omega arith) }
+        record { bytes = w.whole; digits_are = w.whole_are; counted = (omega arith, omega arith) }
 
     step : {ds : List ℕ} (v k : ℕ) → Digits piece 1 (digits b) i (length piece) ds → value_from (radix b) sum ds ≡ value (radix b) w.whole → v ≡ longer → (i + 1 ≡ length piece → ⊥) → Longest piece (opt joint) (i + 1) k → Walk piece b at k v
     step v k (last_unit u) q e h j = absurd (h (sym (unit_end 1 (digits b) u)))

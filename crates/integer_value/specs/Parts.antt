@@ -33,12 +33,12 @@ module _ (piece : List ℕ) where
   -- the base's digits from i to the end of the piece
   pub record Ends (b : Base) (i : ℕ) : Type 0 where
     pub bytes : List ℕ
-    pub digits_are_lem : Digits piece 1 (digits b) i (length piece) bytes
+    pub digits_are : Digits piece 1 (digits b) i (length piece) bytes
 
   -- and their number
   pub record Total (b : Base) (i : ℕ) (s : Size) : Type 0 where
     pub bytes : List ℕ
-    pub digits_are_lem : Digits piece 1 (digits b) i (length piece) bytes
+    pub digits_are : Digits piece 1 (digits b) i (length piece) bytes
     pub counted : Counted (value (radix b) bytes) s
 
 -- the answer for the integer z of a literal that ends at n

@@ -74,7 +74,7 @@ module _ (text other : List ℕ) (s t : ℕ) where
   -- a row of units, with the same digits
   pub record Rows (n : ℕ) (c : Class) (j k : ℕ) (ds : List ℕ) : Type 0 where
     pub dest : ℕ
-    pub digits_are_lem : Digits other n c k dest ds
+    pub digits_are : Digits other n c k dest ds
     pub on : On j dest
 
   -- what moves with its bytes is the other's too
@@ -196,12 +196,12 @@ module _ (text other : List ℕ) (s t : ℕ) where
   pub row_on : (n : ℕ) (c : Class) (m : Mode) {i j k : ℕ} {ds : List ℕ} → Sub c ordinary → Reached m i k → Digits text (suc n) c i j ds → Rows (suc n) c j k ds
   row_on n c m {k = k} e o (last_unit u) =
       let v = unit_on (suc n) c e (begun m e o (unit_at n u)) u in
-      record { dest = v.0.dest; digits_are_lem = subst (Digits other (suc n) c k v.0.dest) (sym v.2) (last_unit v.1); on = v.0.on }
+      record { dest = v.0.dest; digits_are = subst (Digits other (suc n) c k v.0.dest) (sym v.2) (last_unit v.1); on = v.0.on }
   row_on n c m {k = k} e o (next_unit {ds = ds} u w d) =
       let v = unit_on (suc n) c e (begun m e o (unit_at n u)) u in
       let y = joint_on v.0.on w in
       let z = row_on n c loose e y.2 d in
-      record { dest = z.dest; digits_are_lem = subst (λ (l : List ℕ). Digits other (suc n) c k z.dest (l ++ ds)) (sym v.2) (next_unit v.1 y.1 z.digits_are_lem); on = z.on }
+      record { dest = z.dest; digits_are = subst (λ (l : List ℕ). Digits other (suc n) c k z.dest (l ++ ds)) (sym v.2) (next_unit v.1 y.1 z.digits_are); on = z.on }
 
   -- ---- quotes
 
@@ -247,7 +247,7 @@ module _ (text other : List ℕ) (s t : ℕ) where
   carries {m = m} (units n {c = c} e) o u =
       let d = to_row text (suc n) c u in
       let x = row_on n c m e o d.1 in
-      (x.dest, of_row other (suc n) c x.digits_are_lem, just_at x.on)
+      (x.dest, of_row other (suc n) c x.digits_are, just_at x.on)
   carries {m = m} (segments q) o (both (byte a e) u) =
       let x = segment_on (outside quote m quote_blank o a) (both (byte a e) u) in
       (x.dest, copied x (λ (l : List ℕ). Takes l segment) (takes_moves segment) (both (byte a e) u), just_at x.on)

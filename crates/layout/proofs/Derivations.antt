@@ -85,7 +85,7 @@ module _ (text other : List ℕ) (s : ℕ) (way : Ahead text other s s) (front :
         front = there;
         end = y.0;
         row = subst (λ (r : List Tok). Follow other s r y.0) (sym (tokens_moved g v)) y.1;
-        at_end_lem = end_on text other s s y.2 d.at_end_lem;
+        at_end = end_on text other s s y.2 d.at_end;
         sound = λ f c b. moved_sound f c b;
         shallow = moved_shallow;
       }

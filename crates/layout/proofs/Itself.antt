@@ -223,5 +223,5 @@ relaid_itself limits l text v d =
       start = d.start;
       front = d.front;
       same_front = refl;
-      behind = rest_alike text (join t (end_cut text (inside t h) d.at_end_lem));
+      behind = rest_alike text (join t (end_cut text (inside t h) d.at_end));
     }

@@ -52,8 +52,8 @@ module _ (text other : List ℕ) (s t : ℕ) where
   number_on : {i j k v : ℕ} → R loose i k → Number text i j v → Lands (λ k l. Number other k l v) j k
   number_on o (b, n) =
       let p = carries text other s t (prefix_fits ordinary numeric b) o n.before in
-      let q = row_on text other s t 0 (digits b) loose (digits_ordinary b) p.2 n.digits_are_lem in
-      (q.dest, (b, record { start = p.0; before = p.1; bytes = n.bytes; digits_are_lem = q.digits_are_lem; value_is = n.value_is }), q.on)
+      let q = row_on text other s t 0 (digits b) loose (digits_ordinary b) p.2 n.digits_are in
+      (q.dest, (b, record { start = p.0; before = p.1; bytes = n.bytes; digits_are = q.digits_are; value_is = n.value_is }), q.on)
 
   pub integer_on : {i j k : ℕ} {z : ℤ} → O i k → IntegerOf text i j z → Lands (λ k l. IntegerOf other k l z) j k
   unfolding opens includes in_some
@@ -82,7 +82,7 @@ module _ (text other : List ℕ) (s t : ℕ) where
   behind_on mark n c e f o (mark_digits u d) =
       let p = carries text other s t (seq (ink_fits ordinary (lit mark) e) space) (just_at o) u in
       let q = row_on text other s t n c loose f p.2 d in
-      (q.dest, mark_digits p.1 q.digits_are_lem, q.on)
+      (q.dest, mark_digits p.1 q.digits_are, q.on)
 
   pub bits_on : {i j k : ℕ} {bs : List ℕ} → O i k → BitsOf text i j bs → Lands (λ k l. BitsOf other k l bs) j k
   unfolding includes in_some

@@ -114,7 +114,7 @@ module _ (text : List ℕ) where
   pub to_significand : {i g j : ℕ} → Start text i g → Significand text g j → Takes text significand i j
   to_significand st (pointed {b} n s d) =
       let v = valued text n in
-      left (both (start_sign text st) (to_point b (both v.before (both (of_row text 1 (digits b) v.digits_are_lem) (both (to_spaced text 0x2E s) (of_row text 1 (digits b) d))))))
+      left (both (start_sign text st) (to_point b (both v.before (both (of_row text 1 (digits b) v.digits_are) (both (to_spaced text 0x2E s) (of_row text 1 (digits b) d))))))
   to_significand st (divided n s m) =
       right (both (to_integer text st n) (both (to_spaced text 0x2F s) (to_nonsigned text m.of (to_base text m.is))))
 

@@ -31,7 +31,7 @@ use Rattle.lexicon.proofs.Contents.{blob_forward}
 
 module _ (text : List ℕ) where
   pub number_forward : {i j v : ℕ} → Number text i j v → i < j
-  number_forward (b, n) = omega (arith, forward n.before, digits_forward n.digits_are_lem)
+  number_forward (b, n) = omega (arith, forward n.before, digits_forward n.digits_are)
 
   pub code_forward : {i j v : ℕ} → CodeOf text i j v → i ≤ j
   code_forward c = omega (arith, forward c.before, forward c.all_digits)
@@ -90,13 +90,13 @@ module _ (a b : List ℕ) (p q n : ℕ) (w : Window a b p q n) where
 
   pub number_moved : {i j v : ℕ} → Number a i j v → p ≤ i → j ≤ p + n → Number b (shift p q i) (shift p q j) v
   number_moved (c, x) h k =
-      let f = forward x.before in let g = digits_forward x.digits_are_lem in (
+      let f = forward x.before in let g = digits_forward x.digits_are in (
         c,
         record {
           start = shift p q x.start;
           before = on x.before h (omega (arith, g, k));
           bytes = x.bytes;
-          digits_are_lem = digits_moved 1 (digits c) x.digits_are_lem (omega (arith, f, h)) k;
+          digits_are = digits_moved 1 (digits c) x.digits_are (omega (arith, f, h)) k;
           value_is = x.value_is;
         },
       )

@@ -191,14 +191,14 @@ module _ (text : List ℕ) where
   -- a numeral's value by the grammar
   pub valued : {b : Base} {i j : ℕ} {ds : List ℕ} → Numeral text b i j ds → OfBase text b i j (value (radix b) ds)
   valued {b} {ds = ds} (marked {i = i} z x s d) =
-      record { start = _; before = mark_prefix b i z x s; bytes = ds; digits_are_lem = d; value_is = refl }
-  valued {ds = ds} (bare {i = i} d) = record { start = i; before = right (nothing refl); bytes = ds; digits_are_lem = d; value_is = refl }
+      record { start = _; before = mark_prefix b i z x s; bytes = ds; digits_are = d; value_is = refl }
+  valued {ds = ds} (bare {i = i} d) = record { start = i; before = right (nothing refl); bytes = ds; digits_are = d; value_is = refl }
 
   pub numeral : {b : Base} {i j v : ℕ} (o : OfBase text b i j v) → Numeral text b i j o.bytes
-  numeral {b} o = view b o.before o.digits_are_lem
+  numeral {b} o = view b o.before o.digits_are
 
   pub to_base : {b : Base} {i j : ℕ} {ds : List ℕ} → Numeral text b i j ds → Takes text (of_base b) i j
-  to_base {b} n = let v = valued n in both v.before (of_row text 1 (digits b) v.digits_are_lem)
+  to_base {b} n = let v = valued n in both v.before (of_row text 1 (digits b) v.digits_are)
 
   pub to_nonsigned : (b : Base) {i j : ℕ} → Takes text (of_base b) i j → Takes text nonsigned i j
   to_nonsigned b t = any_base_lem of_base b t

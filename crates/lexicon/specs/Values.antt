@@ -67,7 +67,7 @@ module _ (text : List ℕ) where
     pub start : ℕ
     pub before : Takes text (prefix b) i start
     pub bytes : List ℕ
-    pub digits_are_lem : Digits 1 (digits b) start j bytes
+    pub digits_are : Digits 1 (digits b) start j bytes
     pub value_is : v ≡ value (radix b) bytes
 
   abbrev pub Number : ℕ → ℕ → ℕ → Type 0

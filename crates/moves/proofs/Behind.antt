@@ -79,4 +79,4 @@ module _ (forms : Forms) where
   does_behind f v Kind.Later s K a = wrong (level_of forms) _ _ s (λ e. e) refl
   does_behind f v (Kind.Symbol y) s K a = does_behind_sign f v y s K
   does_behind f v Kind.Colon s K a = does_colon f v s K a
-  does_behind f v Kind.TwoColons s K a = wrong (level_of forms) _ _ s (λ e. e) (no_names (names_of v) s (f ∷ K) (λ e. a.no_names_lem e refl))
+  does_behind f v Kind.TwoColons s K a = wrong (level_of forms) _ _ s (λ e. e) (no_names (names_of v) s (f ∷ K) (λ e. a.no_names e refl))

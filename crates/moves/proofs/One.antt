@@ -411,7 +411,7 @@ module _ (l : Level) (c : Config) (within : inside c ≡ true) (s : Span) where
   -- the move is what is read back
   read_back : (k : Class) (r : Move) → Does l c (tok k s) r → Back k r
   read_back k (Move.Value frame) x =
-      ap (λ (b : Bool). pick b (Move.Value (frame_at (mode_of c))) (after c k (step l c (tok k s)))) (started c k (ap wants x.config_is) x.no_sign_lem)
+      ap (λ (b : Bool). pick b (Move.Value (frame_at (mode_of c))) (after c k (step l c (tok k s)))) (started c k (ap wants x.config_is) x.no_sign)
       ∙ ap (λ (m : Mode). Move.Value (frame_at m)) x.mode_is
   read_back k (Move.To mode r) (g, u, x) =
       subst (λ (k' : Class). Back k' (Move.To mode r)) (sym g.class_is)

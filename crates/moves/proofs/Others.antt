@@ -181,7 +181,7 @@ module _ (l : Level) where
           open_is = refl;
           no_value = refl;
           no_head = refl;
-          no_names_lem = refl;
+          no_names = refl;
           no_first = refl;
           members = λ i. behind (fronted f i) i (λ x. nodes v i Nodes.value x) _ _ (g i);
         };

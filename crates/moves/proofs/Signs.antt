@@ -85,7 +85,7 @@ module _ (l : Level.Level) where
       open_is = refl;
       no_value = refl;
       no_head = refl;
-      no_names_lem = refl;
+      no_names = refl;
       no_first = refl;
       members = λ i. append-nil _ ∙ sym (told_behind (fronted f i) v Nodes.value i);
     },

@@ -59,7 +59,7 @@ any_role r e = absurd (false≢true (sym e))
 module _ (l : Level) where
   -- a value begins
   pub begins : (f : Frames.Frame) (K : Stack) (k : Class) (s : Span) → (IsMark k → ⊥) → Does l (want (f ∷ K)) (tok k s) (Move.Value (frame_of f))
-  begins f K k s n = record { top = f; stack = K; config_is = refl; mode_is = refl; no_sign_lem = λ m e. n (subst IsMark (sym e) tt) }
+  begins f K k s n = record { top = f; stack = K; config_is = refl; mode_is = refl; no_sign = λ m e. n (subst IsMark (sym e) tt) }
 
   -- behind a value, or where none is wanted
   pub wrong : (c : Config) (k : Class) (s : Span) → (Wants c → ⊥) → step l c (tok k s) ≡ none → Does l c (tok k s) Move.Wrong
@@ -81,7 +81,7 @@ module _ (l : Level) where
         open_is = o;
         no_value = refl;
         no_head = refl;
-        no_names_lem = refl;
+        no_names = refl;
         no_first = a;
         members = λ i. append-nil (framed f i) ∙ g i;
       }
@@ -113,7 +113,7 @@ module _ (l : Level) where
         open_is = o;
         no_value = refl;
         no_head = refl;
-        no_names_lem = refl;
+        no_names = refl;
         no_first = refl;
         members = λ i. append-nil (before (want_close x (below c)) i) ∙ g i;
       }

@@ -127,7 +127,7 @@ module _ (l : Level) (c : Config) (t : Tok) where
     -- no value was just read: neither a head word nor a Nesting
     pub no_value : held to ≡ false
     pub no_head : head_bare to ≡ false
-    pub no_names_lem : nested to ≡ false
+    pub no_names : nested to ≡ false
     -- nor directly behind `(`
     pub no_first : opening to ≡ false
     pub members : (i : ℕ) → children to i ≡ then i
@@ -148,7 +148,7 @@ module _ (l : Level) (c : Config) (t : Tok) where
     pub stack : Stack
     pub config_is : c ≡ Frames.want (top ∷ stack)
     pub mode_is : mode_of c ≡ Mode.Want frame
-    pub no_sign_lem : (m : Mark) → t.class ≡ Tokens.mark m → ⊥
+    pub no_sign : (m : Mark) → t.class ≡ Tokens.mark m → ⊥
 
   pub record Counts (style : Style) : Type 0 where
     pub atom : Atom
@@ -199,4 +199,4 @@ module _ (l : Level) (c : Config) (t : Tok) where
 pub record Asked (c : Config) (k : Kind) : Type 0 where
   pub within : inside c ≡ true
   pub no_head : head_bare c ≡ true → k ≡ Kind.Colon → ⊥
-  pub no_names_lem : nested c ≡ true → k ≡ Kind.TwoColons → ⊥
+  pub no_names : nested c ≡ true → k ≡ Kind.TwoColons → ⊥

@@ -47,12 +47,12 @@ module _ (text : List ℕ) (set : Set) (m : ℕ) (cl : Clear (members set)) wher
   row_behind {j = j} {ds = ds} s t d = subst (λ (x : ℕ). Digits text (suc m) (members set) x j ds) (row_start s t d) d
 
   pub tail_longest : {i j s : ℕ} → TailOf text set (suc m) i j s → Longest text (maybe (suc m) (members set)) i j
-  tail_longest {i} (digits_stand {g} {j} s r) = record { takes = left (both s.takes (of_row text (suc m) (members set) r.row.digits_are_lem)); most = most }
+  tail_longest {i} (digits_stand {g} {j} s r) = record { takes = left (both s.takes (of_row text (suc m) (members set) r.row.digits_are)); most = most }
     where
       most : {k : ℕ} → Takes text (maybe (suc m) (members set)) i k → k ≤ j
       most (left (both t u)) =
-          digits_most text m (members set) cl r.row.digits_are_lem r.ended (row_behind s t (to_row text (suc m) (members set) u).1)
-      most (right (nothing e)) = let a = forward s.takes in let b = digits_forward r.row.digits_are_lem in omega arith
+          digits_most text m (members set) cl r.row.digits_are r.ended (row_behind s t (to_row text (suc m) (members set) u).1)
+      most (right (nothing e)) = let a = forward s.takes in let b = digits_forward r.row.digits_are in omega arith
   tail_longest {i} (none_stand {g} s f) = record { takes = right (nothing refl); most = most }
     where
       most : {k : ℕ} → Takes text (maybe (suc m) (members set)) i k → k ≤ i
@@ -116,7 +116,7 @@ module _ (text : List ℕ) where
   -- the digits behind a mark, with the sum over them
   tail_behind : (mark : String) (n : ℕ) (set : Set) {i j s : ℕ} → Takes text (lit mark) i (i + 3) → TailOf text set n (i + 3) j s → (ds : List ℕ) × Behind text mark n (members set) i j ds × (s ≡ tallies (size set) 0 ds)
   unfolding tallies
-  tail_behind mark n set t (digits_stand k r) = (r.row.bytes, mark_digits (both t k.takes) r.row.digits_are_lem, r.row.sum_is)
+  tail_behind mark n set t (digits_stand k r) = (r.row.bytes, mark_digits (both t k.takes) r.row.digits_are, r.row.sum_is)
   tail_behind mark n set t (none_stand k f) = ([], mark_alone t, refl)
 
   judged : {i j s : ℕ} {ds : List ℕ} → Behind text "0xy" 4 base64 i j ds → s ≡ tallies 0 0 ds → Says (eqb s unfit) (NoBytes text i j)

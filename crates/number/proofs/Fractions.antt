@@ -123,8 +123,8 @@ module _ (text : List ℕ) where
         pub point_whole : {j : ℕ} → PointDigits text b (m + 1) j → Longest text significand i j × Says false (ZeroRatio text i j)
         point_whole d = (
           record {
-            takes = to_significand text st (pointed n.is (record { place = m; skipped = s; stands = x; rest = d.skipped.takes }) d.row.row.digits_are_lem);
-            most = λ t. digits_most text 0 (digits b) (clear b) d.row.row.digits_are_lem d.row.ended (align_point text n.is s x d.skipped (of_significand text st t)).1;
+            takes = to_significand text st (pointed n.is (record { place = m; skipped = s; stands = x; rest = d.skipped.takes }) d.row.row.digits_are);
+            most = λ t. digits_most text 0 (digits b) (clear b) d.row.row.digits_are d.row.ended (align_point text n.is s x d.skipped (of_significand text st t)).1;
           },
           says_no no_zero,
         )

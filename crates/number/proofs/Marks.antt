@@ -66,15 +66,15 @@ module _ (text : List ℕ) (i : ℕ) where
   -- digits found behind a mark
   pub marked_number : (b : Base) {g j v : ℕ} → HasMark text b i → Skips text (i + 2) g → Row text (digit_set_of b) 1 g j v → IsNumber text b i j v
   marked_number b {g} {j} {v} m s r =
-      record { bytes = r.row.bytes; is = marked m.zero m.letter_is s.takes r.row.digits_are_lem; value_is = row_value b r; most = λ n. go n.is }
+      record { bytes = r.row.bytes; is = marked m.zero m.letter_is s.takes r.row.digits_are; value_is = row_value b r; most = λ n. go n.is }
     where
       go : {c : Base} {k : ℕ} {ds : List ℕ} → Numeral text c i k ds → k ≤ j
       go {c} (marked z x t d) =
-          digits_most text 0 (digits b) (clear b) r.row.digits_are_lem r.ended (aligned text b c i m.letter_is s.takes r.row.digits_are_lem x t d).1
+          digits_most text 0 (digits b) (clear b) r.row.digits_are r.ended (aligned text b c i m.letter_is s.takes r.row.digits_are x t d).1
       go {k = k} (bare d) =
           let p = bare_short text i k d (in_marks text b (i + 1) m.letter_is) in
           let q = forward s.takes in
-          let w = digits_forward r.row.digits_are_lem in
+          let w = digits_forward r.row.digits_are in
           omega arith
 
   -- none behind it
@@ -96,11 +96,11 @@ module _ (text : List ℕ) (i : ℕ) where
 
   -- decimal digits without a mark
   pub bare_number : {j v : ℕ} → NoMarked text i → Row text (digit_set_of Ten) 1 i j v → IsNumber text Ten i j v
-  bare_number {j} f r = record { bytes = r.row.bytes; is = bare r.row.digits_are_lem; value_is = row_value Ten r; most = λ n. go n.is }
+  bare_number {j} f r = record { bytes = r.row.bytes; is = bare r.row.digits_are; value_is = row_value Ten r; most = λ n. go n.is }
     where
       go : {c : Base} {k : ℕ} {ds : List ℕ} → Numeral text c i k ds → k ≤ j
       go {c} (marked z x t d) = absurd (f.none {b = c} (record { zero = z; letter_is = x }) t d)
-      go (bare d) = digits_most text 0 decimal (clear Ten) r.row.digits_are_lem r.ended d
+      go (bare d) = digits_most text 0 decimal (clear Ten) r.row.digits_are r.ended d
 
   pub no_number : NoMarked text i → Fails text (unit 1 decimal) i → NoNumber text i
   no_number f g = record { none = λ n. go n.is }

@@ -35,7 +35,7 @@ module _ (text : List ℕ) (set : Set) (n : ℕ) where
   next_unit_lem {m = m} r t u =
       record {
         bytes = _;
-        digits_are_lem = snoc_digits r.digits_are_lem t u;
+        digits_are = snoc_digits r.digits_are t u;
         sum_is = ap (λ (x : ℕ). tallies (size set) x (read text m n)) r.sum_is ∙ sym (tallies_append (size set) 0 r.bytes (read text m n));
       }
 
@@ -56,7 +56,7 @@ module _ (text : List ℕ) (set : Set) (n : ℕ) where
       let z : j - m ≡ 0 = omega arith in
       record {
         bytes = r.bytes;
-        digits_are_lem = subst (λ (k : ℕ). Digits text n (members set) i k r.bytes) e r.digits_are_lem;
+        digits_are = subst (λ (k : ℕ). Digits text n (members set) i k r.bytes) e r.digits_are;
         sum_is = f ∙ ap (λ (k : ℕ). tallies (size set) s (read text m k)) z ∙ r.sum_is;
       }
   next_units {s = s} r (more u us) f = next_units (next_unit_lem r (right (nothing refl)) u) us (unit_first s u us f)
@@ -69,7 +69,7 @@ module _ (text : List ℕ) (set : Set) (n : ℕ) where
       where
         go : Chain i j → Summed text set n i j s
         go (stop e) = absurd (d (sym e))
-        go (more u us) = next_units (record { bytes = read text i n; digits_are_lem = last_unit u; sum_is = refl }) us (unit_first 0 u us (f ∙ ap (λ (r : ℕ). tallies r 0 (read text i (j - i))) q))
+        go (more u us) = next_units (record { bytes = read text i n; digits_are = last_unit u; sum_is = refl }) us (unit_first 0 u us (f ∙ ap (λ (r : ℕ). tallies r 0 (read text i (j - i))) q))
 
     pub later_units : (k m e t : ℕ) → k ≡ size set → Summed text set n i j s → Longest text (opt joint) j m → Units m e → (e ≡ m → ⊥) → t ≡ tallies k s (read text m (e - m)) → Summed text set n i e t
     later_units k m e t q r p l d f = go l.takes

@@ -21,7 +21,7 @@ pub data OfDigits : Set → Type 0 where
 -- the units from i to j, and the sum over their bytes
 pub record Summed (text : List ℕ) (set : Set) (n i j s : ℕ) : Type 0 where
   pub bytes : List ℕ
-  pub digits_are_lem : Digits text n (members set) i j bytes
+  pub digits_are : Digits text n (members set) i j bytes
   pub sum_is : s ≡ tallies (size set) 0 bytes
 
 -- the longest row of units from i

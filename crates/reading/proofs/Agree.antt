@@ -109,7 +109,7 @@ module _ (bytes : List ℕ) (limits : Limits) (a b : Level) (within : a Within b
         from = x.from;
         good = passed_too x.good;
         ends = λ w. x.ends (record { none = λ s. w.none (sentence_alike a b within arrows ts [] k s) });
-        at_end_lem = x.at_end_lem;
+        at_end = x.at_end;
       }
 
   accepted_too : {v : Value} → Accepted limits bytes a v → Accepted limits bytes b v
@@ -235,7 +235,7 @@ module _ (bytes : List ℕ) (rules : Rules) (a b : Level) (within : a Within b) 
     agree lent x y =
         record {
           alike = λ h. one_answer rules bytes lent (record { tree = x.tree; reading = answer_too x.reading h; left_is = x.left_is }) y;
-          first_newer_lem = λ e. first_newer_lem bytes rules.limits a b within arrows e (behind x.reading e).fault;
+          first_newer = λ e. first_newer_lem bytes rules.limits a b within arrows e (behind x.reading e).fault;
           there_or_later = λ e. outcome e (behind x.reading e) y.reading;
         }
 

@@ -144,7 +144,7 @@ module _ (limits : Limits) (l : Level) (bytes : List ℕ) where
   pub accepted_old : {v : Value} → Accepted limits bytes l v → Accepted old bytes l v
   accepted_old a =
       let x = a.passed in
-      record { of_level = a.of_level; passed = record { from = x.from; good = passed_old x.good; at_end_lem = x.at_end_lem; ends = x.ends } }
+      record { of_level = a.of_level; passed = record { from = x.from; good = passed_old x.good; at_end = x.at_end; ends = x.ends } }
 
   -- ---- 15
 

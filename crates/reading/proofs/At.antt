@@ -420,5 +420,5 @@ module _ (limits : Limits) (l : Level) (bytes : List ℕ) where
   accepted {d} {p} {v} a q k =
       let g = reached l a.tokens (have v []) a.stands.reached in
       let all : AllPassed limits l bytes a.tokens =
-      record { from = p; good = a.stands.good; at_end_lem = (refl, k.1, k.2, k.3); ends = λ w. w.none (accepts l a.tokens v a.stands.reached) } in
+      record { from = p; good = a.stands.good; at_end = (refl, k.1, k.2, k.3); ends = λ w. w.none (accepts l a.tokens v a.stands.reached) } in
       (record { of_level = g.level; passed = subst (AllPassed limits l bytes) (sym (g.reads [] ∙ append-nil a.tokens)) all }, k.0)

@@ -108,8 +108,8 @@ module _ (limits : Limits) (l : Level) (bytes : List ℕ) (v : Value) where
     derived_passed =
         record {
           from = d.end;
-          good = onward [] nothing (begun d.front) d.row d.at_end_lem refl;
-          at_end_lem = d.at_end_lem;
+          good = onward [] nothing (begun d.front) d.row d.at_end refl;
+          at_end = d.at_end;
           ends = λ w. w.none (record { tree = v; of_level = level_has; yields = refl });
         }
 
@@ -124,12 +124,12 @@ module _ (limits : Limits) (l : Level) (bytes : List ℕ) (v : Value) where
 
     -- the tests that a token without a fault has passed
     clean : {p : ℕ} {ts : List Tok} {t : Token.Token} → Follow bytes at.0 ts p → Comes bytes p (Next.Token t) → None (tests limits l bytes ts t)
-    clean {p} {ts} {t} f c = by (within bytes f whole a.at_end_lem)
+    clean {p} {ts} {t} f c = by (within bytes f whole a.at_end)
       where
         by : (rest : List Tok) × (ts ++ rest ≡ yield_value v []) → None (tests limits l bytes ts t)
         by ([], e) =
             let o = one_row bytes f whole (ap (λ (r : List Tok). length r) (sym (append-nil ts) ∙ e)) in
-            absurd (no_end bytes a.from (subst (λ (q : ℕ). Comes bytes q (Next.Token t)) o.1 c) a.at_end_lem)
+            absurd (no_end bytes a.from (subst (λ (q : ℕ). Comes bytes q (Next.Token t)) o.1 c) a.at_end)
         by (r ∷ rest, e) =
             no_test_holds limits l bytes c none
           where
@@ -175,7 +175,7 @@ module _ (limits : Limits) (l : Level) (bytes : List ℕ) (v : Value) where
           front = at.1;
           end = a.from;
           row = whole;
-          at_end_lem = a.at_end_lem;
+          at_end = a.at_end;
           sound = λ f c b. (clean f c).1.1.1.0 (c.3.holds_true b);
           shallow = λ before behind e. deep [] before behind nothing (subst (λ (r : List Tok). Follow bytes at.0 r a.from) (sym e) whole) (omega arith);
         }
@@ -200,7 +200,7 @@ derived_at limits bytes {l} {m} {v} d k =
       front = d.front;
       end = d.end;
       row = d.row;
-      at_end_lem = d.at_end_lem;
+      at_end = d.at_end;
       sound = d.sound;
       shallow = d.shallow;
     }
@@ -216,6 +216,6 @@ derived_arrowless limits bytes {l} {v} e d = record { none = λ {start} {p} {bef
     by : (start p : ℕ) (before : List Tok) (t : Token.Token) → Front bytes start → Follow bytes start before p → Comes bytes p (Next.Token t) → IsArrow (seen t) → ⊥
     by start p before t f g c =
         let from = subst (λ (x : ℕ). Follow bytes x before p) (one_front bytes f d.front) g in
-        let o = within bytes (append bytes from (next c nothing)) d.row d.at_end_lem in
+        let o = within bytes (append bytes from (next c nothing)) d.row d.at_end in
         every_first (every_part before (seen t ∷ o.0)
         (subst (Every NoArrow) (sym o.1 ∙ append_assoc before (seen t ∷ []) o.0) (no_arrows limits l v e d.of_level))).1

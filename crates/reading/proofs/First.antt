@@ -125,8 +125,8 @@ module _ (bytes : List ℕ) where
         by : Order (length ts) (length f.before) → ⊥
         by (equal e) =
             let o = one_row bytes fs all (sym e) in
-            end_fault a.at_end_lem a.ends (subst (λ (p : ℕ). Fault limits l bytes ts p n x) o.1 (subst (λ (us : List Tok). Fault limits l bytes us f.from n x) o.0 f.fault))
-        by (less h) = let w = went at.1 all f.good h in no_end bytes a.from w.comes a.at_end_lem
+            end_fault a.at_end a.ends (subst (λ (p : ℕ). Fault limits l bytes ts p n x) o.1 (subst (λ (us : List Tok). Fault limits l bytes us f.from n x) o.0 f.fault))
+        by (less h) = let w = went at.1 all f.good h in no_end bytes a.from w.comes a.at_end
         by (more h) = (went at.1 fs a.good h).sound n x f.fault
 
     -- texts that pass have the same tokens
@@ -144,5 +144,5 @@ module _ (bytes : List ℕ) where
 
         by : Order (length ts) (length us) → ts ≡ us
         by (equal e) = (one_row bytes all bs e).0
-        by (less h) = let w = went at.1 all b.good h in absurd (no_end bytes a.from w.comes a.at_end_lem)
-        by (more h) = let w = went at.1 bs a.good h in absurd (no_end bytes b.from w.comes b.at_end_lem)
+        by (less h) = let w = went at.1 all b.good h in absurd (no_end bytes a.from w.comes a.at_end)
+        by (more h) = let w = went at.1 bs a.good h in absurd (no_end bytes b.from w.comes b.at_end)

@@ -34,5 +34,5 @@ module _ (l : Level) (bytes : List ℕ) where
 pub record Agree (lower : Level) (bytes : List ℕ)
     (old : Answer) (old_table : List ℕ) (new : Answer) (new_table : List ℕ) : Type 0 where
   pub alike : (old.number ≡ 7 → ⊥) → (old ≡ new) × (old_table ≡ new_table)
-  pub first_newer_lem : old.number ≡ 7 → FirstNewer lower bytes old.place
+  pub first_newer : old.number ≡ 7 → FirstNewer lower bytes old.place
   pub there_or_later : old.number ≡ 7 → (new.number ≡ 0) ⊎ (old.place ≤ new.place)

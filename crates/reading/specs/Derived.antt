@@ -30,7 +30,7 @@ pub record Derived (limits : Limits) (l : Level) (bytes : List ℕ) (v : Value) 
   pub front : Front bytes start
   pub end : ℕ
   pub row : Follow bytes start (yield_value v []) end
-  pub at_end_lem : Comes bytes end (Next.End (length bytes))
+  pub at_end : Comes bytes end (Next.End (length bytes))
   -- no literal in it has a bad value, whatever row of tokens from the front it stands behind
   pub sound : {before : List Tok} {p : ℕ} {t : Token.Token} → Follow bytes start before p →
       Comes bytes p (Next.Token t) →

@@ -73,5 +73,5 @@ module _ (limits : Limits) (l : Level) (bytes : List ℕ) where
   pub record AllPassed (ts : List Tok) : Type 0 where
     pub from : ℕ
     pub good : Passed ts from
-    pub at_end_lem : Comes bytes from (Next.End (length bytes))
+    pub at_end : Comes bytes from (Next.End (length bytes))
     pub ends : WrongEnd l ts → ⊥

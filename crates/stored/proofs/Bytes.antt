@@ -28,7 +28,7 @@ module _ {t : List ℕ} {nodes size : ℕ} {text : List ℕ} {v : Value} (held :
   pub front_at : (k : ℕ) → k < 3 → get_or (version ∷ nodes ∷ size ∷ []) k 0 ≡ get_or (row text v) k 0
   front_at zero h = refl
   front_at (suc zero) h = held.nodes_are
-  front_at (suc (suc zero)) h = held.size_is_lem
+  front_at (suc (suc zero)) h = held.size_is
   front_at (suc (suc (suc k))) h = absurd (omega arith)
 
   pub word_at_lem : (k : ℕ) → 3 ≤ k → k < 3 + 6 * nodes → word_at t ((k - 3) / 6) ((k - 3) % 6) ≡ get_or (row text v) k 0

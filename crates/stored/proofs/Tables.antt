@@ -37,7 +37,7 @@ module _ (rules : Rules) (text left : List ℕ) where
           held =
               record {
                 nodes_are = f.count_is;
-                size_is_lem = refl;
+                size_is = refl;
                 words_are = subst (λ (n : ℕ). take (node_words * n) left ≡ table_words (table f.tree)) (sym f.count_is) f.holds;
               };
           few = omega (arith, f.few, longest);

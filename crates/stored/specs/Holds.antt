@@ -7,7 +7,7 @@ use Rattle.grammar.specs.Nodes.{table, table_words, node_words}
 -- the first words of the table t are the nodes of v, and the text has so many bytes
 pub record Holds (t : List ℕ) (nodes size : ℕ) (text : List ℕ) (v : Value) : Type 0 where
   pub nodes_are : nodes ≡ length (table v)
-  pub size_is_lem : size ≡ length text
+  pub size_is : size ≡ length text
   pub words_are : take (node_words * nodes) t ≡ table_words (table v)
 
 -- whatever the text and its derivation

@@ -201,7 +201,7 @@ module _ (text : List ℕ) where
     fraction_is l s = record { is = record { told = fraction_here l }; bad_is = s }
 
     pub number_none : Fails text fraction i → Fails text integer i → NoneAt text i
-    number_none f g = nothing_starts text (record { none = go }) n.no_colon_lem
+    number_none f g = nothing_starts text (record { none = go }) n.no_colon
       where
         go : (m : Lexeme) {k : ℕ} → Takes text (rule m) i k → ⊥
         go m t =
@@ -210,7 +210,7 @@ module _ (text : List ℕ) where
   -- where only numbers can begin
   only : (c : Class) {i : ℕ} → begins c (an_integer ∷ a_fraction ∷ []) ≡ true → apart c (just 0x3A) ≡ true → At text c i → NumberOnly text i
   only c {i} e d a =
-      record { others = λ l t. which l (begins_with text c (an_integer ∷ a_fraction ∷ []) l e a t); no_colon_lem = λ x. apart_no c (just 0x3A) (get_or text i 0) d a.1 x.1 }
+      record { others = λ l t. which l (begins_with text c (an_integer ∷ a_fraction ∷ []) l e a t); no_colon = λ x. apart_no c (just 0x3A) (get_or text i 0) d a.1 x.1 }
 
   pub nonzero_only : {i : ℕ} → At text decimal i → (get_or text i 0 ≡ 0x30 → ⊥) → NumberOnly text i
   unfolding apart apart_span
@@ -223,7 +223,7 @@ module _ (text : List ℕ) where
   pub minus_only : {i : ℕ} → At text (just 0x2D) i → NoSymbol text i → NumberOnly text i
   unfolding apart apart_span
   minus_only {i} a f =
-      record { others = λ l t. which l (go l t); no_colon_lem = λ x. apart_no (just 0x2D) (just 0x3A) (get_or text i 0) refl a.1 x.1 }
+      record { others = λ l t. which l (go l t); no_colon = λ x. apart_no (just 0x2D) (just 0x3A) (get_or text i 0) refl a.1 x.1 }
     where
       go : (l : Lexeme) {k : ℕ} → Takes text (rule l) i k → one_of (an_integer ∷ a_fraction ∷ []) l ≡ true
       go l t =
@@ -264,7 +264,7 @@ module _ (text : List ℕ) where
 
   pub zero_only : {i : ℕ} → At text (just 0x30) i → Marked text i → Fails text bits i → Fails text blob i → Fails text code_point_of i → NumberOnly text i
   unfolding apart apart_span
-  zero_only {i} a m f g h = record { others = λ l t. which l (go l t); no_colon_lem = λ x. apart_no (just 0x30) (just 0x3A) (get_or text i 0) refl a.1 x.1 }
+  zero_only {i} a m f g h = record { others = λ l t. which l (go l t); no_colon = λ x. apart_no (just 0x30) (just 0x3A) (get_or text i 0) refl a.1 x.1 }
     where
       skip : (n : Lexeme) (ls : List Lexeme) (l : Lexeme) {k : ℕ} → Fails text (rule n) i → Takes text (rule l) i k → one_of (n ∷ ls) l ≡ true → one_of ls l ≡ true
       skip n ls l d t e = ⊎_elim (λ q. absurd (d.none (taken_as text n l q t))) (λ q. q) (is_one n ls l e)
@@ -326,7 +326,7 @@ module _ (text : List ℕ) where
       (in_cons _ _ b a.1)
 
   pub none_starts : {i : ℕ} → i < length text → NotOpening text i → (get_or text i 0 ≡ 0x2D → ⊥) → NoSymbol text i → NoneAt text i
-  none_starts {i} h n f g = nothing_starts text (record { none = go }) (λ x. n.no_colon_lem (just_is 0x3A (get_or text i 0) x.1))
+  none_starts {i} h n f g = nothing_starts text (record { none = go }) (λ x. n.no_colon (just_is 0x3A (get_or text i 0) x.1))
     where
       go : (m : Lexeme) {k : ℕ} → Takes text (rule m) i k → ⊥
       go m t =

@@ -19,10 +19,10 @@ module _ (text : List ℕ) {t : Token.Token} where
   -- ---- the answer
 
   pub points_first : (t.kind ≡ Text Quoted → ⊥) → PointsIn text t t.first
-  points_first n = record { inside_quotes_lem = λ e. absurd (n e); first_byte_lem = λ _. refl }
+  points_first n = record { inside_quotes = λ e. absurd (n e); first_byte = λ _. refl }
 
   pub points_inside : {p : ℕ} → t.kind ≡ Text Quoted → Points text t.first p → PointsIn text t p
-  points_inside e x = record { inside_quotes_lem = λ _. x; first_byte_lem = λ n. absurd (n e) }
+  points_inside e x = record { inside_quotes = λ _. x; first_byte = λ n. absurd (n e) }
 
   -- ---- of the token that comes
 
@@ -31,13 +31,13 @@ module _ (text : List ℕ) {t : Token.Token} where
     where
       by : (t.kind ≡ Text Quoted) ⊎ (t.kind ≡ Text Quoted → ⊥) → BadPlace text t.kind t.first t.end q
       by (inl e) =
-          inside_quotes e ((x.inside_quotes_lem e).bad (subst (λ (k : Kind). Bad text k t.first t.end) e (c.3.true_holds b)))
-      by (inr n) = first_byte n (x.first_byte_lem n)
+          inside_quotes e ((x.inside_quotes e).bad (subst (λ (k : Kind). Bad text k t.first t.end) e (c.3.true_holds b)))
+      by (inr n) = first_byte n (x.first_byte n)
 
   -- for any token there is one place only
   pub one_place_in : {p q : ℕ} → PointsIn text t p → PointsIn text t q → p ≡ q
   one_place_in {p} {q} x y = by (quoted_or_not t.kind)
     where
       by : (t.kind ≡ Text Quoted) ⊎ (t.kind ≡ Text Quoted → ⊥) → p ≡ q
-      by (inl e) = one_point text (x.inside_quotes_lem e) (y.inside_quotes_lem e)
-      by (inr n) = x.first_byte_lem n ∙ sym (y.first_byte_lem n)
+      by (inl e) = one_point text (x.inside_quotes e) (y.inside_quotes e)
+      by (inr n) = x.first_byte n ∙ sym (y.first_byte n)

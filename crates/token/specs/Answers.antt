@@ -43,7 +43,7 @@ colon_at i = Next.Token (record { kind = Colon; first = i; end = i + 1; bad = fa
 -- no lexeme but an Integer or a Fraction stands at i
 pub record NumberOnly (text : List ℕ) (i : ℕ) : Type 0 where
   pub others : (l : Lexeme) {k : ℕ} → Takes text (rule l) i k → (l ≡ an_integer) ⊎ (l ≡ a_fraction)
-  pub no_colon_lem : At text (just (byte_of ":")) i → ⊥
+  pub no_colon : At text (just (byte_of ":")) i → ⊥
 
 -- no literal of one spelling stands at i
 pub record Marked (text : List ℕ) (i : ℕ) : Type 0 where
@@ -62,4 +62,4 @@ pub record NotOpening (text : List ℕ) (i : ℕ) : Type 0 where
   pub no_word : has word_start (get_or text i 0) ≡ false
   pub no_digit : has decimal (get_or text i 0) ≡ false
   pub no_plus : get_or text i 0 ≡ byte_of "+" → ⊥
-  pub no_colon_lem : get_or text i 0 ≡ byte_of ":" → ⊥
+  pub no_colon : get_or text i 0 ≡ byte_of ":" → ⊥

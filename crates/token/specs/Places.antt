@@ -7,5 +7,5 @@ use Rattle.string.specs.FirstBad.{Points}
 
 -- of a quoted text the place of the first bad escape, of any other token its first byte
 pub record PointsIn (text : List ℕ) (t : Token.Token) (place : ℕ) : Type 0 where
-  pub inside_quotes_lem : t.kind ≡ Text Quoted → Points text t.first place
-  pub first_byte_lem : (t.kind ≡ Text Quoted → ⊥) → place ≡ t.first
+  pub inside_quotes : t.kind ≡ Text Quoted → Points text t.first place
+  pub first_byte : (t.kind ≡ Text Quoted → ⊥) → place ≡ t.first

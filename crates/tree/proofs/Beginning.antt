@@ -117,7 +117,7 @@ module _ (text : List ℕ) (limits : Limits) (forms : Forms) (d : ℕ) (t : Toke
   mark_begins m c =
       record {
         from = λ x. tt;
-        begun = λ K at a. Place.sign_wrong limits l text a.stands t a.comes m c (ap (λ (y : Class). want_class l y (span_of t) K) c ∙ a.no_sign_lem m c);
+        begun = λ K at a. Place.sign_wrong limits l text a.stands t a.comes m c (ap (λ (y : Class). want_class l y (span_of t) K) c ∙ a.no_sign m c);
       }
 
   -- ---- brackets

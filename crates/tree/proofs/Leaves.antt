@@ -87,7 +87,7 @@ record LiteralValue (l : Level) (k : Kind) (s : Span) (K : Stack) : Type 0 where
   tree : Value
   is_plain : plain (class_kind k) ≡ true
   steps : want_class l (class_kind k) s K ≡ some (have tree K)
-  no_names_lem : names_of tree ≡ none
+  no_names : names_of tree ≡ none
   shape_is : shape_of tree ≡ leaf_shape k
   bare : (h : Head) → leaf_shape k ≡ Shape.Bare h → k ≡ Kind.Text (Form.HeadWord h)
   kind : NodeKind
@@ -101,7 +101,7 @@ literal_value l k s K (Tokens.atom a) e h =
       tree = Tree.plain (Tree.literal a s);
       is_plain = ap plain e;
       steps = ap (λ (x : Class). want_class l x s K) e;
-      no_names_lem = refl;
+      no_names = refl;
       shape_is = sym d.shape_is;
       bare = λ g x. let y : Shape.Other ≡ Shape.Bare g = sym d.shape_is ∙ x in let z : ◌≡◌ {A = ℕ} 0 1 = cc in absurd (omega arith);
       kind = atom_kind a;
@@ -114,7 +114,7 @@ literal_value l k s K (Tokens.text w) e h =
       tree = text_value w s;
       is_plain = ap plain e;
       steps = ap (λ (x : Class). want_class l x s K) e;
-      no_names_lem = text_names w s;
+      no_names = text_names w s;
       shape_is = text_shape w s ∙ sym d.shape_is;
       bare = λ g x. class_kind_lem k e ∙ text_bare w g (sym d.shape_is ∙ x);
       kind = Nodes.a_text;
@@ -154,7 +154,7 @@ module _ (text : List ℕ) (t : Token.Token) (lent left : List ℕ) (index paren
               tree = v.tree;
               depth = d;
               stands = literal_on limits (level_of forms) text a.stands t a.comes v.is_plain b v.steps;
-              stops = λ u k x. v.no_names_lem;
+              stops = λ u k x. v.no_names;
               shape_is = v.shape_is ∙ sym says.shape_is;
               bare = λ g x. (v.bare g (sym says.shape_is ∙ x), refl);
               count_is = sym (ap length (v.nodes_are parent index));

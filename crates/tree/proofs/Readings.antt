@@ -192,7 +192,7 @@ module _ (text : List ℕ) (limits : Limits) (forms : Forms) where
             stack_is = g.stack_is;
             open_is = g.open_is;
             no_head = λ y. absurd (clash y (unheld_head g.config g.no_value g.within));
-            no_names_lem = λ y. absurd (clash y (unheld_names g.config g.no_value g.within));
+            no_names = λ y. absurd (clash y (unheld_names g.config g.no_value g.within));
             unread = λ y. absurd (clash y g.no_first);
             no_group = λ y. absurd (clash y g.no_first);
             length_is = refl;
@@ -245,7 +245,7 @@ module _ (text : List ℕ) (limits : Limits) (forms : Forms) where
           stack_is = refl;
           open_is = refl;
           no_head = λ y. absurd (false≢true y);
-          no_names_lem = λ y. absurd (false≢true y);
+          no_names = λ y. absurd (false≢true y);
           unread = λ y z w k'. ap (λ (x : Token.Token). no_mark (class_kind x.kind)) (pick text k' k) ∙ m;
           no_group = λ y z. absurd (false≢true z);
           length_is = refl;
@@ -275,7 +275,7 @@ module _ (text : List ℕ) (limits : Limits) (forms : Forms) where
           (record {
             stands = subst (λ (x : ℕ). Stands text limits forms x t.end (want (opened t K))) (omega arith) a;
             comes = k;
-            no_sign_lem = λ x e. absurd (mark_not (class_kind u.kind) x m e);
+            no_sign = λ x e. absurd (mark_not (class_kind u.kind) x m e);
           }))
 
       pub first_refused : {n p : ℕ} {left : List ℕ} → r ≡ Read.Refused n p → Rounded text limits forms d t lent left index parent r
@@ -332,7 +332,7 @@ module _ (text : List ℕ) (limits : Limits) (forms : Forms) where
                     f.none o.1.0 p.end
                     (record { word = u; comes = k; word_is = j.0; sign = p; then = subst (λ (i : ℕ). Comes text i (Next.Token p)) j.1 k'; sign_is = z; end_is = refl });
               };
-              no_names_lem = λ b. record { none = λ p k' z. clash b (ap given (v.stops p k' z)) };
+              no_names = λ b. record { none = λ p k' z. clash b (ap given (v.stops p k' z)) };
               unread = λ b b'. absurd (false≢true (sym b'));
               no_group = λ b b' p k'. ap (λ (z : Token.Token). is_close_of (class_kind z.kind)) (pick text k' (got_token text end e x)) ∙ c;
               length_is = len;
@@ -370,7 +370,7 @@ module _ (text : List ℕ) (limits : Limits) (forms : Forms) where
         stack_is = h.stack_is;
         open_is = h.open_is;
         no_head = λ e. absurd (not_first (bare_first v.tree top S e).0);
-        no_names_lem = λ e. record { none = λ u k' q. clash e (ap given (v.stops u k' q)) };
+        no_names = λ e. record { none = λ u k' q. clash e (ap given (v.stops u k' q)) };
         unread = λ e e'. absurd (false≢true (sym e'));
         no_group = λ e. absurd (not_first e);
         length_is = len ∙ h.length_is;
@@ -393,7 +393,7 @@ module _ (text : List ℕ) (limits : Limits) (forms : Forms) where
     child_read {opener} {lent} {K} {c} z q h k g =
         subst (λ (w : Read). Outcome text limits forms (g.top ∷ g.stack) t from left (index + 1 + s.nodes) index w) q
         (x.outcome (g.top ∷ g.stack) s.at
-        (record { stands = subst (λ (w : Config). Stands text limits forms s.deep s.at w) g.config_is h.stands; comes = k; no_sign_lem = λ m e. absurd (g.no_sign_lem m e) }))
+        (record { stands = subst (λ (w : Config). Stands text limits forms s.deep s.at w) g.config_is h.stands; comes = k; no_sign = λ m e. absurd (g.no_sign m e) }))
 
     pub child_refused : {n p : ℕ} → r ≡ Read.Refused n p → Bore text limits forms s t frame from left index (Turn.Ended r)
     child_refused {n} {p} q =
@@ -409,7 +409,7 @@ module _ (text : List ℕ) (limits : Limits) (forms : Forms) where
           turns = λ opener parent lent K c h k g.
               let v = child_read (Read.Value end n shape) q h k g in (
                 have v.tree (g.top ∷ g.stack),
-                child_holds t (subst (λ (w : Config). Holds text limits forms opener lent from index K w s) g.config_is h) k g.no_sign_lem
+                child_holds t (subst (λ (w : Config). Holds text limits forms opener lent from index K w s) g.config_is h) k g.no_sign
                     (want_same_lem (sym (ap mode_of g.config_is) ∙ g.mode_is)) v len,
               );
         }
@@ -418,7 +418,7 @@ module _ (text : List ℕ) (limits : Limits) (forms : Forms) where
 
   asked_of : {opener t : Token.Token} {s : State.State} {lent from : List ℕ} {index : ℕ} {K : Stack} {c : Config} → Holds text limits forms opener lent from index K c s →
       Comes text s.at (Next.Token t) → Asked c t.kind
-  asked_of {t = t} h k = record { within = h.within; no_head = λ e q. (h.no_head e).none t k q; no_names_lem = λ e q. (h.no_names_lem e).none t k q }
+  asked_of {t = t} h k = record { within = h.within; no_head = λ e q. (h.no_head e).none t k q; no_names = λ e q. (h.no_names e).none t k q }
 
   -- the code's move is what the machine does
   does_so : {opener t : Token.Token} {s : State.State} {lent from : List ℕ} {index : ℕ} {K : Stack} {c : Config} {taken : Move} → Holds text limits forms opener lent from index K c s →

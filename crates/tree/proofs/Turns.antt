@@ -191,7 +191,7 @@ module _ (text : List ℕ) (limits : Limits) (forms : Forms) where
         stack_is = g.stack_is ∙ h.stack_is;
         open_is = g.open_is ∙ h.open_is;
         no_head = λ x. absurd (clash x g.no_head);
-        no_names_lem = λ x. absurd (clash x g.no_names_lem);
+        no_names = λ x. absurd (clash x g.no_names);
         unread = λ x. absurd (clash x g.no_first);
         no_group = λ x. absurd (clash x g.no_first);
         length_is = e ∙ h.length_is;

@@ -81,7 +81,7 @@ module _ (text : List ℕ) (limits : Limits) (forms : Forms) where
         value_read : (z : Read) → r ≡ z → Outcome text limits forms [] t lent left 0 0 z
         value_read z q =
             subst (λ (w : Read). Outcome text limits forms [] t lent left 0 0 w) q
-            (y.outcome [] p (record { stands = at_start limits (level_of forms) text f; comes = got_token text p e x; no_sign_lem = λ m i. refl }))
+            (y.outcome [] p (record { stands = at_start limits (level_of forms) text f; comes = got_token text p e x; no_sign = λ m i. refl }))
 
         pub whole_refused : {n q : ℕ} → r ≡ Read.Refused n q → Judged text limits forms lent left r
         whole_refused {n} {q} i = subst (Judged text limits forms lent left) (sym i) (record { judged = value_read (Read.Refused n q) i })

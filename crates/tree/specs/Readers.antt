@@ -117,7 +117,7 @@ module _ (text : List ℕ) where
     pub record Asks (K : Stack) (d at : ℕ) (t : Token.Token) : Type 0 where
       pub stands : Stands d at (want K)
       pub comes : Comes text at (Next.Token t)
-      pub no_sign_lem : (m : Mark) → class_kind t.kind ≡ Tokens.mark m → want_mark m (span_of t) K ≡ none
+      pub no_sign : (m : Mark) → class_kind t.kind ≡ Tokens.mark m → want_mark m (span_of t) K ≡ none
 
     -- a value was read, and its nodes are written
     pub record IsValue (K : Stack) (t : Token.Token) (end n : ℕ) (shape : Shape) (lent left : List ℕ)
@@ -151,7 +151,7 @@ module _ (text : List ℕ) where
       pub open_is : open_of c ≡ span_of opener
       -- what cannot come next
       pub no_head : head_bare c ≡ true → NotNext text Kind.Colon s.at
-      pub no_names_lem : nested c ≡ true → NotNext text Kind.TwoColons s.at
+      pub no_names : nested c ≡ true → NotNext text Kind.TwoColons s.at
       -- directly behind `(` no value begins, and behind the first value is no `)`: these are read before
       pub unread : opening c ≡ true → held c ≡ false → (u : Token.Token) → Comes text s.at (Next.Token u) →
           no_mark (class_kind u.kind) ≡ false

@@ -170,7 +170,7 @@ module _ (piece : List ℕ) where
   ascii_same {i} (more (byte a f) t) (suc n) e =
       let x = ascii_same {i = i + 1} (starting f t) n (omega (arith, e)) in
       let w = written_one (get_or piece i 0) (in_high 0x00 0x7F _ a.1) in
-      (appends w.bytes_are x.0, (w.is_scalar_lem, x.1))
+      (appends w.bytes_are x.0, (w.is_scalar, x.1))
 
   pub word_same : {i j : ℕ} → Takes piece word i j → (encoded (read piece i (j - i)) ≡ read piece i (j - i)) × Scalars (read piece i (j - i))
   word_same {i} {j} t = ascii_same (all_of_lem ascii t word_bytes) (j - i) (omega (arith, forward t))

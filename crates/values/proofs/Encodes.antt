@@ -32,10 +32,10 @@ encode_four c l = rw (le-ltb c 0x80 (omega arith)) rw (le-ltb c 0x800 (omega ari
 -- a sequence is its code point's bytes, and that is a scalar value
 pub record Written (bs : List ℕ) : Type 0 where
   pub bytes_are : encode (scalar bs) ≡ bs
-  pub is_scalar_lem : Scalar (scalar bs)
+  pub is_scalar : Scalar (scalar bs)
 
 pub written_one : (a : ℕ) → a ≤ 0x7F → Written (a ∷ [])
-written_one a h = record { bytes_are = sym (encode_one a (omega arith)); is_scalar_lem = inl (omega arith) }
+written_one a h = record { bytes_are = sym (encode_one a (omega arith)); is_scalar = inl (omega arith) }
 
 pub written_two : (a b : ℕ) → 0xC2 ≤ a → a ≤ 0xDF → 0x80 ≤ b → b ≤ 0xBF → Written (a ∷ b ∷ [])
 written_two a b l h m g =
@@ -44,7 +44,7 @@ written_two a b l h m g =
     let q : 0x80 + c % 64 ≡ b = omega arith in
     record {
       bytes_are = sym (encode_two c (omega arith) (omega arith)) ∙ (λ i. p i ∷ q i ∷ []);
-      is_scalar_lem = inl (omega arith);
+      is_scalar = inl (omega arith);
     }
 
 pub written_three : (a b c : ℕ) → 0xE0 ≤ a → 0x80 ≤ b → b ≤ 0xBF → 0x80 ≤ c → c ≤ 0xBF → 0x800 ≤ scalar (a ∷ b ∷ c ∷ []) →
@@ -54,7 +54,7 @@ written_three a b c l m g n k x y s =
     let p : 0xE0 + v / 4096 ≡ a = omega arith in
     let q : 0x80 + v / 64 % 64 ≡ b = omega arith in
     let r : 0x80 + v % 64 ≡ c = omega arith in
-    record { bytes_are = sym (encode_three v x y) ∙ (λ i. p i ∷ q i ∷ r i ∷ []); is_scalar_lem = s }
+    record { bytes_are = sym (encode_three v x y) ∙ (λ i. p i ∷ q i ∷ r i ∷ []); is_scalar = s }
 
 pub written_four : (a b c d : ℕ) → 0xF0 ≤ a → 0x80 ≤ b → b ≤ 0xBF → 0x80 ≤ c → c ≤ 0xBF → 0x80 ≤ d → d ≤ 0xBF →
     0x10000 ≤ scalar (a ∷ b ∷ c ∷ d ∷ []) → Scalar (scalar (a ∷ b ∷ c ∷ d ∷ [])) → Written (a ∷ b ∷ c ∷ d ∷ [])
@@ -64,4 +64,4 @@ written_four a b c d l m g n k o t x s =
     let q : 0x80 + v / 4096 % 64 ≡ b = omega arith in
     let r : 0x80 + v / 64 % 64 ≡ c = omega arith in
     let u : 0x80 + v % 64 ≡ d = omega arith in
-    record { bytes_are = sym (encode_four v x) ∙ (λ i. p i ∷ q i ∷ r i ∷ u i ∷ []); is_scalar_lem = s }
+    record { bytes_are = sym (encode_four v x) ∙ (λ i. p i ∷ q i ∷ r i ∷ u i ∷ []); is_scalar = s }

@@ -164,7 +164,7 @@ module _ (piece : List ℕ) where
   -- ---- its characters are scalar values, or it is bad
 
   item_scalar : {i j c : ℕ} → Escaped piece i j c → Scalar c ⊎ BadEscape piece i j
-  item_scalar (Escaped.itself t) = inl (unescaped_written piece t).is_scalar_lem
+  item_scalar (Escaped.itself t) = inl (unescaped_written piece t).is_scalar
   item_scalar (Escaped.letter t l u) = inl (letter_scalar l)
     where
       letter_scalar : {x c : ℕ} → Letter x c → Scalar c
@@ -192,7 +192,7 @@ module _ (piece : List ℕ) where
 
   plain_scalars : {i j : ℕ} {cs : List ℕ} → Row piece (Plain piece) i j cs → Scalars cs
   plain_scalars done = tt
-  plain_scalars (Values.next (Plain.itself t) r) = ((restricted_written piece t).is_scalar_lem, plain_scalars r)
+  plain_scalars (Values.next (Plain.itself t) r) = ((restricted_written piece t).is_scalar, plain_scalars r)
 
   segment_scalars : {i j : ℕ} {cs : List ℕ} → Segment piece i j cs → Scalars cs ⊎ BadSegment piece i j
   segment_scalars (Segment.plain a n r z) = inl (plain_scalars r)

@@ -30,6 +30,6 @@ punctuation-requires c = (
     no_word = by_class WordStart (c.type_inv.text c.args.at).fits c.class-class.ensures c.holds.ensures c.if-holds.false;
     no_digit = by_class Decimal (c.type_inv.text c.args.at).fits c.class-class.ensures c.holds-2.ensures c.if-holds-2.false;
     no_plus = c.if-b-eq43.false;
-    no_colon_lem = c.if-b-eq58.false;
+    no_colon = c.if-b-eq58.false;
   },
 )
