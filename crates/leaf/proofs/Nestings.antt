@@ -1,21 +1,16 @@
 -- The tokens of a Nesting, as they are written one by one. Assumes nothing.
 use mathlib.Core.Path.{◌≡◌, refl, sym, subst, ◌∙◌}
-use mathlib.Core.List.{List, [], ◌∷◌}
+use mathlib.Core.List.{List, []}
 use Prim.Native.Nat.{ℕ, ◌≤◌, ◌<◌}
 use native.Mathlib.Omega.{arith}
-use types.Run.{OneOf}
-use denote.Enum.Declared.{tag_of}
 use lib.ListN.{length}
 use Rattle.rules.specs.Class.{codes}
-use Rattle.lexicon.specs.contracts.Kind as KindType
-use Rattle.lexicon.specs.contracts.Next as NextType
 use Rattle.lexicon.specs.declared.Form.{Form}
 use Rattle.lexicon.specs.declared.Kind.TheVariants as Kind
 use Rattle.lexicon.specs.declared.Token.{Token}
 use Rattle.lexicon.specs.declared.Next.{Next}
-use Rattle.lexicon.specs.declared.Next.TheVariants as Next
 use Rattle.lexicon.specs.Token.{Comes}
-use Rattle.lexicon.proofs.Variants.{not_text, no_text, no_token_lem, text_same}
+use Rattle.lexicon.proofs.Variants.{text_same}
 use Rattle.lexicon.proofs.Determined.{one_answer}
 use Rattle.lexicon.proofs.Pieces.{token_bounds}
 use Rattle.reading.proofs.Rows.{pick}
@@ -28,9 +23,9 @@ use Rattle.leaf.proofs.Rows.{Going, going, going_on, going_same, gone}
 module _ (text : List ℕ) where
   -- ---- one token
 
-  pub colons_bytes : {t : Token} → OneOf not_text (tag_of KindType.the_type t.kind) → (bs : List ℕ) → NameToken text t bs → codes "::" ≡ bs
+  pub colons_bytes : {t : Token} → ((f : Form) → t.kind ≡ Kind.Text f → ⊥) → (bs : List ℕ) → NameToken text t bs → codes "::" ≡ bs
   colons_bytes k bs (Walk.colons e) = refl
-  colons_bytes {t} k bs (Walk.name {f = f} e x) = absurd (no_text t.kind k f e)
+  colons_bytes k bs (Walk.name {f = f} e x) = absurd (k f e)
 
   colons_text : {f : Form} → Kind.TwoColons ≡ Kind.Text f → ⊥
   colons_text e = let z : ◌≡◌ {A = ℕ} 0 1 = cc in absurd (omega arith)
@@ -88,10 +83,10 @@ module _ (text : List ℕ) where
 
   -- no token comes, though the end is not reached: this is no Nesting
   pub naming_stops : {first j k n i : ℕ} {t t' : List ℕ} (r : Next) → Naming first j t k t' n i → i < j → Comes text i r →
-      OneOf (1 ∷ 2 ∷ []) (tag_of NextType.the_type r) → Wrote (Named text first j) t k t' n
+      ((u : Token) → r ≡ Next.Token u → ⊥) → Wrote (Named text first j) t k t' n
   naming_stops {j = j} r g h c o =
       record { puts = λ bs x. absurd (stuck (g.left bs x).named h c); same_length = g.same_length }
     where
       stuck : {i : ℕ} {rest : List ℕ} → Named text i j rest → i < j → Comes text i r → ⊥
       stuck Walk.ended h c = omega arith
-      stuck {i} (Walk.further {t = v} d l x y) h c = no_token_lem r o v (one_answer text i r (Next.Token v) c d)
+      stuck {i} (Walk.further {t = v} d l x y) h c = o v (one_answer text i r (Next.Token v) c d)

@@ -1,14 +1,11 @@
 -- A Text's bytes by its form; which node is a Text or a Nesting, and which a literal. Assumes nothing.
 use mathlib.Core.Path.{◌≡◌, refl, subst}
-use mathlib.Core.List.{List, [], ◌∷◌}
+use mathlib.Core.List.{List}
+use mathlib.Core.Logic.{◌⊎◌, inl, inr}
 use Prim.Native.Nat.{ℕ, ◌≤◌, ◌<◌}
 use native.Mathlib.Omega.{arith}
-use types.Run.{OneOf, miss}
-use denote.Enum.Declared.{tag_of}
 use Rattle.lexicon.specs.declared.Head.{Head}
 use Rattle.lexicon.specs.declared.Form.{Form}
-use Rattle.lexicon.specs.declared.Form.TheVariants as Form
-use Rattle.lexicon.specs.contracts.Form as FormType
 use Rattle.grammar.specs.Tokens.{Span}
 use Rattle.grammar.specs.Nodes.{NodeKind, kind_number_of}
 use Rattle.form.specs.Bare.{bare}
@@ -32,13 +29,16 @@ module _ (text : List ℕ) where
       quoted_bytes (part text s) ≡ bs
   head_spelled {s = s} e bs x = as_head_lem (subst (λ (g : Form). Spelled text g s bs) e x)
 
-  -- the keys are the places of Word and CodePoint in their enum
-  pub copy_spelled : {f : Form} {s : Span} → OneOf (1 ∷ 3 ∷ []) (tag_of FormType.the_type f) → (bs : List ℕ) → Spelled text f s bs →
+  as_word_lem : {s : Span} {bs : List ℕ} → Spelled text Form.Word s bs → part text s ≡ bs
+  as_word_lem Walk.as_word = refl
+
+  as_code_lem : {s : Span} {bs : List ℕ} → Spelled text Form.CodePoint s bs → part text s ≡ bs
+  as_code_lem Walk.as_code = refl
+
+  pub copy_spelled : {f : Form} {s : Span} → (f ≡ Form.Word) ⊎ (f ≡ Form.CodePoint) → (bs : List ℕ) → Spelled text f s bs →
       part text s ≡ bs
-  copy_spelled k bs Walk.as_quoted = absurd (miss (1 ∷ 3 ∷ []) 0 tt k)
-  copy_spelled k bs Walk.as_word = refl
-  copy_spelled k bs Walk.as_head = absurd (miss (1 ∷ 3 ∷ []) 2 tt k)
-  copy_spelled k bs Walk.as_code = refl
+  copy_spelled {s = s} (inl e) bs x = as_word_lem (subst (λ (g : Form). Spelled text g s bs) e x)
+  copy_spelled {s = s} (inr e) bs x = as_code_lem (subst (λ (g : Form). Spelled text g s bs) e x)
 
   -- ---- nodes by the numbers of their kinds
 

@@ -2,7 +2,6 @@
 use Rattle.std.specs.Prelude.{cond, List, [], ◌∷◌, ℕ}
 use Rattle.form.specs.Bare as Bare
 use Rattle.leaf.specs.declared.bare.Where.{Where}
-use Rattle.leaf.specs.declared.bare.Where.TheVariants as Where
 
 -- where it stands
 abbrev pub where_of : Where → Bare.Where

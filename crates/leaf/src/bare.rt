@@ -12,7 +12,7 @@ const GRAVE: u8 = b'`';
 const QUOTE: u8 = b'"';
 
 // Where a byte of a literal stands: outside quotes and comments, or inside.
-#[derive(Drop)]
+#[derive(Clone, Copy)]
 enum Where {
     Outside,
     Quotes,
