@@ -12,7 +12,6 @@ use Rattle.buffer.proofs.Puts.{puts_none, puts_then, puts_same, puts_length}
 use Rattle.grammar.proofs.Branches.{Branches, none, more, flat, flats}
 use Rattle.form.proofs.Walk.{Listed, no_more, child, turned, lead, role_of, one_attribute}
 use Rattle.marks.specs.declared.Attributes.{Attributes}
-use Rattle.marks.specs.declared.Attributes.TheVariants as Attributes
 use Rattle.marks.specs.ByNumber.{lead_by, counted_by}
 use Rattle.marks.proofs.Around.{leads, one_behind, counts, counts_two}
 use Rattle.plain.specs.Nodes.{From, Children, Past, Behind, ChildBytes}

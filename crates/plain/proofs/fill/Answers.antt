@@ -1,0 +1,7 @@
+-- `plain::fill` meets its contract. Assumes nothing.
+use native.Mathlib.Omega.{arith}
+use Rattle.plain.proofs.Fits.{fills}
+use Rattle.plain.proofs.fill.Goals as goal
+
+pub returns : goal.returns
+returns c = fills (omega arith) c.write_node.ensures
