@@ -1,0 +1,20 @@
+-- `stored::stored` meets its contract. Assumes nothing.
+use mathlib.Core.Path.{refl}
+use Rattle.rules.proofs.Tests.{says_no}
+use Rattle.reading.specs.Sizes.{old_rules}
+use Rattle.stored.proofs.Tables.{read_refused, read_accepted}
+use Rattle.stored.proofs.Calls.{says_stored, no_file}
+use Rattle.stored.proofs.stored.Goals as goal
+
+pub returns-then-answer-ne0 : goal.returns-then-answer-ne0
+returns-then-answer-ne0 c = says_no (no_file (read_refused old_rules _ _ refl c.reading-answer.ensures c.if-answer-ne0.true))
+
+pub same-requires : goal.same-requires
+same-requires c =
+    let found = read_accepted old_rules _ _ refl c.reading-answer.ensures c.if-answer-ne0.false in
+    (found.few, found.within)
+
+pub returns : goal.returns
+returns c =
+    let found = read_accepted old_rules _ _ refl c.reading-answer.ensures c.if-answer-ne0.false in
+    says_stored found (c.same.ensures _ found.tree found.held)
