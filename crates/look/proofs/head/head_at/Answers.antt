@@ -1,5 +1,6 @@
 -- `look::head::head_at` meets its contract. Assumes nothing.
 use mathlib.Core.Path.{ap, sym, ◌∙◌}
+use borrow.Author.Rules.{rules}
 use Rattle.lexicon.specs.declared.Kind.TheVariants as Kind
 use Rattle.lexicon.proofs.Variants.{text_same}
 use Rattle.look.proofs.Looking.{got_token, got_none, headless, no_word, no_sign_lem, no_colon_lem, head_here}
@@ -23,7 +24,7 @@ returns-in_default-second c = let k = got_token _ _ c.in-Token.is c.get-first.en
 pub returns-in_default-sign : goal.returns-in_default-sign
 returns-in_default-sign c = let k = got_token _ _ c.in-Token.is c.get-first.ensures in
     let m = got_token _ _ c.in-Token-second.is c.get-second.ensures in
-    (k, no_colon_lem _ _ k m c.in_default-sign.not-Colon)
+    (k, no_colon_lem _ _ k m (λ e. search (rules, e)))
 
 pub returns : goal.returns
 returns c = let k = got_token _ _ c.in-Token.is c.get-first.ensures in
