@@ -35,6 +35,10 @@ second_level e = level_same e by second
     by intervals = refl
     by left_arrows = refl
 
+pub no_level_lem : {n : ℕ} → (n ≡ 1 → ⊥) → (n ≡ 2 → ⊥) → (l : Level) → LevelOf n l → ⊥
+no_level_lem a b l first = a refl
+no_level_lem a b l second = b refl
+
 pub collects : (forms : Forms) (h : Head) {r : Collection} {style : Style} → r ≡ Collection.Of style → Collects forms h r →
     Collects forms h (Collection.Of style)
 collects forms h e x = subst (λ (y : Collection). Collects forms h y) e x
