@@ -9,7 +9,9 @@ use Rattle.listing.proofs.node.Given as goal
 
 -- what was written since the first word
 abbrev pub invariant-loop-word : goal.invariant-loop-word
-invariant-loop-word l = Wrote l.initial.out l.initial.then (cells (λ k. word_at l.table l.index k) (l.word - 1)) l.out l.then × (length (cells (λ k. word_at l.table l.index k) (l.word - 1)) ≤ 11 * (l.word - 1)) ×
+invariant-loop-word l =
+    Wrote l.initial.out l.initial.then (cells (λ k. word_at l.table l.index k) (l.word - 1)) l.out l.then ×
+    (length (cells (λ k. word_at l.table l.index k) (l.word - 1)) ≤ 11 * (l.word - 1)) ×
     (1 ≤ l.word) × (l.word ≤ node_words) × (length l.out ≡ length l.initial.out)
 
 abbrev pub decreases-loop-word : goal.decreases-loop-word
