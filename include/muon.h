@@ -71,15 +71,15 @@ extern "C" {
 
 /* The stack that a call needs at most, in bytes, whatever the input; muon_file_write, muon_file_check, muon_plain and muon_convert have
    another number.
-   Behind it: the frames of muon_read times the open brackets that there may be come to 30,192 bytes in the archive as built today, those of
-   muon_integer to 560, of muon_text to 864, of muon_blob and of muon_bits to 800 each, of muon_utf8 to 376 and of muon_line_column to 296;
-   the most that was measured, over the deepest texts and the longest ways through a literal, is 29,804, 556, 864, 796, 796, 232 and 136
+   Behind it: the frames of muon_read times the open brackets that there may be come to 27,568 bytes in the archive as built today, those of
+   muon_integer to 520, of muon_text to 1,072, of muon_blob and of muon_bits to 696 each, of muon_utf8 to 216 and of muon_line_column to 232;
+   the most that was measured, over the deepest texts and the longest ways through a literal, is 27,232, 520, 1,072, 696, 696, 72 and 72
    (tests/stack prints them and fails if one exceeds the number here).
    No call takes memory from anywhere else. */
 #define MUON_STACK_MAX 32768
 /* The stack that muon_file_write, muon_file_check, muon_plain and muon_convert need at most, since each reads the text into a table on its
-   stack. By the frames it comes to 58,912 bytes for each of them; 58,508 were measured for either call of stored files, 58,540 for
-   muon_plain and 58,524 for muon_convert (tests/stack, too). */
+   stack. By the frames it comes to 56,304 bytes at most; 55,936 were measured for either call of stored files, 55,984 for muon_plain and
+   55,968 for muon_convert (tests/stack, too). */
 #define MUON_FILE_STACK_MAX (MUON_STACK_MAX + 4 * MUON_TABLE_MAX)
 
 /* ---- The answer ------------------------------------------------------------------------------------------------------------- */
