@@ -2,8 +2,13 @@
 use mathlib.Core.Path.{◌≡◌, refl, subst}
 use mathlib.Core.List.{List}
 use mathlib.Core.Logic.{◌⊎◌, inl, inr}
-use Prim.Native.Nat.{ℕ, ◌≤◌, ◌<◌}
+use Prim.Native.Nat.{ℕ, ◌-◌, ◌≤◌, ◌<◌}
 use native.Mathlib.Omega.{arith}
+use lib.ListN.{take, drop}
+use Rattle.rules.specs.Plain.{between}
+use Rattle.buffer.specs.Puts.{Puts}
+use Rattle.buffer.specs.Wrote.{Wrote}
+use Rattle.buffer.proofs.Writing.{wrote}
 use Rattle.lexicon.specs.declared.Head.{Head}
 use Rattle.lexicon.specs.declared.Form.{Form}
 use Rattle.grammar.specs.Tokens.{Span}
@@ -12,6 +17,8 @@ use Rattle.form.specs.Bare.{bare}
 use Rattle.form.specs.Spell.{quoted_bytes, part}
 use Rattle.form.proofs.Walk
 use Rattle.form.proofs.Walk.{Spelled, Named, Leaf}
+use Rattle.leaf.specs.Leaves.{LeafBytes}
+use Rattle.leaf.specs.declared.Node.{Node}
 
 module _ (text : List ℕ) where
   -- ---- the bytes
@@ -62,3 +69,9 @@ module _ (text : List ℕ) where
   literal_leaf h bs Walk.blob = refl
   literal_leaf h bs (Walk.wording x) = absurd (omega (arith, h))
   literal_leaf h bs (Walk.nesting x) = absurd (omega (arith, h))
+
+-- a literal's bytes that are kept are the leaf's: a search finds it, whatever test shows that the node is a literal
+pub bare_leaf : {text lent left : List ℕ} {node : Node} {at n : ℕ} → Puts lent at (bare (take (node.end - node.first) (drop node.first text))) left n →
+    node.kind < 7 → Wrote (LeafBytes text node) lent at left n
+unfolding between
+bare_leaf {text} p h = wrote (λ bs x. literal_leaf text (omega (arith, h, x.kind_is)) bs x.leaf) p

@@ -25,6 +25,7 @@ pub struct Node {
 }
 
 // A node that is no bracket, if its bytes are of the text.
+#[tactic(auto, using(crate::proofs::Spellings::bare_leaf))]
 pub fn leaf(text: &[u8], node: Node, buffer: &mut [u8], at: usize) -> usize
     ensures { Wrote (LeafBytes text.now node) buffer.old at buffer.new result }
 {

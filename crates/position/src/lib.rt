@@ -52,6 +52,7 @@ fn line_of(text: &[u8], end: usize) -> Line
 }
 
 // Where the character at a place ends. A byte that begins no sequence is one by itself.
+#[tactic(auto, using(values::proofs::Position::plain_byte_lem))]
 fn behind(text: &[u8], at: usize) -> usize
     requires { at < length text.now }
     ensures { Character text.now at result }

@@ -2,24 +2,27 @@
 use mathlib.Core.Path.{◌≡◌, refl, sym, subst, ◌∙◌}
 use mathlib.Core.Bool.{Bool}
 use mathlib.Core.Logic.{inl, inr}
-use mathlib.Core.List.{List}
-use mathlib.Core.Option.{none}
+use mathlib.Core.List.{List, ◌++◌}
+use mathlib.Core.Option.{Option, none}
 use Prim.Native.Nat.{ℕ, ◌+◌, ◌*◌, ◌≤◌, ◌<◌}
 use native.Mathlib.Omega.{arith}
-use lib.ListN.{length}
+use lib.ListN.{length, replicate, drop}
 use Rattle.rules.specs.Test.{Says}
 use Rattle.decisions.proofs.Tests.{by}
 use Rattle.buffer.specs.Puts.{Puts}
 use Rattle.buffer.proofs.Puts.{puts_start}
 use Rattle.reading.specs.declared.Answer.{Answer}
 use Rattle.reading.specs.declared.Rules.{Rules}
-use Rattle.reading.specs.Answers.{answer}
+use Rattle.reading.specs.Answers.{Answers, Reading, answer, nodes_of}
+use Rattle.grammar.specs.Tree.{Value}
+use Rattle.grammar.specs.Nodes.{table_words, node_words}
+use Rattle.reading.specs.Sizes.{base}
 use Rattle.files.specs.File.{file}
 use Rattle.files.specs.Writes.{Read, Writes, no_room, written}
 use Rattle.files.specs.Checks.{Unmarked, OtherVersion, Stored, Checks, refused}
 use Rattle.files.proofs.Determined.{no_tree, one_file}
 use Rattle.stored.proofs.Loops.{told_length}
-use Rattle.stored.proofs.Tables.{Found}
+use Rattle.stored.proofs.Tables.{Found, read_accepted}
 
 module _ {rules : Rules} {text left : List ℕ} {a : Answer} (found : Found rules text left a) where
   -- ---- the writer
@@ -43,6 +46,14 @@ module _ {rules : Rules} {text left : List ℕ} {a : Answer} (found : Found rule
   pub says_stored : {bytes : List ℕ} {b : Bool} → Says b (bytes ≡ file text found.tree) → Says b (Stored rules text bytes)
   says_stored s =
       by (λ e. record { read_as = a; tree = found.tree; read = found.read; bytes_are = e }) (λ x. x.bytes_are ∙ one_file rules text x.read found.read) s
+
+-- the same by what the reader promises of the longest table: a search finds it, whatever test shows that the file does not fit
+pub too_short_read : {text lent : List ℕ} {a : Answer} {n : ℕ} {tree : Option Value} → Reading base text base.nodes 2 a tree → a.number ≡ 0 →
+    n ≡ 9 + 12 * a.count → length lent < n → Writes base text lent (answer 8 (length text) n) lent
+too_short_read {text} {lent} {a} {n} {tree} r e m h =
+    let x : Answers base text (replicate 7168 0) 2 a (table_words (nodes_of tree) ++ drop (node_words * length (nodes_of tree)) (replicate 7168 0)) =
+    record { tree = tree; reading = r; left_is = refl } in
+    too_short (read_accepted base text _ refl x e) n m h
 
 -- a text that the reader refuses has no file
 pub no_file : {rules : Rules} {text bytes : List ℕ} {a : Answer} → Read rules text a none → Stored rules text bytes → ⊥

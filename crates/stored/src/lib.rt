@@ -46,6 +46,7 @@ fn fill(table: &[u32], nodes: usize, size: usize, buffer: &mut [u8])
 }
 
 // Writes the table of a text, read at level 2 by the rules of today, as a stored file: none is written of a text with `<-`.
+#[tactic(auto, using(crate::proofs::Calls::too_short_read))]
 pub fn write(text: &[u8], buffer: &mut [u8]) -> Answer
     ensures { Writes base text.now buffer.old result buffer.new }
 {

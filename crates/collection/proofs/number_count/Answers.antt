@@ -1,6 +1,6 @@
 -- A signed Integer counts nothing.
 -- Assumes nothing.
-use Rattle.std.proofs.Common.{refl, arith}
+use Rattle.std.proofs.Common.{arith}
 use Rattle.moves.proofs.Moved.{moved}
 use Rattle.collection.proofs.number_count.Goals as goal
 
@@ -8,10 +8,10 @@ pub returns-then-signed : goal.returns-then-signed
 returns-then-signed c = λ forms. moved (grind arith)
 
 pub returns-in-Array : goal.returns-in-Array
-returns-in-Array c = λ forms. rw (c.if-signed.false, c.in-Array.is) (moved refl)
+returns-in-Array c = λ forms. moved (grind arith)
 
 pub returns-in-Bag : goal.returns-in-Bag
-returns-in-Bag c = λ forms. rw (c.if-signed.false, c.in-Bag.is) (moved refl)
+returns-in-Bag c = λ forms. moved (grind arith)
 
 pub returns-in_default : goal.returns-in_default
 returns-in_default c = λ forms. moved (grind arith)

@@ -4,7 +4,7 @@ use native.Mathlib.Omega.{arith}
 use Rattle.reading.specs.Sizes.{base}
 use Rattle.files.specs.Writes.{refused}
 use Rattle.stored.proofs.Tables.{read_refused, read_accepted}
-use Rattle.stored.proofs.Calls.{too_short, all_written}
+use Rattle.stored.proofs.Calls.{all_written}
 use Rattle.stored.proofs.write.Goals as goal
 
 pub returns-then-answer-ne0 : goal.returns-then-answer-ne0
@@ -12,11 +12,6 @@ returns-then-answer-ne0 c = refused (read_refused base _ _ refl c.read-answer.en
 
 pub file_bytes-needed-requires : goal.file_bytes-needed-requires
 file_bytes-needed-requires c = (read_accepted base _ _ refl c.read-answer.ensures c.if-answer-ne0.false).few
-
-pub returns-then-buffer-needed : goal.returns-then-buffer-needed
-returns-then-buffer-needed c =
-    let found = read_accepted base _ _ refl c.read-answer.ensures c.if-answer-ne0.false in
-    too_short found _ c.file_bytes-needed.ensures (omega (arith, c.if-buffer-needed.true, c.file_bytes-needed.ensures))
 
 pub fill-requires : goal.fill-requires
 fill-requires c =
@@ -26,4 +21,4 @@ fill-requires c =
 pub returns : goal.returns
 returns c =
     let found = read_accepted base _ _ refl c.read-answer.ensures c.if-answer-ne0.false in
-    all_written found _ c.file_bytes-needed.ensures (omega (arith, c.if-buffer-needed.false)) (c.fill.ensures _ found.tree found.held)
+    all_written found _ c.file_bytes-needed.ensures (omega arith) (c.fill.ensures _ found.tree found.held)
