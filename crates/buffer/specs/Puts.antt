@@ -11,5 +11,5 @@ pub record Puts (t : List ℕ) (k : ℕ) (bs t' : List ℕ) (n : ℕ) : Type 0 w
   pub bytes_are : t' ≡ over t k bs
   pub ends : n ≡ min largest (k + length bs)
   -- no buffer is longer than that. It stands here so that one row of bytes behind another needs no premise
-  -- (proofs/Puts.antt: `Puts-then`)
+  -- (proofs/Puts.antt: `puts_then`)
   pub within : length t ≤ largest

@@ -1,7 +1,4 @@
 -- `integer_value::integer::integer` meets its contract. Assumes nothing.
-use mathlib.Core.Bool.{not}
-use mathlib.Core.Path.{ap}
-use borrow.Author.Tests.{not-true}
 use Rattle.rules.proofs.Tests.{refuted}
 use Rattle.integer_value.proofs.Calls.{too_long_lem, not_utf8_lem, not_integer_lem, of_literal}
 use Rattle.integer_value.proofs.integer.integer.Goals as goal
@@ -11,7 +8,7 @@ returns-then-piece-gt-LONGEST c = too_long_lem _ c.if-piece-gt-LONGEST.true c.re
 
 pub returns-then-not-exactly : goal.returns-then-not-exactly
 returns-then-not-exactly c = not_integer_lem _ c.if-piece-gt-LONGEST.false c.utf8-encoding.result c.utf8-encoding.ensures c.in-WellFormed.is
-    (refuted c.exactly.ensures (not-true _ (ap not c.if-not-exactly.true))) c.refused-then-not-exactly.ensures
+    (refuted c.exactly.ensures c.if-not-exactly.true) c.refused-then-not-exactly.ensures
 
 pub literal-requires : goal.literal-requires
 literal-requires c = c.exactly.ensures.true_holds c.if-not-exactly.false

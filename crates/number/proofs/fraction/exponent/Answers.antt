@@ -2,7 +2,6 @@
 use mathlib.Core.Bool.{not}
 use mathlib.Core.Path.{ap}
 use native.Mathlib.Omega.{arith}
-use borrow.Author.Tests.{not-false}
 use Rattle.number.proofs.Fractions.{exponent_none, exponent_answer, found, sign_within}
 use Rattle.number.proofs.fraction.exponent.Goals as goal
 
@@ -10,7 +9,7 @@ pub returns-then-not-stands : goal.returns-then-not-stands
 returns-then-not-stands c = exponent_none _ _ _ c.stands.result c.space-sign.ensures c.stands.ensures (ap not c.if-not-stands.true)
 
 pub overflow_add-sign : goal.overflow_add-sign
-overflow_add-sign c = omega (arith, sign_within _ 0x5E _ c.stands.result c.stands.ensures (not-false _ (ap not c.if-not-stands.false)), c.well_formed.0.0)
+overflow_add-sign c = omega (arith, sign_within _ 0x5E _ c.stands.result c.stands.ensures c.if-not-stands.false, c.well_formed.0.0)
 
 pub returns : goal.returns
-returns c = exponent_answer _ (found _ 0x5E _ _ _ c.stands.result c.space-sign.ensures c.stands.ensures (not-false _ (ap not c.if-not-stands.false)) c.space-from.ensures) c.integer.result c.integer.ensures
+returns c = exponent_answer _ (found _ 0x5E _ _ _ c.stands.result c.space-sign.ensures c.stands.ensures c.if-not-stands.false c.space-from.ensures) c.integer.result c.integer.ensures
