@@ -12,23 +12,16 @@ use lexicon::{Base, Set};
 // From it on a number is no code point, no denominator 0 and no radix below 2.
 pub const LIMIT: u32 = 0x11_0000;
 
-// The base of a letter, if it has one.
-#[derive(Drop)]
-pub enum Lettered {
-    Of(Base),
-    Nothing,
-}
-
-// The base that a letter names.
-pub fn base_of(b: u8) -> Lettered
+// The base that a letter names, if it names one.
+pub fn base_of(b: u8) -> Option<Base>
     ensures { Letters b result }
 {
     match b {
-        b'b' => Lettered::Of(Base::Two),
-        b'o' => Lettered::Of(Base::Eight),
-        b'd' => Lettered::Of(Base::Ten),
-        b'x' => Lettered::Of(Base::Sixteen),
-        _ => Lettered::Nothing,
+        b'b' => Some(Base::Two),
+        b'o' => Some(Base::Eight),
+        b'd' => Some(Base::Ten),
+        b'x' => Some(Base::Sixteen),
+        _ => None,
     }
 }
 

@@ -9,8 +9,7 @@ use Rattle.rules.proofs.Classes.{apart, apart_span}
 use Rattle.rules.proofs.Ways.{never}
 use Rattle.lexicon.specs.Utf8.{range, tail, sequence}
 use Rattle.lexicon.specs.Found.{Finds}
-use Rattle.lexicon.specs.declared.Found.{Found}
-use Rattle.lexicon.specs.declared.Found.TheVariants.{At}
+use Rattle.std.specs.Prelude.{Option, Some}
 use Rattle.text.proofs.Ranges.{in_range}
 use Rattle.text.proofs.Searches.{Same, found, first, whole, this, past, fails, byte_longest}
 
@@ -63,9 +62,9 @@ module _ {text : List ℕ} {i : ℕ} where
 -- the ways out of `sequence`, by the first byte
 module _ (text : List ℕ) (i : ℕ) (here : i < length text) where
   pub ascii : get_or text i 0 < 0x80 → Longest text sequence i (i + 1)
-  ascii h = let t = in_range text 0x00 0x7F i here (omega arith) (omega arith) in found (At (i + 1)) (row_ascii t) (byte_longest t)
+  ascii h = let t = in_range text 0x00 0x7F i here (omega arith) (omega arith) in found (Some (i + 1)) (row_ascii t) (byte_longest t)
 
-  pub leads : (low high : ℕ) {r : Rule} {k : ℕ} (f : Found) → (Takes text (range low high) i (i + 1) → Same text sequence i r k) → low ≤ get_or text i 0 → get_or text i 0 ≤ high → Finds text r k f → Finds text sequence i f
+  pub leads : (low high : ℕ) {r : Rule} {k : ℕ} (f : Option ℕ) → (Takes text (range low high) i (i + 1) → Same text sequence i r k) → low ≤ get_or text i 0 → get_or text i 0 ≤ high → Finds text r k f → Finds text sequence i f
   leads low high f row l h e = found f (row (in_range text low high i here l h)) e
 
   pub stray : 0x80 ≤ get_or text i 0 → get_or text i 0 < 0xC2 → Fails text sequence i

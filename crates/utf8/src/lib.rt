@@ -7,49 +7,49 @@ ghost use Rattle.lexicon.specs.Utf8;
 ghost use Rattle.lexicon.specs.Steps.{eight, TestedAs};
 
 use eight::ascii;
-use lexicon::{Encoding, Found, Tested};
+use lexicon::{NotUtf8, Tested};
 use text::byte::within;
 
 // The last byte of a sequence.
-fn last(text: &[u8], at: usize) -> Found
+fn last(text: &[u8], at: usize) -> Option<usize>
     ensures { Finds text.now Utf8.tail at result }
 {
     if within(text, at, 0x80, 0xBF) {
-        return Found::At(at + 1);
+        return Some(at + 1);
     }
-    Found::Nothing
+    None
 }
 
 // The last two, of which the first is from `low` to `high`.
-fn last_two(text: &[u8], at: usize, low: u8, high: u8) -> Found
+fn last_two(text: &[u8], at: usize, low: u8, high: u8) -> Option<usize>
     ensures { Finds text.now (Utf8.range low high then Utf8.tail) at result }
 {
     if within(text, at, low, high) {
         return last(text, at + 1);
     }
-    Found::Nothing
+    None
 }
 
 // The last three, of which the first is from `low` to `high`.
-fn last_three(text: &[u8], at: usize, low: u8, high: u8) -> Found
+fn last_three(text: &[u8], at: usize, low: u8, high: u8) -> Option<usize>
     ensures { Finds text.now (Utf8.range low high then Utf8.tail then Utf8.tail) at result }
 {
     if within(text, at, low, high) {
         return last_two(text, at + 1, 0x80, 0xBF);
     }
-    Found::Nothing
+    None
 }
 
 // The end of the well-formed sequence that begins at `at`. The first byte tells the length, and what the second may be.
-pub fn sequence(text: &[u8], at: usize) -> Found
+pub fn sequence(text: &[u8], at: usize) -> Option<usize>
     ensures { Finds text.now Utf8.sequence at result }
 {
     if text.len() <= at {
-        return Found::Nothing;
+        return None;
     }
     let lead = text[at];
     match lead {
-        0x00..=0x7F => Found::At(at + 1),
+        0x00..=0x7F => Some(at + 1),
         0xC2..=0xDF => last(text, at + 1),
         0xE0 => last_two(text, at + 1, 0xA0, 0xBF),
         0xE1..=0xEC => last_two(text, at + 1, 0x80, 0xBF),
@@ -58,7 +58,7 @@ pub fn sequence(text: &[u8], at: usize) -> Found
         0xF0 => last_three(text, at + 1, 0x90, 0xBF),
         0xF1..=0xF3 => last_three(text, at + 1, 0x80, 0xBF),
         0xF4 => last_three(text, at + 1, 0x80, 0x8F),
-        _ => Found::Nothing,
+        _ => None,
     }
 }
 
@@ -99,9 +99,9 @@ pub fn tested(text: &[u8]) -> Tested
         at = end;
         // Behind a longer sequence another is likely: no look for eight at each.
         while within(text, at, 0x80, 0xFF) {
-            let Found::At(next) = sequence(text, at) else {
+            let Some(next) = sequence(text, at) else {
                 return Tested {
-                    encoding: Encoding::BadAt(at),
+                    encoding: Err(NotUtf8 { at }),
                     steps,
                 };
             };
@@ -110,13 +110,13 @@ pub fn tested(text: &[u8]) -> Tested
         }
     }
     Tested {
-        encoding: Encoding::WellFormed,
+        encoding: Ok(()),
         steps,
     }
 }
 
 // The answer without the steps.
-pub fn utf8(text: &[u8]) -> Encoding
+pub fn utf8(text: &[u8]) -> Result<(), NotUtf8>
     ensures { Utf8.Encoded text.now result }
 {
     let answer = tested(text);

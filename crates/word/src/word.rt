@@ -4,28 +4,28 @@ ghost use Rattle.lexicon.specs.Literals;
 ghost use Rattle.word.specs.Heads.{Tells, TellsOf, tuples, intervals, collections};
 
 use crate::spelling::spells;
-use lexicon::{Form, Found, Head, Set};
+use lexicon::{Form, Head, Set};
 use text::class::{classes, holds};
 
 // Where the word at the place ends.
-pub fn word(text: &[u8], at: usize) -> Found
+pub fn word(text: &[u8], at: usize) -> Option<usize>
     ensures { Finds text.now Literals.word at result }
 {
     let classes = classes();
     if at >= text.len() {
-        return Found::Nothing;
+        return None;
     }
     if !holds(classes[text[at] as usize], Set::WordStart) {
-        return Found::Nothing;
+        return None;
     }
     let mut i = at + 1;
     while i < text.len() {
         if !holds(classes[text[i] as usize], Set::WordRest) {
-            return Found::At(i);
+            return Some(i);
         }
         i += 1;
     }
-    Found::At(i)
+    Some(i)
 }
 
 // Which head word of tuples stands from one place to the other, if any.
