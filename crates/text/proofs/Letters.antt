@@ -4,7 +4,7 @@ use Prim.Native.Nat.{ℕ}
 use Rattle.lexicon.specs.declared.Base.{Base}
 use Rattle.lexicon.specs.declared.Base.TheVariants.{Two, Eight, Ten, Sixteen}
 use Rattle.lexicon.specs.Parts.{letter}
-use Rattle.text.specs.declared.digit.Lettered.{Lettered}
+use Rattle.std.proofs.Common.{Option}
 use Rattle.text.specs.Letters.{Letters}
 
 -- none of the four letters
@@ -15,5 +15,5 @@ no_letter n2 n8 n10 n16 Ten = n10
 no_letter n2 n8 n10 n16 Sixteen = n16
 
 -- what an answer says, once it is known which
-pub answered : (b : ℕ) {r s : Lettered} → r ≡ s → Letters b r → Letters b s
-answered b e l = subst (λ (x : Lettered). Letters b x) e l
+pub answered : (b : ℕ) {r s : Option Base} → r ≡ s → Letters b r → Letters b s
+answered b e l = subst (λ (x : Option Base). Letters b x) e l

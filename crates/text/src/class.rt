@@ -30,9 +30,7 @@ pub fn classes() -> [u8; 256]
 pub fn class(b: u8) -> u8
     ensures { result ≡ class_of b }
 {
-    let classes = classes();
-    let i = b as usize;
-    classes[i]
+    classes()[b as usize]
 }
 
 // Whether what the set adds is in the class: the set's bit.
