@@ -13,7 +13,8 @@ use Rattle.rules.proofs.Matches.{forward, inside}
 use Rattle.rules.proofs.Chains as Chains
 use Rattle.rules.proofs.Chains.{snoc}
 use Rattle.rules.proofs.Ways.{grows, end_takes}
-use Rattle.lexicon.specs.declared.Encoding.{Encoding}
+use Rattle.std.specs.Prelude.{Result, Ok, Err}
+use Rattle.lexicon.specs.declared.NotUtf8.{NotUtf8}
 use Rattle.lexicon.specs.declared.Tested.{Tested}
 use Rattle.lexicon.specs.Utf8.{sequence, WellFormed, Encoded}
 use Rattle.lexicon.specs.Steps.{eight, Steps, start, eight_bytes, one_sequence, place_of, TestedAs}
@@ -30,14 +31,14 @@ module _ (text : List ℕ) where
   pub formed_is : formed ≡ true → WellFormed text
   formed_is e = (takes text (many sequence) 0 (length text)).true_holds e
 
-  pub encoded : (r : Encoding) × Encoded text r
+  pub encoded : (r : Result (Unit {0}) NotUtf8) × Encoded text r
   encoded = go (furthest text (many sequence) 0) (furthest_longest text (many sequence) 0 (stop refl)) (ltb (furthest text (many sequence) 0) (length text)) refl
     where
-      go : (j : ℕ) → Longest text (many sequence) 0 j → (b : Bool) → ltb j (length text) ≡ b → (r : Encoding) × Encoded text r
+      go : (j : ℕ) → Longest text (many sequence) 0 j → (b : Bool) → ltb j (length text) ≡ b → (r : Result (Unit {0}) NotUtf8) × Encoded text r
       go j o true e =
-          (Encoding.BadAt j, record { reached = o.takes; within = ltb-true j (length text) e; none = record { none = λ {k} t. omega (arith, o.most (snoc o.takes t), grows sequence refl t) } })
+          (Err (record { at = j }), record { reached = o.takes; within = ltb-true j (length text) e; none = record { none = λ {k} t. omega (arith, o.most (snoc o.takes t), grows sequence refl t) } })
       go j o false e =
-          (Encoding.WellFormed, subst (λ (x : ℕ). Takes text (many sequence) 0 x) (omega (arith, ltb-false j (length text) e, inside o.takes (omega arith))) o.takes)
+          (Ok tt, subst (λ (x : ℕ). Takes text (many sequence) 0 x) (omega (arith, ltb-false j (length text) e, inside o.takes (omega arith))) o.takes)
 
   -- steps lead to a place at which no sequence begins: eight bytes that come next do not lead past it
   module _ {j : ℕ} (f : Fails text sequence j) where
@@ -67,9 +68,9 @@ module _ (text : List ℕ) where
   pub tested : (r : Tested) × TestedAs text r
   tested = go encoded.0 encoded.1
     where
-      ends : (r : Encoding) → Encoded text r → (n : ℕ) × Steps text (place_of text r) n
-      ends Encoding.WellFormed w = counted (record { none = λ t. end_takes text sequence refl (omega arith) t }) w
-      ends (Encoding.BadAt p) b = counted b.none b.reached
+      ends : (r : Result (Unit {0}) NotUtf8) → Encoded text r → (n : ℕ) × Steps text (place_of text r) n
+      ends (Ok _) w = counted (record { none = λ t. end_takes text sequence refl (omega arith) t }) w
+      ends (Err p) b = counted b.none b.reached
 
-      go : (r : Encoding) → Encoded text r → (r : Tested) × TestedAs text r
+      go : (r : Result (Unit {0}) NotUtf8) → Encoded text r → (r : Tested) × TestedAs text r
       go r x = let s = ends r x in (record { encoding = r; steps = s.0 }, record { encoded = x; steps_are = s.1 })

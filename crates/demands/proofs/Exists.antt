@@ -7,7 +7,8 @@ use Prim.Native.Nat.{ℕ, zero, suc, ◌+◌, ◌≤◌}
 use native.Mathlib.Omega.{arith}
 use lib.ListN.{length}
 use Rattle.lexicon.specs.declared.Token as Token
-use Rattle.lexicon.specs.declared.Encoding.{Encoding}
+use Rattle.std.specs.Prelude.{Result, Ok, Err}
+use Rattle.lexicon.specs.declared.NotUtf8.{NotUtf8}
 use Rattle.lexicon.specs.declared.Next.TheVariants as Next
 use Rattle.lexicon.specs.Utf8.{WellFormed, Encoded}
 use Rattle.lexicon.specs.Front.{Front}
@@ -102,9 +103,9 @@ module _ (rules : Rules) (bytes : List ℕ) where
         judged {l} o h w (finished {ts} s a) =
             roomy o h w s.tree (record { of_level = s.of_level; passed = subst (AllPassed rules.limits l bytes) (sym s.yields) a }) (order room (length (table s.tree)))
 
-        formed : {l : Level} → LevelOf number l → length bytes ≤ rules.text → (r : Encoding) → Encoded bytes r → Answered
-        formed {l} o h Encoding.WellFormed w = judged o h w (outcome rules.limits bytes l (front bytes).0 (front bytes).1)
-        formed o h (Encoding.BadAt p) b = (_, _, not_utf8 o h b)
+        formed : {l : Level} → LevelOf number l → length bytes ≤ rules.text → (r : Result (Unit {0}) NotUtf8) → Encoded bytes r → Answered
+        formed {l} o h (Ok _) w = judged o h w (outcome rules.limits bytes l (front bytes).0 (front bytes).1)
+        formed o h (Err p) b = (_, _, not_utf8 o h b)
 
         long : {l : Level} → LevelOf number l → Order rules.text (length bytes) → Answered
         long o (equal e) = formed o (omega (arith, e)) (encoded bytes).0 (encoded bytes).1

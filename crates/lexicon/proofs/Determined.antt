@@ -11,7 +11,8 @@ use Rattle.rules.proofs.Classes.{apart, apart_span}
 use Rattle.rules.proofs.Matches.{forward, longest_same}
 use Rattle.rules.proofs.Chains.{Single, reaches, longest}
 use Rattle.rules.proofs.Ways.{covers, single, end_takes}
-use Rattle.lexicon.specs.declared.Encoding.{Encoding}
+use Rattle.std.specs.Prelude.{Result, Ok, Err}
+use Rattle.lexicon.specs.declared.NotUtf8.{NotUtf8}
 use Rattle.lexicon.specs.Utf8.{sequence, WellFormed, BadAt, Encoded}
 use Rattle.lexicon.specs.Front.{Front, first_line}
 use Rattle.lexicon.specs.declared.Kind.{Kind}
@@ -43,11 +44,11 @@ module _ (text : List ℕ) where
   pub one_bad : {p q : ℕ} → BadAt text p → BadAt text q → p ≡ q
   one_bad a b = longest_same (longest (sequence_single text) a.reached a.none) (longest (sequence_single text) b.reached b.none)
 
-  pub one_encoding : (r s : Encoding) → Encoded text r → Encoded text s → r ≡ s
-  one_encoding Encoding.WellFormed Encoding.WellFormed x y = refl
-  one_encoding Encoding.WellFormed (Encoding.BadAt q) x y = absurd (formed_or_bad x y)
-  one_encoding (Encoding.BadAt p) Encoding.WellFormed x y = absurd (formed_or_bad y x)
-  one_encoding (Encoding.BadAt p) (Encoding.BadAt q) x y = ap Encoding.BadAt (one_bad x y)
+  pub one_encoding : (r s : Result (Unit {0}) NotUtf8) → Encoded text r → Encoded text s → r ≡ s
+  one_encoding (Ok _) (Ok _) x y = refl
+  one_encoding (Ok _) (Err q) x y = absurd (formed_or_bad x y)
+  one_encoding (Err p) (Ok _) x y = absurd (formed_or_bad y x)
+  one_encoding (Err p) (Err q) x y = ap (λ (i : ℕ). Err (record { at = i })) (one_bad x y)
 
   pub one_front : {p q : ℕ} → Front text p → Front text q → p ≡ q
   one_front {p} {q} f g =

@@ -1,9 +1,8 @@
 -- UTF-8 as the Unicode Standard's table of well-formed byte sequences has it (table 3-7), a row a line; and 01's place
 -- of refusal 3. Assumes nothing.
-use Rattle.std.specs.Prelude.{List, [], ◌∷◌, ℕ, ◌<◌, length}
+use Rattle.std.specs.Prelude.{List, [], ◌∷◌, ℕ, ◌<◌, length, Result, Ok, Err}
 use Rattle.rules.specs.Class.{◌upto◌}
-use Rattle.lexicon.specs.declared.Encoding as Encoding
-use Rattle.lexicon.specs.declared.Encoding.{Encoding}
+use Rattle.lexicon.specs.declared.NotUtf8.{NotUtf8}
 use Rattle.rules.specs.Rule.{Rule, one, ◌then◌, ◌or◌, many, Takes, Fails}
 
 abbrev pub range : ℕ → ℕ → Rule
@@ -40,6 +39,6 @@ module _ (text : List ℕ) where
     pub none : Fails text sequence place
 
   -- what the answer of the test says
-  abbrev pub Encoded : Encoding → Type 0
-  Encoded Encoding.TheVariants.WellFormed = WellFormed
-  Encoded (Encoding.TheVariants.BadAt place) = BadAt place
+  abbrev pub Encoded : Result (Unit {0}) NotUtf8 → Type 0
+  Encoded (Ok _) = WellFormed
+  Encoded (Err bad) = BadAt bad.at

@@ -14,31 +14,23 @@ pub enum Set {
     Dividing,
 }
 
-// Where a rule's longest match ends, if it has one.
+// Where a literal ends, and whether its value is bad.
 #[derive(Clone, Copy)]
-pub enum Found {
-    At(usize),
-    Nothing,
+pub struct Literal {
+    pub end: usize,
+    pub bad: bool,
 }
 
-// Where a literal ends, if one begins, and whether its value is bad.
+// A text is not UTF-8: refusal 3 has the place.
 #[derive(Clone, Copy)]
-pub enum Literal {
-    At { end: usize, bad: bool },
-    Nothing,
+pub struct NotUtf8 {
+    pub at: usize,
 }
 
-// The answer of the UTF-8 test: refusal 3 has the place.
-#[derive(Clone, Copy)]
-pub enum Encoding {
-    WellFormed,
-    BadAt(usize),
-}
-
-// The same, and the steps that the test took up to its place.
+// The answer of the UTF-8 test, and the steps that it took up to its place.
 #[derive(Clone, Copy)]
 pub struct Tested {
-    pub encoding: Encoding,
+    pub encoding: Result<(), NotUtf8>,
     pub steps: usize,
 }
 

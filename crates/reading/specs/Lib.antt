@@ -5,6 +5,7 @@ pub mod Tests
 pub mod Faults
 pub mod Derived
 pub mod Answers
+pub mod Refusals
 pub mod Tabled
 pub mod Buffer
 pub mod Agree

@@ -1,7 +1,38 @@
-// What a reading answers, and the rules that it judges by: number, place, count and the lent table, case by case. Definitions only; no code.
+// What a reading answers, and the rules that it judges by: number, place, count and the lent table, case by case.
 #![tactic(auto)]
 
+ghost use Rattle.std.specs.Prelude.{◌≡◌};
+ghost use Rattle.reading.specs.Answers.{answer};
+ghost use Rattle.reading.specs.Refusals.{answer_of};
+
 use grammar::NODE_WORDS;
+
+// Why a call refuses, with the numbers of document 01 and of the requests.
+#[derive(Clone, Copy, PartialEq, Eq)]
+pub enum Refusal {
+    Level = 1,
+    TooLong = 2,
+    NotUtf8 = 3,
+    NoToken = 4,
+    BadValue = 5,
+    WrongPlace = 6,
+    NewerForm = 7,
+    NoRoom = 8,
+    NotTheLiteral = 9,
+    OutOfRange = 10,
+    TooDeep = 11,
+    NotTheMark = 12,
+    OtherVersion = 13,
+    NotTheFile = 14,
+    RetiredArrow = 15,
+}
+
+// A refusal, and its place.
+#[derive(Clone, Copy)]
+pub struct Refused {
+    pub refusal: Refusal,
+    pub place: usize,
+}
 
 // The answer of a reading: its number (0 accepted), its place, and its count.
 #[derive(Clone, Copy)]
@@ -9,6 +40,41 @@ pub struct Answer {
     pub number: u32,
     pub place: usize,
     pub count: usize,
+}
+
+impl Answer {
+    pub fn accepted(place: usize, count: usize) -> Answer
+        ensures { result ≡ answer 0 place count }
+    {
+        Answer {
+            number: 0,
+            place,
+            count,
+        }
+    }
+
+    // No room: of all refusals this one has a count, of what is needed.
+    pub fn no_room(place: usize, count: usize) -> Answer
+        ensures { result ≡ answer 8 place count }
+    {
+        Answer {
+            number: Refusal::NoRoom as u32,
+            place,
+            count,
+        }
+    }
+}
+
+impl From<Refused> for Answer {
+    ghost from_gives = { λ refused a. a ≡ answer_of refused };
+
+    fn from(refused: Refused) -> Answer {
+        Answer {
+            number: refused.refusal as u32,
+            place: refused.place,
+            count: 0,
+        }
+    }
 }
 
 // What a token is judged by: how many brackets may be open at once, and whether the backward arrow `<-` may be read.

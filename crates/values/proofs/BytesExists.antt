@@ -5,7 +5,8 @@ use mathlib.Core.List.{List}
 use Prim.Native.Nat.{ℕ, ◌≤◌}
 use native.Mathlib.Omega.{arith}
 use lib.ListN.{length}
-use Rattle.lexicon.specs.declared.Encoding.{Encoding}
+use Rattle.std.specs.Prelude.{Result, Ok, Err}
+use Rattle.lexicon.specs.declared.NotUtf8.{NotUtf8}
 use Rattle.lexicon.specs.Utf8.{WellFormed, Encoded}
 use Rattle.decisions.proofs.Tests.{settled, at_most}
 use Rattle.decisions.proofs.Cuts.{takes}
@@ -41,9 +42,9 @@ module _ (call : Call) (values : Settled call) (rules : Rules) (piece lent : Lis
       found h w (inl x) = valued h w x (values.bad_or_good piece x)
       found h w (inr n) = (_, _, not_the_literal h w n)
 
-      formed : length piece ≤ rules.text → (r : Encoding) → Encoded piece r → Answered
-      formed h Encoding.WellFormed w = found h w (settled (takes piece call.literal 0 (length piece)))
-      formed h (Encoding.BadAt p) b = (_, _, not_utf8 h b)
+      formed : length piece ≤ rules.text → (r : Result (Unit {0}) NotUtf8) → Encoded piece r → Answered
+      formed h (Ok _) w = found h w (settled (takes piece call.literal 0 (length piece)))
+      formed h (Err p) b = (_, _, not_utf8 h b)
 
       long : (length piece ≤ rules.text) ⊎ (length piece ≤ rules.text → ⊥) → Answered
       long (inl h) = formed h (encoded piece).0 (encoded piece).1

@@ -6,7 +6,8 @@ use Prim.Native.Nat.{ℕ, suc, ◌-◌, ◌≤◌, ◌^◌}
 use native.Mathlib.Omega.{arith}
 use lib.IntN.{ℤ, pos, negsuc}
 use lib.ListN.{length}
-use Rattle.lexicon.specs.declared.Encoding.{Encoding}
+use Rattle.std.specs.Prelude.{Result, Ok, Err}
+use Rattle.lexicon.specs.declared.NotUtf8.{NotUtf8}
 use Rattle.lexicon.specs.Utf8.{WellFormed, Encoded}
 use Rattle.lexicon.specs.Literals.{integer}
 use Rattle.lexicon.specs.Values.{IntegerOf}
@@ -39,9 +40,9 @@ module _ (rules : Rules) (piece : List ℕ) where
       found h w (inl x) = let v = has_integer piece x in sized h w x v.0 v.1 (within_or_not v.0)
       found h w (inr n) = (_, not_integer h w n)
 
-      formed : length piece ≤ rules.text → (r : Encoding) → Encoded piece r → Answered
-      formed h Encoding.WellFormed w = found h w (settled (takes piece integer 0 (length piece)))
-      formed h (Encoding.BadAt p) b = (_, not_utf8 h b)
+      formed : length piece ≤ rules.text → (r : Result (Unit {0}) NotUtf8) → Encoded piece r → Answered
+      formed h (Ok _) w = found h w (settled (takes piece integer 0 (length piece)))
+      formed h (Err p) b = (_, not_utf8 h b)
 
       long : (length piece ≤ rules.text) ⊎ (length piece ≤ rules.text → ⊥) → Answered
       long (inl h) = formed h (encoded piece).0 (encoded piece).1

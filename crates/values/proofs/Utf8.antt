@@ -3,7 +3,8 @@ use mathlib.Core.Path.{◌≡◌, refl, subst}
 use mathlib.Core.List.{List}
 use Prim.Native.Nat.{ℕ}
 use lib.ListN.{length}
-use Rattle.lexicon.specs.declared.Encoding.{Encoding}
+use Rattle.std.specs.Prelude.{Result, Ok, Err}
+use Rattle.lexicon.specs.declared.NotUtf8.{NotUtf8}
 use Rattle.lexicon.specs.declared.Tested.{Tested}
 use Rattle.lexicon.specs.Utf8.{Encoded}
 use Rattle.lexicon.specs.Steps.{Steps, place_of, TestedAs}
@@ -22,23 +23,23 @@ module _ (text : List ℕ) where
 
   -- ---- by the variant of the test's answer
 
-  abbrev number_of : Encoding → ℕ
-  number_of Encoding.WellFormed = 0
-  number_of (Encoding.BadAt p) = 3
+  abbrev number_of : Result (Unit {0}) NotUtf8 → ℕ
+  number_of (Ok _) = 0
+  number_of (Err p) = 3
 
-  answer : (e : Encoding) {n : ℕ} → Encoded text e → Steps text (place_of text e) n → Utf8Answers text (number_of e) (place_of text e) n
-  answer Encoding.WellFormed w s = well_formed w s
-  answer (Encoding.BadAt p) b s = not_utf8 b s
+  answer : (e : Result (Unit {0}) NotUtf8) {n : ℕ} → Encoded text e → Steps text (place_of text e) n → Utf8Answers text (number_of e) (place_of text e) n
+  answer (Ok _) w s = well_formed w s
+  answer (Err p) b s = not_utf8 b s
 
   -- the same where the variant is known by an equation
-  answer_as : {r : Tested} {e : Encoding} → r.encoding ≡ e → TestedAs text r → Utf8Answers text (number_of e) (place_of text e) r.steps
+  answer_as : {r : Tested} {e : Result (Unit {0}) NotUtf8} → r.encoding ≡ e → TestedAs text r → Utf8Answers text (number_of e) (place_of text e) r.steps
   answer_as {r} q t =
-      subst (λ (x : Encoding). Utf8Answers text (number_of x) (place_of text x) r.steps) q (answer r.encoding t.encoded t.steps_are)
+      subst (λ (x : Result (Unit {0}) NotUtf8). Utf8Answers text (number_of x) (place_of text x) r.steps) q (answer r.encoding t.encoded t.steps_are)
 
-  pub formed_answer : {r : Tested} → r.encoding ≡ Encoding.WellFormed → TestedAs text r → Utf8Answers text 0 (length text) r.steps
+  pub formed_answer : {r : Tested} → r.encoding ≡ Ok tt → TestedAs text r → Utf8Answers text 0 (length text) r.steps
   formed_answer q t = answer_as q t
 
-  pub bad_answer : {r : Tested} {p : ℕ} → r.encoding ≡ Encoding.BadAt p → TestedAs text r → Utf8Answers text 3 p r.steps
+  pub bad_answer : {r : Tested} {p : NotUtf8} → r.encoding ≡ Err p → TestedAs text r → Utf8Answers text 3 p.at r.steps
   bad_answer q t = answer_as q t
 
   -- ---- exactly one
