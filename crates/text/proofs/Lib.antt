@@ -3,5 +3,5 @@ pub mod Table
 pub mod Sets
 pub mod Ranges
 pub mod Searches
-pub mod Digits
 pub mod Letters
+pub mod Runs

@@ -11,8 +11,7 @@ use Rattle.rules.specs.Rule.{Rule, one, ◌then◌, ◌or◌, opt, Takes, nothin
 use Rattle.rules.proofs.Matches.{forward, byte_at, byte_end, fails_first}
 use Rattle.rules.proofs.Tests.{there, not_there}
 use Rattle.rules.proofs.Ways.{nullable, never, never_takes, begins_none, end_takes}
-use Rattle.lexicon.specs.declared.Found.{Found}
-use Rattle.lexicon.specs.declared.Found.TheVariants.{At as FoundAt, Nothing}
+use Rattle.std.proofs.Common.{Option, Some, None}
 use Rattle.lexicon.specs.Found.{Finds}
 
 module _ {text : List ℕ} where
@@ -40,9 +39,9 @@ pub record Same (text : List ℕ) (r : Rule) (i : ℕ) (s : Rule) (k : ℕ) : Ty
 
 module _ {text : List ℕ} where
   -- so what is found of the one is found of the other
-  pub found : {r s : Rule} {i k : ℕ} (f : Found) → Same text r i s k → Finds text s k f → Finds text r i f
-  found (FoundAt j) e l = record { takes = e.back l.takes; most = λ t. l.most (e.there t) }
-  found Nothing e l = record { none = λ t. l.none (e.there t) }
+  pub found : {r s : Rule} {i k : ℕ} (f : Option ℕ) → Same text r i s k → Finds text s k f → Finds text r i f
+  found (Some j) e l = record { takes = e.back l.takes; most = λ t. l.most (e.there t) }
+  found None e l = record { none = λ t. l.none (e.there t) }
 
   -- after its first byte a rule is what is left of it
   pub first : {c : Class} {r : Rule} {i : ℕ} → Takes text (one c) i (i + 1) → Same text (one c then r) i r (i + 1)
@@ -52,14 +51,14 @@ module _ {text : List ℕ} where
       go {j} (both t u) = subst (λ (m : ℕ). Takes text r m j) (byte_end t) u
 
   -- a byte that a test found, and then the rest of the rule
-  pub then_found : {c : Class} (r : Rule) {i : ℕ} {o : Bool} (f : Found) → Says o (Takes text (one c) i (i + 1)) → o ≡ true → Finds text r (i + 1) f → Finds text (one c then r) i f
+  pub then_found : {c : Class} (r : Rule) {i : ℕ} {o : Bool} (f : Option ℕ) → Says o (Takes text (one c) i (i + 1)) → o ≡ true → Finds text r (i + 1) f → Finds text (one c then r) i f
   then_found r f s e l = found f (first (s.true_holds e)) l
 
   pub then_longest : {c : Class} {r : Rule} {i j : ℕ} → Takes text (one c) i (i + 1) → Longest text r (i + 1) j → Longest text (one c then r) i j
-  then_longest {j = j} a l = found (FoundAt j) (first a) l
+  then_longest {j = j} a l = found (Some j) (first a) l
 
   pub then_fails : {c : Class} {r : Rule} {i : ℕ} → Takes text (one c) i (i + 1) → Fails text r (i + 1) → Fails text (one c then r) i
-  then_fails a f = found Nothing (first a) f
+  then_fails a f = found None (first a) f
 
   pub whole : {r : Rule} {i : ℕ} → Same text r i r i
   whole = record { there = λ t. t; back = λ t. t }
