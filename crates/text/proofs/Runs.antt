@@ -1,5 +1,5 @@
 -- A run of bytes of a class ends at the first byte that is of another, or at the end of the text. Assumes nothing.
-use mathlib.Core.Path.{◌≡◌, sym, ◌∙◌}
+use mathlib.Core.Path.{◌≡◌, refl, sym, ◌∙◌}
 use mathlib.Core.Bool.{Bool, true, false, not}
 use mathlib.Core.List.{List}
 use Prim.Native.Nat.{ℕ, zero, suc, ◌+◌, ◌-◌, ◌≤◌, ◌<◌, max}
@@ -11,11 +11,29 @@ use Rattle.std.proofs.Common.{Option, Some, None}
 use Rattle.std.specs.Option.{MatchOption, unwrap_or}
 use Rattle.rules.specs.Class.{Class, In, has}
 use Rattle.rules.specs.Rule.{one, many, Takes, stop, more, Longest, Fails}
-use Rattle.rules.proofs.Bools.{clash}
+use Rattle.rules.proofs.Bools.{clash, below, all_below_lem}
 use Rattle.rules.proofs.Chains.{longest}
 use Rattle.rules.proofs.Matches.{ending, one_at, byte_at}
 use Rattle.lexicon.proofs.Spaces.{byte_single}
 use Rattle.text.specs.Runs.{TellsClass}
+
+-- two tests that answer alike
+abbrev pub same : Bool → Bool → Bool
+same true b = b
+same false b = not b
+
+pub same_equal : (a b : Bool) → same a b ≡ true → a ≡ b
+same_equal true b e = sym e
+same_equal false true e = e
+same_equal false false e = refl
+
+-- what is computed for all bytes: a test f tells the class
+unfoldable pub agrees : Class → (ℕ → Bool) → ℕ → Bool
+agrees c f b = same (f b) (has c b)
+
+pub tells_class : {Answers : ℕ → Bool → Type 0} (c : Class) (f : ℕ → Bool) → below (agrees c f) 256 ≡ true → ((b : ℕ) (o : Bool) → Answers b o → o ≡ f b) → TellsClass Answers c
+unfolding agrees
+tells_class c f t a = record { told = λ b o h x. a b o x ∙ same_equal (f b) (has c b) (all_below_lem (agrees c f) 256 t h) }
 
 -- a byte that passed is of the class, and another is not
 module _ {Answers : ℕ → Bool → Type 0} {c : Class} (t : TellsClass Answers c) {b : ℕ} {o : Bool} (h : b < 256) (a : Answers b o) where
