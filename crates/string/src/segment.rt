@@ -45,14 +45,8 @@ fn run(text: &[u8], at: usize) -> usize
     if !plain_byte(text, at) {
         return at;
     }
-    let mut i = at;
-    while eight::plain(text, i) {
-        i += 8;
-    }
-    while plain_byte(text, i) {
-        i += 1;
-    }
-    i
+    let eights = eight::run::run(text, at, |i| eight::plain(text, i));
+    text::run::run(text, eights, |b| is_plain(b))
 }
 
 // A character that may stand inside quotes as it is, other than a backslash.

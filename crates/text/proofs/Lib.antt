@@ -6,3 +6,4 @@ pub mod Gets
 pub mod Searches
 pub mod Letters
 pub mod Runs
+pub mod Counts

@@ -1,7 +1,8 @@
 // Digits: the base that a letter names, the set of its digits, the number that each stands for, and the number of a row of them,
 // counted up to a limit.
 ghost use Rattle.std.specs.Prelude.{◌≡◌};
-ghost use Rattle.lexicon.specs.Bytes.{digit_set_of};
+ghost use mathlib.Core.List.{foldl};
+ghost use Rattle.lexicon.specs.Bytes.{digit_set_of, radix as radix_of};
 ghost use Rattle.lexicon.specs.Parts.{size, sextet as sextet_of};
 ghost use Rattle.lexicon.specs.Values.{digit as digit_of};
 ghost use Rattle.lexicon.specs.Limited.{limited as limited_of};
@@ -81,4 +82,20 @@ pub fn limited(sum: u32, radix: u32, b: u8) -> u32
 {
     let next = sum as u64 * radix as u64 + digit(b);
     next.min(LIMIT as u64) as u32
+}
+
+// The number of digits behind those of a sum, up to the limit.
+pub fn counted(base: Base, sum: u32, digits: &[u8]) -> u32
+    ensures { result ≡ foldl (limited_of (radix_of base)) sum digits.now }
+{
+    let radix = radix(digit_set(base));
+    let mut number = sum;
+    for b in digits {
+        // A number at the limit stays there, whatever digits follow.
+        if number == LIMIT {
+            break;
+        }
+        number = limited(number, radix, *b);
+    }
+    number
 }
