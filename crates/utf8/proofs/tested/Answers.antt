@@ -59,12 +59,12 @@ overflow_add-steps-in-loop-behind c = let start = c.loop-behind in
 
 pub loop-behind-smaller : goal.loop-behind-smaller
 loop-behind-smaller c =
-    let longer : (c.in-At.next ≤ length c.args.text.now) × Takes c.args.text.now sequence c.loop-behind.at c.in-At.next = let t = (found_at c.in-At.is c.sequence.ensures).takes in (inside t c.loop-behind.invariant.1, t) in
+    let longer : (c.in-Some.next ≤ length c.args.text.now) × Takes c.args.text.now sequence c.loop-behind.at c.in-Some.next = let t = (found_at c.in-Some.is c.sequence.ensures).takes in (inside t c.loop-behind.invariant.1, t) in
     let t = longer in omega (arith, t.0, grows sequence refl t.1)
 
 pub loop-behind-preserved : goal.loop-behind-preserved
 loop-behind-preserved c =
-    let longer : (c.in-At.next ≤ length c.args.text.now) × Takes c.args.text.now sequence c.loop-behind.at c.in-At.next = let t = (found_at c.in-At.is c.sequence.ensures).takes in (inside t c.loop-behind.invariant.1, t) in
+    let longer : (c.in-Some.next ≤ length c.args.text.now) × Takes c.args.text.now sequence c.loop-behind.at c.in-Some.next = let t = (found_at c.in-Some.is c.sequence.ensures).takes in (inside t c.loop-behind.invariant.1, t) in
     let start = c.loop-behind in
     let t = longer in
     (omega (arith, start.invariant.0, grows sequence refl t.1), t.0, step_sequence start.invariant.2 (no_eight_beyond (c.within.ensures.true_holds c.loop-behind-test.true)) t.1)
