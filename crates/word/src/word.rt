@@ -4,28 +4,20 @@ ghost use Rattle.lexicon.specs.Literals;
 ghost use Rattle.word.specs.Heads.{Tells, TellsOf, tuples, intervals, collections};
 
 use crate::spelling::spells;
-use lexicon::{Form, Found, Head, Set};
+use lexicon::{Form, Head, Set};
 use text::class::{classes, holds};
+use text::run::run;
 
 // Where the word at the place ends.
-pub fn word(text: &[u8], at: usize) -> Found
+pub fn word(text: &[u8], at: usize) -> Option<usize>
     ensures { Finds text.now Literals.word at result }
 {
     let classes = classes();
-    if at >= text.len() {
-        return Found::Nothing;
+    let first = *text.get(at)?;
+    if !holds(classes[first as usize], Set::WordStart) {
+        return None;
     }
-    if !holds(classes[text[at] as usize], Set::WordStart) {
-        return Found::Nothing;
-    }
-    let mut i = at + 1;
-    while i < text.len() {
-        if !holds(classes[text[i] as usize], Set::WordRest) {
-            return Found::At(i);
-        }
-        i += 1;
-    }
-    Found::At(i)
+    Some(run(text, at + 1, |b| holds(classes[b as usize], Set::WordRest)))
 }
 
 // Which head word of tuples stands from one place to the other, if any.
