@@ -1,10 +1,10 @@
 -- What the functions of one turn compute: the next state and the words written. Assumes nothing.
 use Rattle.std.specs.Prelude.{◌≡◌, ◌⊎◌, List, ℕ, ◌+◌, ◌≤◌, ◌<◌, pred, length}
 use Rattle.lexicon.specs.declared.Token as Token
+use Rattle.grammar.specs.Nodes.{kind_number_of}
 use Rattle.reading.specs.declared.Limits.{Limits}
 use Rattle.reading.specs.Sizes.{widest}
 use Rattle.reading.specs.Faults.{Retired}
-use Rattle.grammar.specs.Nodes.{kind_number_of}
 use Rattle.moves.specs.declared.NodeKind.{NodeKind}
 use Rattle.moves.specs.declared.Role.{Role}
 use Rattle.moves.specs.declared.Shape.TheVariants as Shape
