@@ -11,7 +11,7 @@ use crate::leaf::told;
 use begin::sign::is_retired;
 use lexicon::Token;
 use look::answer::Read;
-use moves::{CurlyFrame, Frame, Front, Mode, Move, Role, RoundFrame, Shape, Style};
+use moves::{CurlyFrame, Frame, Front, Mode, Move, NodeKind, Role, RoundFrame, Shape, Style};
 use reading::Limits;
 use table::{Entry, assign, put};
 
@@ -167,7 +167,7 @@ fn close(
     first: usize,
     s: State,
     t: Token,
-    kind: u32,
+    kind: NodeKind,
     detail: u32,
     role: Role,
     table: &mut [u32],
@@ -183,7 +183,7 @@ fn close(
         table,
         index,
         Entry {
-            kind,
+            kind: kind as u32,
             first: first as u32,
             end: t.end as u32,
             parent: parent as u32,
