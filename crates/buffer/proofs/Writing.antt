@@ -2,18 +2,21 @@
 use mathlib.Core.Path.{◌≡◌, refl}
 use mathlib.Core.List.{List}
 use Prim.Native.Nat.{ℕ}
-use Rattle.buffer.specs.Puts.{Puts}
+use Rattle.buffer.specs.Appends.{Appends}
 use Rattle.buffer.specs.Wrote.{Wrote}
-use Rattle.buffer.proofs.Puts.{puts_same, puts_length}
+use Rattle.buffer.specs.declared.Writer.{Writer}
+use Rattle.buffer.proofs.Appending.{appends_same, appends_length}
 
-module _ {t t' : List ℕ} {k n : ℕ} where
-  pub wrote : {Part : List ℕ → Type 0} {xs : List ℕ} → ((bs : List ℕ) → Part bs → xs ≡ bs) → Puts t k xs t' n → Wrote Part t k t' n
-  wrote f p = record { puts = λ bs x. puts_same (f bs x) p; same_length = puts_length p }
+module _ {u v : Writer} where
+  pub wrote : {Part : List ℕ → Type 0} {xs : List ℕ} → ((bs : List ℕ) → Part bs → xs ≡ bs) → Appends u xs v → Wrote Part u v
+  wrote f a =
+      record { appends = λ bs x. appends_same (f bs x) a; same_buffer = a.same_buffer; same_length = appends_length a }
 
   -- another part has the same bytes
-  pub wrote_as : {Part Same : List ℕ → Type 0} → ((bs : List ℕ) → Same bs → Part bs) → Wrote Part t k t' n → Wrote Same t k t' n
-  wrote_as f w = record { puts = λ bs x. w.puts bs (f bs x); same_length = w.same_length }
+  pub wrote_as : {Part Same : List ℕ → Type 0} → ((bs : List ℕ) → Same bs → Part bs) → Wrote Part u v → Wrote Same u v
+  wrote_as f w =
+      record { appends = λ bs x. w.appends bs (f bs x); same_buffer = w.same_buffer; same_length = w.same_length }
 
 -- no bytes are the part's
-pub wrote_none : {Part : List ℕ → Type 0} {t : List ℕ} {k n : ℕ} → ((bs : List ℕ) → Part bs → ⊥) → Wrote Part t k t n
-wrote_none f = record { puts = λ bs x. absurd (f bs x); same_length = refl }
+pub wrote_none : {Part : List ℕ → Type 0} {w : Writer} → ((bs : List ℕ) → Part bs → ⊥) → Wrote Part w w
+wrote_none f = record { appends = λ bs x. absurd (f bs x); same_buffer = refl; same_length = refl }

@@ -6,5 +6,5 @@ use Rattle.leaf.proofs.names.name_token.Goals as goal
 pub returns-in_default : goal.returns-in_default
 returns-in_default c = wrote (colons_bytes _ c.in_default.not-Text) c.copy.ensures
 
-pub returns : goal.returns
-returns c = wrote_as (name_bytes _ c.in-Text.is) c.spelled.ensures
+pub returns-in-Text : goal.returns-in-Text
+returns-in-Text c = wrote_as (name_bytes _ c.in-Text.is) c.spelled.ensures
