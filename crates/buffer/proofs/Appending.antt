@@ -1,12 +1,11 @@
 -- What a writer appends: nothing, one byte, one row of bytes behind another; and what is then in the buffer that it was lent.
 -- Assumes nothing.
-use mathlib.Core.Path.{◌≡◌, refl, sym, ap, subst, ◌∙◌}
+use mathlib.Core.Path.{◌≡◌, refl, sym, subst, ◌∙◌}
 use mathlib.Core.List.{List, [], ◌∷◌, ◌++◌}
-use Prim.Native.Nat.{ℕ, ◌+◌, ◌≤◌, ◌<◌}
-use native.Mathlib.Omega.{arith}
+use Prim.Native.Nat.{ℕ, ◌+◌, ◌<◌}
 use lib.ListN.{length, get_or, take}
 use Rattle.std.specs.Borrow.{MutBor}
-use Rattle.buffer.specs.Puts.{largest, Puts}
+use Rattle.buffer.specs.Puts.{Puts}
 use Rattle.buffer.specs.Appends.{Begins, Appends}
 use Rattle.buffer.specs.declared.Writer.{Writer}
 use Rattle.buffer.proofs.Puts.{puts_none, puts_same, puts_length, puts_then, puts_next}
@@ -35,10 +34,15 @@ module _ {u v : Writer} where
       Appends v (get_or bytes i 0 ∷ []) w → Appends u (take (i + 1) bytes) w
   appends_next bytes i h a b = record { same_buffer = b.same_buffer ∙ a.same_buffer; puts = puts_next bytes i h a.puts b.puts }
 
-  -- what was appended from the start on is in the lent buffer when the writer is dropped: t is then its bytes
-  pub put_in : {lent : MutBor (List ℕ)} {t bs : List ℕ} → Begins lent u → Appends u bs v →
-      (lent.ghost_name ≡ v.buffer.ghost_name → t ≡ v.buffer.now) → Puts lent.now 0 bs t v.at
-  put_in {lent} {t} {bs} b a f =
-      subst (λ (s : List ℕ). Puts s 0 bs t v.at) b.same_bytes
-      (subst (λ (k : ℕ). Puts u.buffer.now k bs t v.at) b.start
-      (subst (λ (s : List ℕ). Puts u.buffer.now u.at bs s v.at) (sym (f (sym (a.same_buffer ∙ b.same_buffer)))) a.puts))
+-- when a writer is dropped, the lent buffer has the bytes t that the writer had
+pub lent_back : {lent : MutBor (List ℕ)} {t : List ℕ} {u : Writer} (v : Writer) → Begins lent u →
+    v.buffer.ghost_name ≡ u.buffer.ghost_name → (lent.ghost_name ≡ v.buffer.ghost_name → t ≡ v.buffer.now) → t ≡ v.buffer.now
+lent_back v b e f = f (sym (e ∙ b.same_buffer))
+
+-- among them what was appended from the start on
+pub put_in : {lent : MutBor (List ℕ)} {t bs : List ℕ} {u v : Writer} → Begins lent u → Appends u bs v →
+    (lent.ghost_name ≡ v.buffer.ghost_name → t ≡ v.buffer.now) → Puts lent.now 0 bs t v.at
+put_in {lent} {t} {bs} {u} {v} b a f =
+    subst (λ (s : List ℕ). Puts s 0 bs t v.at) b.same_bytes
+    (subst (λ (k : ℕ). Puts u.buffer.now k bs t v.at) b.start
+    (subst (λ (s : List ℕ). Puts u.buffer.now u.at bs s v.at) (sym (lent_back v b a.same_buffer f)) a.puts))

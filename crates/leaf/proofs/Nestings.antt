@@ -15,7 +15,7 @@ use Rattle.lexicon.proofs.Determined.{one_answer}
 use Rattle.lexicon.proofs.Pieces.{token_bounds}
 use Rattle.reading.proofs.Rows.{pick}
 use Rattle.buffer.specs.declared.Writer.{Writer}
-use Rattle.buffer.specs.Wrote.{Wrote}
+use Rattle.buffer.specs.Appends.{AppendsPart}
 use Rattle.form.proofs.Walk
 use Rattle.form.proofs.Walk.{Spelled, NameToken, Named}
 use Rattle.leaf.proofs.Rows.{Going, going, going_on, going_same, gone}
@@ -53,7 +53,7 @@ module _ (text : List ℕ) where
       record { left = λ bs x. record { rest = bs; going = going u bs; named = x }; same_buffer = refl; same_length = refl }
 
   pub naming_next : {first j i : ℕ} {u v w : Writer} {t : Token} → Naming first j u v i → i < j → Comes text i (Next.Token t) →
-      Wrote (NameToken text t) v w → Naming first j u w t.end
+      AppendsPart (NameToken text t) v w → Naming first j u w t.end
   naming_next {j = j} {u = u} {v} {w} {t} g h c x =
       record {
         left = λ bs y. (let l = g.left bs y in go bs l.named h l.going c);
@@ -72,7 +72,7 @@ module _ (text : List ℕ) where
             named = subst (λ (z : Token). Named text z.end j rest) e n;
           }
 
-  pub naming_ends : {first j i : ℕ} {u v : Writer} → Naming first j u v i → j ≤ i → Wrote (Named text first j) u v
+  pub naming_ends : {first j i : ℕ} {u v : Writer} → Naming first j u v i → j ≤ i → AppendsPart (Named text first j) u v
   naming_ends {j = j} g h =
       record {
         appends = λ bs x. (let l = g.left bs x in gone (going_same (none l.named h) l.going));
@@ -86,7 +86,7 @@ module _ (text : List ℕ) where
 
   -- no token comes, though the end is not reached: this is no Nesting
   pub naming_stops : {first j i : ℕ} {u v : Writer} (r : Next) → Naming first j u v i → i < j → Comes text i r →
-      ((t : Token) → r ≡ Next.Token t → ⊥) → Wrote (Named text first j) u v
+      ((t : Token) → r ≡ Next.Token t → ⊥) → AppendsPart (Named text first j) u v
   naming_stops {j = j} r g h c o =
       record {
         appends = λ bs x. absurd (stuck (g.left bs x).named h c);

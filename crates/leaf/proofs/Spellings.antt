@@ -7,9 +7,8 @@ use native.Mathlib.Omega.{arith}
 use lib.ListN.{take, drop}
 use Rattle.rules.specs.Plain.{between}
 use Rattle.buffer.specs.declared.Writer.{Writer}
-use Rattle.buffer.specs.Appends.{Appends}
-use Rattle.buffer.specs.Wrote.{Wrote}
-use Rattle.buffer.proofs.Writing.{wrote}
+use Rattle.buffer.specs.Appends.{Appends, AppendsPart}
+use Rattle.buffer.proofs.Writing.{part_of}
 use Rattle.lexicon.specs.declared.Head.{Head}
 use Rattle.lexicon.specs.declared.Form.{Form}
 use Rattle.grammar.specs.Tokens.{Span}
@@ -73,6 +72,6 @@ module _ (text : List ℕ) where
 
 -- a literal's bytes that are kept are the leaf's: a search finds it, whatever test shows that the node is a literal
 pub bare_leaf : {text : List ℕ} {node : Node} {u v : Writer} → Appends u (bare (take (node.end - node.first) (drop node.first text))) v →
-    node.kind < 7 → Wrote (LeafBytes text node) u v
+    node.kind < 7 → AppendsPart (LeafBytes text node) u v
 unfolding between
-bare_leaf {text} a h = wrote (λ bs x. literal_leaf text (omega (arith, h, x.kind_is)) bs x.leaf) a
+bare_leaf {text} a h = part_of (λ bs x. literal_leaf text (omega (arith, h, x.kind_is)) bs x.leaf) a

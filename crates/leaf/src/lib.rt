@@ -6,7 +6,7 @@ mod bare;
 mod names;
 mod spelling;
 
-ghost use Rattle.buffer.specs.Wrote.{Wrote};
+ghost use Rattle.buffer.specs.Appends.{AppendsPart};
 ghost use Rattle.leaf.specs.Leaves.{LeafBytes};
 
 use crate::bare::bare;
@@ -28,7 +28,7 @@ pub struct Node {
 // A node that is no bracket, if its bytes are of the text.
 #[tactic(auto, using(crate::proofs::Spellings::bare_leaf))]
 pub fn leaf(text: &[u8], node: Node, out: &mut Writer)
-    ensures { Wrote (LeafBytes text.now node) out.old out.new }
+    ensures { AppendsPart (LeafBytes text.now node) out.old out.new }
 {
     let Node {
         kind, first, end, ..

@@ -1,6 +1,6 @@
 // A Text or a Nesting, token by token: which word a word is, and so whether it is a head word, its token tells.
 ghost use Rattle.std.specs.Prelude.{◌≤◌, length};
-ghost use Rattle.buffer.specs.Wrote.{Wrote};
+ghost use Rattle.buffer.specs.Appends.{AppendsPart};
 ghost use Rattle.form.proofs.Walk.{NameToken, Named};
 
 use crate::spelling::spelled;
@@ -11,7 +11,7 @@ use token::next::next;
 // One of its tokens.
 fn name_token(text: &[u8], t: Token, out: &mut Writer)
     requires { (t.first ≤ t.end) × (t.end ≤ length text.now) }
-    ensures { Wrote (NameToken text.now t) out.old out.new }
+    ensures { AppendsPart (NameToken text.now t) out.old out.new }
 {
     match t.kind {
         Kind::Text(form) => spelled(text, form, t.first, t.end, out),
@@ -21,7 +21,7 @@ fn name_token(text: &[u8], t: Token, out: &mut Writer)
 
 // The tokens from one place to the other.
 pub(crate) fn names(text: &[u8], first: usize, end: usize, out: &mut Writer)
-    ensures { Wrote (Named text.now first end) out.old out.new }
+    ensures { AppendsPart (Named text.now first end) out.old out.new }
 {
     let mut i = first;
     while i < end {

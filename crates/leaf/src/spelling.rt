@@ -1,7 +1,6 @@
 // A Text by the form in which it stands in the text.
 ghost use Rattle.std.specs.Prelude.{◌≤◌, length};
-ghost use Rattle.buffer.specs.Appends.{Appends};
-ghost use Rattle.buffer.specs.Wrote.{Wrote};
+ghost use Rattle.buffer.specs.Appends.{Appends, AppendsPart};
 ghost use Rattle.form.specs.Spell.{quoted_bytes};
 ghost use Rattle.form.proofs.Walk.{Spelled};
 
@@ -21,7 +20,7 @@ fn in_quotes(word: &[u8], out: &mut Writer)
 // A Text from one place to the other.
 pub(crate) fn spelled(text: &[u8], form: Form, first: usize, end: usize, out: &mut Writer)
     requires { (first ≤ end) × (end ≤ length text.now) }
-    ensures { Wrote (Spelled text.now form (record { first = first; end = end })) out.old out.new }
+    ensures { AppendsPart (Spelled text.now form (record { first = first; end = end })) out.old out.new }
 {
     let literal = &text[first..end];
     match form {

@@ -1,8 +1,5 @@
 -- `leaf::names::names` meets its contract: the tokens before `i` are written. Assumes nothing.
-use mathlib.Core.Path.{subst}
 use native.Mathlib.Omega.{arith}
-use Rattle.lexicon.specs.declared.Next.{Next}
-use Rattle.lexicon.specs.Token.{Comes}
 use Rattle.lexicon.proofs.Pieces.{token_bounds}
 use Rattle.leaf.proofs.Nestings.{naming, naming_next, naming_ends, naming_stops}
 use Rattle.leaf.proofs.names.names.Goals as goal
