@@ -68,9 +68,10 @@ impl Source<'_> {
         if role != THAT_BEFORE {
             return self.write_node(index, out);
         }
-        let this = self.nodes.past(index);
+        let that = index;
+        let this = self.nodes.past(that);
         self.write_node(this, out);
         out.put(b':');
-        self.write_node(index, out);
+        self.write_node(that, out);
     }
 }
