@@ -1,10 +1,9 @@
 -- Code points by their number: the literal's longest match, and its value. Assumes nothing.
 use mathlib.Core.Path.{◌≡◌, refl, subst, sym, ap, ◌∙◌}
-use mathlib.Core.Bool.{Bool, true, false, not}
+use mathlib.Core.Bool.{Bool, true, false}
 use mathlib.Core.List.{List}
 use Prim.Native.Nat.{ℕ, ◌+◌, ◌≤◌, ◌<◌}
 use native.Mathlib.Omega.{arith}
-use borrow.Author.Tests.{not-true, not-false}
 use lib.ListN.{length, get_or}
 use Rattle.rules.specs.Test.{Says}
 use Rattle.rules.specs.Class.{just}
@@ -12,8 +11,8 @@ use Rattle.rules.specs.Rule.{one, lit, Takes, byte, both, At, Longest, Fails}
 use Rattle.rules.proofs.Matches.{starting, ending}
 use Rattle.lexicon.specs.declared.Base.{Base}
 use Rattle.lexicon.specs.declared.Base.TheVariants.{Ten}
+use Rattle.std.specs.Prelude.{Option, Some, None}
 use Rattle.lexicon.specs.declared.Literal.{Literal}
-use Rattle.lexicon.specs.declared.Literal as Literal
 use Rattle.lexicon.specs.Found.{Judges}
 use Rattle.lexicon.specs.Literals.{code_of_base, code_point_of}
 use Rattle.lexicon.specs.Values.{CodeOf}
@@ -47,9 +46,9 @@ module _ {text : List ℕ} where
         holds_true = λ c. y.holds_true (λ k. c.bad (subst (λ (v : ℕ). Scalar v) (sym (value_same b m c.code)) k));
       }
 
-  pub code_judged : (b : Base) (i s : ℕ) (r : Literal) → Marked text i b s → Judges text (number b) (BadNumber text b) s r → Judges text code_point_of (BadCode text) i r
-  code_judged b i s (Literal.TheVariants.At j bad) m y = (judged b m y.0, bad_code_lem b m y.0.takes y.1)
-  code_judged b i s Literal.TheVariants.Nothing m f = record { none = λ t. f.none (digits_of_lem b m t) }
+  pub code_judged : (b : Base) (i s : ℕ) (r : Option Literal) → Marked text i b s → Judges text (number b) (BadNumber text b) s r → Judges text code_point_of (BadCode text) i r
+  code_judged b i s (Some l) m y = (judged b m y.0, bad_code_lem b m y.0.takes y.1)
+  code_judged b i s None m f = record { none = λ t. f.none (digits_of_lem b m t) }
 
   -- ---- a literal begins with `0c` and has a byte behind it
 
@@ -65,11 +64,11 @@ module _ {text : List ℕ} where
   c_at : {i j : ℕ} → Takes text (lit "0c") i j → Takes text (one (just 0x63)) (i + 1) j
   c_at (both (byte a e) t) = starting e t
 
-  pub no_zero : {i : ℕ} {o : Bool} → Says o (Takes text (one (just 0x30)) i (i + 1)) → not o ≡ true → Fails text code_point_of i
-  no_zero {o = o} s e = record { none = λ t. not_there s (not-true o e) (zero_at (zero_of t)) }
+  pub no_zero : {i : ℕ} {o : Bool} → Says o (Takes text (one (just 0x30)) i (i + 1)) → o ≡ false → Fails text code_point_of i
+  no_zero s e = record { none = λ t. not_there s e (zero_at (zero_of t)) }
 
-  pub no_c : {i : ℕ} {o : Bool} → Says o (Takes text (one (just 0x63)) (i + 1) (i + 1 + 1)) → not o ≡ true → Fails text code_point_of i
-  no_c {i} {o} s e = record { none = λ t. refuted s (not-true o e) (ending (omega arith) (c_at (zero_of t))) }
+  pub no_c : {i : ℕ} {o : Bool} → Says o (Takes text (one (just 0x63)) (i + 1) (i + 1 + 1)) → o ≡ false → Fails text code_point_of i
+  no_c s e = record { none = λ t. refuted s e (ending (omega arith) (c_at (zero_of t))) }
 
   pub no_more : {i : ℕ} → length text ≤ i + 2 → Fails text code_point_of i
   no_more {i} h = record { none = λ t. let s = some_base code_of_base t in go s.0 s.1 }
@@ -79,12 +78,12 @@ module _ {text : List ℕ} where
 
 -- ---- what each way through the code says
 
-module _ (text : List ℕ) (i : ℕ) (r : Literal) {o p : Bool}
-    (s : Says o (Takes text (one (just 0x30)) i (i + 1))) (e : not o ≡ false)
-    (t : Says p (Takes text (one (just 0x63)) (i + 1) (i + 1 + 1))) (f : not p ≡ false) where
+module _ (text : List ℕ) (i : ℕ) (r : Option Literal) {o p : Bool}
+    (s : Says o (Takes text (one (just 0x30)) i (i + 1))) (e : o ≡ true)
+    (t : Says p (Takes text (one (just 0x63)) (i + 1) (i + 1 + 1))) (f : p ≡ true) where
   zero_c : Takes text (lit "0c") i (i + 2)
   zero_c =
-      let h : i + 1 + 1 ≡ i + 2 = omega arith in both (s.true_holds (not-false o e)) (ending h (t.true_holds (not-false p f)))
+      let h : i + 1 + 1 ≡ i + 2 = omega arith in both (s.true_holds e) (ending h (t.true_holds f))
 
   pub mark_judged : (b : Base) → i + 2 < length text → get_or text (i + 2) 0 ≡ letter b → Judges text (number b) (BadNumber text b) (i + 3) r → Judges text code_point_of (BadCode text) i r
   mark_judged b h x y = code_judged b i (i + 3) r (by_mark text b zero_c h x) y

@@ -10,8 +10,10 @@ use Rattle.rules.specs.Rule.{many, lit, Takes, byte, both, stop, more, At, Longe
 use Rattle.rules.proofs.Matches.{forward, starting}
 use Rattle.rules.proofs.Chains.{move, join, snoc}
 use Rattle.rules.proofs.Tests.{refuted}
-use Rattle.lexicon.specs.declared.Found.{Found}
-use Rattle.lexicon.specs.declared.Literal as Literal
+use Rattle.std.specs.Prelude.{Option, Some, None, is_some, unwrap_or}
+use Rattle.std.specs.Option.{option_or}
+use Rattle.std.specs.Bool.{then_some}
+use Rattle.lexicon.specs.declared.Literal.{Literal}
 use Rattle.lexicon.specs.Found.{Judges}
 use Rattle.lexicon.specs.Space.{Skips}
 use Rattle.lexicon.specs.Literals.{segment, quoted}
@@ -20,16 +22,13 @@ use Rattle.lexicon.proofs.Segments.{quote, further, segment_single, space_ends, 
 use Rattle.lexicon.proofs.Places.{in_segment_lem, one_first_bad}
 use Rattle.string.specs.declared.segment.Walk.{Walk}
 use Rattle.string.specs.Parts.{item, plain_rest}
-use Rattle.string.specs.FirstBad.{met, marked_at, sooner_of, place_or, Stops, Points, RestWalked, SegmentWalked, QuotedWalked}
+use Rattle.string.specs.FirstBad.{Stops, Points, RestWalked, SegmentWalked, QuotedWalked}
 use Rattle.string.proofs.Among.{place, found, said, beyond, at_end_lem}
 use Rattle.string.proofs.Items.{backslash, item_single, item_strict}
-use Rattle.string.proofs.Segments.{segment_escaped, segment_plain, segment_strict, further_strict, Going, none, some, going_on, going_nowhere, going_ends, first_same, further_judged}
+use Rattle.string.proofs.Segments.{segment_escaped, segment_plain, further_strict, Going, going_starts, going_on, going_ends, no_quoted, first_same, further_judged}
 
-pub none_met : {p : ℕ} → Found.Nothing ≡ Found.At p → ⊥
-none_met e = false≢true (ap met e)
-
-same_place : {p q : ℕ} → Found.At p ≡ Found.At q → p ≡ q
-same_place e = ap (λ (f : Found). place_or f 0) e
+pub none_met : {p : ℕ} → None ≡ Some p → ⊥
+none_met e = cc
 
 module _ (text : List ℕ) where
   -- ---- a row of items
@@ -37,32 +36,27 @@ module _ (text : List ℕ) where
   -- a bad item behind a row without one
   pub stops_bad :
       {i j k : ℕ} {bad : Bool} → Takes text (many item) i j → (Among text item (BadEscape text) i j → ⊥) →
-      Judges text item (BadEscape text) j (Literal.TheVariants.At k bad) → bad ≡ true → Stops text i j
+      Judges text item (BadEscape text) j (Some (record { end = k; bad = bad })) → bad ≡ true → Stops text i j
   stops_bad c n y e =
       record { row = c; good = n; bad = λ t. place (BadEscape text) refl (item_single.same y.0.takes t) (y.1.true_holds e) }
 
   -- the row up to i, and the first bad one of it
-  abbrev pub Items : (at i : ℕ) → Found → Type 0
-  Items at i f = Takes text (many item) at i × Says (met f) (Among text item (BadEscape text) at i) × ((p : ℕ) → f ≡ Found.At p → Stops text at p)
+  abbrev pub Items : (at i : ℕ) → Option ℕ → Type 0
+  Items at i f = Takes text (many item) at i × Says (is_some f) (Among text item (BadEscape text) at i) × ((p : ℕ) → f ≡ Some p → Stops text at p)
 
   -- one item more
-  items_more :
-      {at i j : ℕ} (f : Found) (worse : Bool) → Items at i f → Judges text item (BadEscape text) i (Literal.TheVariants.At j worse) →
-      Items at j (sooner_of f (marked_at worse i))
+  pub items_more :
+      {at i j : ℕ} (f : Option ℕ) (worse : Bool) → Items at i f → Judges text item (BadEscape text) i (Some (record { end = j; bad = worse })) →
+      Items at j (option_or f (then_some worse i))
   items_more {at} {i} {j} f worse v y =
       let z = said text item (BadEscape text) item_single item_strict v.0 y.0.takes v.1 y.1 in go f worse (snoc v.0 y.0.takes) z v y
     where
       go :
-          (f : Found) (worse : Bool) → Takes text (many item) at j → Says (met f || worse) (Among text item (BadEscape text) at j) → Items at i f →
-          Judges text item (BadEscape text) i (Literal.TheVariants.At j worse) → Items at j (sooner_of f (marked_at worse i))
-      go (Found.At q) worse t z v y = (t, z, v.2)
-      go Found.Nothing true t z v y = (t, z, λ p e. subst (Stops text at) (same_place e) (stops_bad v.0 (refuted v.1 refl) y refl))
-      go Found.Nothing false t z v y = (t, z, λ p e. absurd (none_met e))
-
-  pub items_on :
-      {at i j : ℕ} {f m g : Found} {worse : Bool} → m ≡ marked_at worse i → g ≡ sooner_of f m → Items at i f →
-      Judges text item (BadEscape text) i (Literal.TheVariants.At j worse) → Items at j g
-  items_on {at} {i} {j} {f} {worse = worse} d e v y = subst (Items at j) (sym (e ∙ ap (sooner_of f) d)) (items_more f worse v y)
+          (f : Option ℕ) (worse : Bool) → Takes text (many item) at j → Says (is_some f || worse) (Among text item (BadEscape text) at j) → Items at i f →
+          Judges text item (BadEscape text) i (Some (record { end = j; bad = worse })) → Items at j (option_or f (then_some worse i))
+      go (Some q) worse t z v y = (t, z, v.2)
+      go None true t z v y = (t, z, λ p e. let here : i ≡ p = cc in subst (Stops text at) here (stops_bad v.0 (refuted v.1 refl) y refl))
+      go None false t z v y = (t, z, λ p e. absurd (none_met e))
 
   -- ---- in a segment
 
@@ -194,104 +188,79 @@ module _ (text : List ℕ) where
 
   -- ---- the segments so far had none
 
-  record Gone (at next : ℕ) : Type 0 where
-    end : ℕ
-    going : Going text at end next false
-
   gone_bad :
-      {at next j p : ℕ} {bad : Bool} →
-      Gone at next → Judges text segment (BadSegment text) next (Literal.TheVariants.At j bad) → bad ≡ true → Stops text (next + 2) p →
-      Points text at p
-  gone_bad {at} {next} {j} {p} g y e s = go g.going (y.1.true_holds e)
-    where
-      go : {end : ℕ} → Going text at end next false → BadSegment text next j → Points text at p
-      go (none d n f) b =
-          let c = place (BadSegment text) n refl b in
-          let t = subst (λ (x : ℕ). Stops text (x + 2) p) n s in
-          record {
-            bad = λ q. let a = in_first_lem t c q in record { bad = a.is; there = a.there; first = first_after t c };
-            none = λ f. absurd (f j (in_first c (stop refl)));
-          }
-      go (some f row says skips) b =
-          record {
-            bad =
-                λ q. let a = in_further_lem f row (refuted says refl) skips s b q in
-                record { bad = a.is; there = a.there; first = further_behind f row (refuted says refl) skips s b };
-            none =
-                λ n. absurd (n j (in_further f (found row (both skips.takes (bad_takes text b)) (record { start = next; before = skips.takes; bad = b }))));
-          }
+      {at end next p : ℕ} {l : Literal} → Going text at end false → Skips text end next → Judges text segment (BadSegment text) next (Some l) →
+      l.bad ≡ true → Stops text (next + 2) p → Points text at p
+  gone_bad {at} {end} {next} {p} {l} g skips y e s =
+      let b = y.1.true_holds e in
+      let none = refuted g.says refl in
+      record {
+        bad =
+            λ q. let a = in_further_lem g.start g.row none skips s b q in
+            record { bad = a.is; there = a.there; first = further_behind g.start g.row none skips s b };
+        none =
+            λ n. absurd (n _ (in_further g.start (found g.row (both skips.takes (bad_takes text b)) (record { start = next; before = skips.takes; bad = b }))));
+      }
 
-  gone_ends : {at next : ℕ} → Gone at next → Fails text segment next → Points text at at
-  gone_ends {at} {next} g f = record { bad = λ b. absurd (go g.going b); none = λ n. refl }
+  -- the first one has one
+  starts_bad :
+      {at p : ℕ} {l : Literal} → Judges text segment (BadSegment text) at (Some l) → l.bad ≡ true → Stops text (at + 2) p → Points text at p
+  starts_bad {at} {p} y e s =
+      let b = y.1.true_holds e in
+      record {
+        bad = λ q. let a = in_first_lem s b q in record { bad = a.is; there = a.there; first = first_after s b };
+        none = λ f. absurd (f _ (in_first b (stop refl)));
+      }
+
+  none_bad : {at : ℕ} → ((j : ℕ) → BadQuoted text at j → ⊥) → Points text at at
+  none_bad n = record { bad = λ b. absurd (n _ b); none = λ m. refl }
+
+  gone_ends : {at end next : ℕ} → Going text at end false → Skips text end next → Fails text segment next → Points text at at
+  gone_ends {at} {end} {next} g skips f = none_bad (λ j. go)
     where
-      go : {end j : ℕ} → Going text at end next false → BadQuoted text at j → ⊥
-      go (none d n e) (in_first b t) = f.none (starting (sym n) (bad_takes text b))
-      go (none d n e) (in_further t a) = f.none (starting (sym n) t)
-      go (some u row says skips) (in_first b t) =
-          refuted says refl (in_first (place (BadSegment text) refl (first_same text u (bad_takes text b)) b) row)
-      go {end} (some u row says skips) (in_further t a) =
-          (at_end_lem text further (BadFurther text) (further_single text) (further_strict text) {Q = λ x y. ⊥} (move (first_same text u t) row)
-          (λ b. refuted says refl (in_further t b)) (λ k v. (further_judged text end next Literal.TheVariants.Nothing skips f).none v) a).holds
+      go : {j : ℕ} → BadQuoted text at j → ⊥
+      go (in_first b t) = refuted g.says refl (in_first (place (BadSegment text) refl (first_same text g.start (bad_takes text b)) b) g.row)
+      go (in_further t a) =
+          (at_end_lem text further (BadFurther text) (further_single text) (further_strict text) {Q = λ x y. ⊥} (move (first_same text g.start t) g.row)
+          (λ b. refuted g.says refl (in_further t b)) (λ k v. (further_judged text end next None skips f).none v) a).holds
 
   -- ---- the walk
 
-  pub escaped_walked : (i : ℕ) (r : Walk) → At text quote i → At text backslash (i + 1) → RestWalked text (i + 2) r → SegmentWalked text i r
-  escaped_walked i (Walk.At j f) a b y = (segment_escaped text i (Literal.TheVariants.At j (met f)) a b y.0, y.1)
-  escaped_walked i Walk.Nothing a b y = segment_escaped text i Literal.TheVariants.Nothing a b y
+  pub escaped_walked : (i : ℕ) (r : Option Walk) → At text quote i → At text backslash (i + 1) → RestWalked text (i + 2) r → SegmentWalked text i r
+  escaped_walked i (Some w) a b y = (segment_escaped text i (Some (record { end = w.end; bad = is_some w.bad })) a b y.0, y.1)
+  escaped_walked i None a b y = segment_escaped text i None a b y
 
-  pub plain_walked : (i j : ℕ) → At text quote i → (At text backslash (i + 1) → ⊥) → Longest text plain_rest (i + 1) j → SegmentWalked text i (Walk.At j Found.Nothing)
+  pub plain_walked : (i j : ℕ) → At text quote i → (At text backslash (i + 1) → ⊥) → Longest text plain_rest (i + 1) j → SegmentWalked text i (Some (record { end = j; bad = None }))
   plain_walked i j a n l = (segment_plain text i j a n l, λ p e. absurd (none_met e))
 
-  -- once its variant is known
-  pub walked_at : {i j : ℕ} {f : Found} {r : Walk} → r ≡ Walk.At j f → SegmentWalked text i r → SegmentWalked text i (Walk.At j f)
-  walked_at {i} e y = subst (SegmentWalked text i) e y
+  -- the segments so far, and the first bad escape
+  abbrev pub Segments : (at end : ℕ) → Option ℕ → Type 0
+  Segments at end f = Going text at end (is_some f) × ((p : ℕ) → f ≡ Some p → Points text at p)
 
-  pub walked_none : {i : ℕ} {r : Walk} → r ≡ Walk.Nothing → SegmentWalked text i r → Fails text segment i
-  walked_none {i} e y = subst (SegmentWalked text i) e y
-
-  quoted_at : {i j : ℕ} {f : Found} {r : Walk} → r ≡ Walk.At j f → QuotedWalked text i r → QuotedWalked text i (Walk.At j f)
-  quoted_at {i} e y = subst (QuotedWalked text i) e y
-
-  pub quoted_none : {i : ℕ} {r : Walk} → r ≡ Walk.Nothing → QuotedWalked text i r → Fails text quoted i × Points text i i
-  quoted_none {i} e y = subst (QuotedWalked text i) e y
-
-  pub quoted_judged : {i j : ℕ} {f : Found} {r : Walk} {b : Bool} → r ≡ Walk.At j f → QuotedWalked text i r → b ≡ met f →
-      Judges text quoted (BadQuoted text) i (Literal.TheVariants.At j b)
-  quoted_judged {i} {j} e y d = subst (λ (b : Bool). Judges text quoted (BadQuoted text) i (Literal.TheVariants.At j b)) (sym d) (quoted_at e y).0
-
-  pub quoted_points : {i j : ℕ} {f g : Found} {r : Walk} → r ≡ Walk.At j f → QuotedWalked text i r → f ≡ g → Points text i (place_or g i)
-  quoted_points {i} e y d = subst (λ (g : Found). Points text i (place_or g i)) d (quoted_at e y).1
-
-  -- the segments so far, where the next would begin, and the first bad escape
-  abbrev pub Segments : (at end next : ℕ) → Found → Type 0
-  Segments at end next f = Going text at end next (met f) × ((p : ℕ) → f ≡ Found.At p → Points text at p)
+  pub segments_start : {at : ℕ} {w : Walk} → SegmentWalked text at (Some w) → Segments at w.end w.bad
+  segments_start {at} {w} y = (going_starts text y.0, λ p e. starts_bad y.0 (ap is_some e) (y.1 p e))
 
   -- one segment more
   segments_more :
-      {at end next j k : ℕ} (f g : Found) → Segments at end next f → SegmentWalked text next (Walk.At j g) → Skips text j k →
-      Segments at j k (sooner_of f g)
-  segments_more (Found.At q) g v w s = (going_on text v.0 w.0 s, v.1)
-  segments_more {at} {end} Found.Nothing (Found.At r) v w s = (
-    going_on text v.0 w.0 s,
-    λ p e. subst (Points text at) (same_place e) (gone_bad (record { end = end; going = v.0 }) w.0 refl (w.1 r refl)),
-  )
-  segments_more Found.Nothing Found.Nothing v w s = (going_on text v.0 w.0 s, λ p e. absurd (none_met e))
+      {at end next j : ℕ} (f g : Option ℕ) → Segments at end f → Skips text end next → SegmentWalked text next (Some (record { end = j; bad = g })) →
+      Segments at j (option_or f g)
+  segments_more (Some q) g v s y = (going_on text v.0 s y.0, v.1)
+  segments_more None g v s y = (going_on text v.0 s y.0, λ p e. gone_bad v.0 s y.0 (ap is_some e) (y.1 p e))
 
   pub segments_on :
-      {at end next j k : ℕ} {f g h : Found} → h ≡ sooner_of f g → Segments at end next f → SegmentWalked text next (Walk.At j g) → Skips text j k →
-      Segments at j k h
-  segments_on {at} {j = j} {k} {f} {g} e v w s = subst (Segments at j k) (sym e) (segments_more f g v w s)
+      {at end next : ℕ} {f : Option ℕ} {w : Walk} → Segments at end f → Skips text end next → SegmentWalked text next (Some w) → Segments at w.end (option_or f w.bad)
+  segments_on {f = f} {w} v s y = segments_more f w.bad v s y
 
-  pub segments_none : {at end next : ℕ} {bad : Bool} → Going text at end next bad → Fails text segment next → end ≡ at → QuotedWalked text at Walk.Nothing
-  segments_none {at} {end} y f e = (going_nowhere text y f e, go y f)
+  pub segments_none : {at : ℕ} → Fails text segment at → QuotedWalked text at None
+  segments_none {at} f = (no_quoted text f, none_bad (λ j. go))
     where
-      go : {next : ℕ} {bad : Bool} → Going text at end next bad → Fails text segment next → Points text at at
-      go (none d n b) f = gone_ends (record { end = end; going = none d n refl }) f
-      go (some g t b k) f = absurd (omega (arith, e, (segment_strict text).less g, forward t))
+      go : {j : ℕ} → BadQuoted text at j → ⊥
+      go (in_first b t) = f.none (bad_takes text b)
+      go (in_further t a) = f.none t
 
-  pub segments_end : {at end next : ℕ} (f : Found) → Segments at end next f → Fails text segment next → (end ≡ at → ⊥) → QuotedWalked text at (Walk.At end f)
-  segments_end (Found.At q) v x n = (going_ends text v.0 x n, v.1 q refl)
-  segments_end {end = end} Found.Nothing v x n = (going_ends text v.0 x n, gone_ends (record { end = end; going = v.0 }) x)
+  pub segments_end : {at end next : ℕ} (f : Option ℕ) → Segments at end f → Skips text end next → Fails text segment next → QuotedWalked text at (Some (record { end = end; bad = f }))
+  segments_end (Some q) v s x = (going_ends text v.0 s x, v.1 q refl)
+  segments_end None v s x = (going_ends text v.0 s x, gone_ends v.0 s x)
 
   -- ---- one place
 

@@ -5,20 +5,20 @@ use mathlib.Core.Bool.{Bool, true, false, not}
 use mathlib.Core.List.{List, foldl}
 use Prim.Native.Nat.{ℕ, suc, ◌+◌, ◌-◌, ◌≤◌, ◌<◌, min}
 use native.Mathlib.Omega.{arith}
-use borrow.Author.Tests.{ltb-true, ltb-false, not-false}
-use lib.Dec.{ltb}
+use borrow.Author.Tests.{eqb-true, eq-eqb, not-false}
+use lib.Dec.{eqb}
 use lib.ListN.{length, get_or}
 use Rattle.rules.specs.Test.{Says}
 use Rattle.rules.specs.Class.{has}
 use Rattle.rules.specs.Rule.{one, many, Takes, both, stop, more, At, Fails}
-use Rattle.rules.proofs.Bools.{not_both}
+use Rattle.rules.proofs.Bools.{clash, not_both}
 use Rattle.rules.proofs.Chains.{snoc, longest}
 use Rattle.rules.proofs.Matches.{starting, one_at, byte_at}
 use Rattle.lexicon.specs.declared.Base.{Base}
 use Rattle.lexicon.specs.declared.Set.{Set}
-use Rattle.lexicon.specs.declared.Literal as Literal
 use Rattle.lexicon.specs.Bytes.{members, digit_set_of, digits, radix}
 use Rattle.lexicon.specs.Parts.{size}
+use Rattle.std.specs.Prelude.{Some}
 use Rattle.lexicon.specs.Found.{Judges}
 use Rattle.lexicon.specs.Values.{read}
 use Rattle.lexicon.specs.Limited.{limit, limited}
@@ -26,7 +26,7 @@ use Rattle.lexicon.specs.Bad.{Scalar}
 use Rattle.lexicon.proofs.Bases.{size_radix}
 use Rattle.lexicon.proofs.Limits.{limited_value, read_more}
 use Rattle.string.specs.Parts.{number, BadNumber, Counts}
-use Rattle.rules.proofs.Tests.{says_no, says_yes}
+use Rattle.std.specs.Bool.{then_some}
 use Rattle.lexicon.proofs.Spaces.{byte_single}
 
 -- the limit is no code point
@@ -37,29 +37,6 @@ scalar_limit v (inr h) = inr (omega arith, omega arith)
 limit_scalar : (v : ℕ) → Scalar (min limit v) → Scalar v
 limit_scalar v (inl h) = inl (omega arith)
 limit_scalar v (inr h) = inr (omega arith, omega arith)
-
--- ---- which numbers are none of a code point
-
-pub outside_low : (v : ℕ) → v ≤ 0xD7FF → Says false (Scalar v → ⊥)
-outside_low v h = says_no (λ n. n (inl h))
-
-pub outside_middle : (v : ℕ) → 0xD7FF < v → v < 0xE000 → Says true (Scalar v → ⊥)
-outside_middle v h l = says_yes go
-  where
-    go : Scalar v → ⊥
-    go (inl x) = omega arith
-    go (inr x) = omega arith
-
-pub outside_high : (v : ℕ) → 0xE000 ≤ v → Says (ltb 0x10FFFF v) (Scalar v → ⊥)
-outside_high v h = record { true_holds = λ e. over (ltb-true 0x10FFFF v e); holds_true = under (ltb 0x10FFFF v) refl }
-  where
-    over : 0x10FFFF < v → Scalar v → ⊥
-    over l (inl x) = omega arith
-    over l (inr x) = omega arith
-
-    under : (o : Bool) → ltb 0x10FFFF v ≡ o → (Scalar v → ⊥) → o ≡ true
-    under true e n = refl
-    under false e n = absurd (n (inr (h, ltb-false 0x10FFFF v e)))
 
 -- ---- the row of digits as it grows
 
@@ -121,7 +98,7 @@ module _ {text : List ℕ} {s : Set} {i j v : ℕ} where
 module _ {text : List ℕ} (b : Base) where
   -- ---- what it says of the number
 
-  pub no_number : {i j v : ℕ} → Counts text b i j v → j ≡ i → Fails text (number b) i
+  no_number : {i j v : ℕ} → Counts text b i j v → j ≡ i → Fails text (number b) i
   no_number {i} {j} c e = record { none = go }
     where
       go : {k : ℕ} → Takes text (number b) i k → ⊥
@@ -131,7 +108,7 @@ module _ {text : List ℕ} (b : Base) where
   some_many (stop e) n = absurd (n (sym e))
   some_many (more t u) n = both t u
 
-  pub number_judged : {i j v : ℕ} {bad : Bool} → Counts text b i j v → (j ≡ i → ⊥) → Says bad (Scalar v → ⊥) → Judges text (number b) (BadNumber text b) i (Literal.TheVariants.At j bad)
+  number_judged : {i j v : ℕ} {bad : Bool} → Counts text b i j v → (j ≡ i → ⊥) → Says bad (Scalar v → ⊥) → Judges text (number b) (BadNumber text b) i (Some (record { end = j; bad = bad }))
   number_judged {i} {j} {v} {bad} c n y = (
     record { takes = some_many c.all n; most = most },
     record {
@@ -142,3 +119,11 @@ module _ {text : List ℕ} (b : Base) where
     where
       most : {k : ℕ} → Takes text (number b) i k → k ≤ j
       most (both t u) = (longest (byte_single (digits b)) c.all c.ends).most (more t u)
+
+  -- and with the look whether there are digits
+  pub number_found : {i j v : ℕ} {bad : Bool} → Counts text b i j v → Says bad (Scalar v → ⊥) → Judges text (number b) (BadNumber text b) i (then_some (not (eqb j i)) (record { end = j; bad = bad }))
+  number_found {i} {j} {v} {bad} c y = by (eqb j i) refl
+    where
+      by : (o : Bool) → eqb j i ≡ o → Judges text (number b) (BadNumber text b) i (then_some (not o) (record { end = j; bad = bad }))
+      by true e = no_number c (eqb-true j i e)
+      by false e = number_judged c (λ d. clash (eq-eqb j i d) e) y

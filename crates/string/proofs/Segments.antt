@@ -13,8 +13,8 @@ use Rattle.rules.proofs.Classes.{apart, apart_span, apart_no}
 use Rattle.rules.proofs.Matches.{forward, starting, one_at, move_at, fails_first}
 use Rattle.rules.proofs.Chains.{snoc, each, reaches}
 use Rattle.rules.proofs.Ways.{never_takes}
+use Rattle.std.specs.Prelude.{Option, Some, None}
 use Rattle.lexicon.specs.declared.Literal.{Literal}
-use Rattle.lexicon.specs.declared.Literal as Literal
 use Rattle.lexicon.specs.Found.{Judges}
 use Rattle.lexicon.specs.Space.{Skips}
 use Rattle.lexicon.specs.Literals.{plain_byte, unescaped, content, segment, quoted}
@@ -66,7 +66,7 @@ module _ (text : List ℕ) where
       (said_on text item (BadEscape text) item_single item_strict t (left (left s)) y (character_good text (left s)))
 
   -- a row of items that has come to the closing quote
-  pub rest_judged : {i j : ℕ} {bad : Bool} → Takes text (many item) i j → At text quote j → Says bad (Among text item (BadEscape text) i j) → Judges text escaped_rest (BadRest text) i (Literal.TheVariants.At (j + 1) bad)
+  pub rest_judged : {i j : ℕ} {bad : Bool} → Takes text (many item) i j → At text quote j → Says bad (Among text item (BadEscape text) i j) → Judges text escaped_rest (BadRest text) i (Some (record { end = j + 1; bad = bad }))
   rest_judged {i} {j} {bad} t a y = (
     closes item quote item_single quote_item t a,
     record {
@@ -100,19 +100,19 @@ module _ (text : List ℕ) where
       record { start = i + 2; end = r.end; before = both (byte a refl) (byte b h); content = r.content; behind = r.behind }
 
   -- the answer for the rest of an escaped one
-  pub segment_escaped : (i : ℕ) (r : Literal) → At text quote i → At text backslash (i + 1) → Judges text escaped_rest (BadRest text) (i + 2) r → Judges text segment (BadSegment text) i r
-  segment_escaped i (Literal.TheVariants.At j bad) a b y = (
+  pub segment_escaped : (i : ℕ) (r : Option Literal) → At text quote i → At text backslash (i + 1) → Judges text escaped_rest (BadRest text) (i + 2) r → Judges text segment (BadSegment text) i r
+  segment_escaped i (Some l) a b y = (
     record {
       takes = both (byte a refl) (of_escaped b (starting (omega arith) y.0.takes));
       most = λ t. y.0.most (starting (omega arith) (to_escaped b (segment_rest t)));
     },
     record { true_holds = λ e. rest_bad a b (y.1.true_holds e); holds_true = λ s. y.1.holds_true (bad_rest s).1 },
   )
-  segment_escaped i Literal.TheVariants.Nothing a b f =
+  segment_escaped i None a b f =
       record { none = λ t. f.none (starting (omega arith) (to_escaped b (segment_rest t))) }
 
   -- and of a plain one
-  pub segment_plain : (i j : ℕ) → At text quote i → (At text backslash (i + 1) → ⊥) → Longest text plain_rest (i + 1) j → Judges text segment (BadSegment text) i (Literal.TheVariants.At j false)
+  pub segment_plain : (i j : ℕ) → At text quote i → (At text backslash (i + 1) → ⊥) → Longest text plain_rest (i + 1) j → Judges text segment (BadSegment text) i (Some (record { end = j; bad = false }))
   segment_plain i j a n l = (
     record { takes = both (byte a refl) (of_plain n l.takes); most = λ t. l.most (to_plain n (segment_rest t)) },
     says_no (λ s. n (bad_rest s).0),
@@ -130,19 +130,19 @@ module _ (text : List ℕ) where
   bad_further_lem {j = j} y b =
       subst (λ (x : ℕ). BadSegment text x j) (space_ends text b.before (bad_takes text b.bad) y) b.bad
 
-  pub further_judged : (i s : ℕ) (r : Literal) → Skips text i s → Judges text segment (BadSegment text) s r → Judges text further (BadFurther text) i r
-  further_judged i s (Literal.TheVariants.At j bad) p y = (
+  pub further_judged : (i s : ℕ) (r : Option Literal) → Skips text i s → Judges text segment (BadSegment text) s r → Judges text further (BadFurther text) i r
+  further_judged i s (Some l) p y = (
     record { takes = both p.takes y.0.takes; most = λ t. y.0.most (further_rest text p t) },
     record {
       true_holds = λ e. record { start = s; before = p.takes; bad = y.1.true_holds e };
       holds_true = λ b. y.1.holds_true (bad_further_lem p b);
     },
   )
-  further_judged i s Literal.TheVariants.Nothing p f = record { none = λ t. f.none (further_rest text p t) }
+  further_judged i s None p f = record { none = λ t. f.none (further_rest text p t) }
 
   -- ---- the text
 
-  no_quoted : {i : ℕ} → Fails text segment i → Fails text quoted i
+  pub no_quoted : {i : ℕ} → Fails text segment i → Fails text quoted i
   no_quoted f = fails_first f
 
   module _ {i m : ℕ} (first : Takes text segment i m) where
@@ -184,24 +184,23 @@ module _ (text : List ℕ) where
   pub segment_strict : Strict text segment
   segment_strict = strict_of segment refl
 
-  -- ---- the segments so far, and where the next would begin
+  -- ---- the segments so far
 
-  pub data Going (at end next : ℕ) (bad : Bool) : Type 0 where
-    none : end ≡ at → next ≡ at → bad ≡ false → Going at end next bad
-    some : {first : ℕ} → Takes text segment at first → Takes text (many further) first end → Says bad (BadQuoted text at end) → Skips text end next → Going at end next bad
+  pub record Going (at end : ℕ) (bad : Bool) : Type 0 where
+    pub first : ℕ
+    pub start : Takes text segment at first
+    pub row : Takes text (many further) first end
+    pub says : Says bad (BadQuoted text at end)
 
-  pub going_on : {at end next j k : ℕ} {bad worse : Bool} → Going at end next bad → Judges text segment (BadSegment text) next (Literal.TheVariants.At j worse) → Skips text j k →
-      Going at j k (bad || worse)
-  going_on {at} {j = j} {worse = worse} (none e n b) y s =
-      let z = subst (λ (i : ℕ). Judges text segment (BadSegment text) i (Literal.TheVariants.At j worse)) n y in
-      some z.0.takes (stop refl) (subst (λ (o : Bool). Says (o || worse) (BadQuoted text at j)) (sym b) (first_said z.0.takes z.1)) s
-  going_on {end = end} {next} {j} {worse = worse} (some f t b p) y s =
-      let z = further_judged end next (Literal.TheVariants.At j worse) p y in some f (snoc t z.0.takes) (next_said f t z.0.takes b z.1) s
+  pub going_starts : {at : ℕ} {l : Literal} → Judges text segment (BadSegment text) at (Some l) → Going at l.end l.bad
+  going_starts y = record { first = _; start = y.0.takes; row = stop refl; says = first_said y.0.takes y.1 }
 
-  pub going_nowhere : {at end next : ℕ} {bad : Bool} → Going at end next bad → Fails text segment next → end ≡ at → Fails text quoted at
-  going_nowhere (none e n b) f q = no_quoted (subst (λ (i : ℕ). Fails text segment i) n f)
-  going_nowhere (some g t b k) f q = absurd (omega (arith, q, segment_strict.less g, forward t))
+  pub going_on : {at end next : ℕ} {bad : Bool} {l : Literal} → Going at end bad → Skips text end next → Judges text segment (BadSegment text) next (Some l) →
+      Going at l.end (bad || l.bad)
+  going_on {end = end} {next} {l = l} g p y =
+      let z = further_judged end next (Some l) p y in
+      record { first = g.first; start = g.start; row = snoc g.row z.0.takes; says = next_said g.start g.row z.0.takes g.says z.1 }
 
-  pub going_ends : {at end next : ℕ} {bad : Bool} → Going at end next bad → Fails text segment next → (end ≡ at → ⊥) → Judges text quoted (BadQuoted text) at (Literal.TheVariants.At end bad)
-  going_ends (none e n b) f q = absurd (q e)
-  going_ends {end = end} {next} (some g t b k) f q = (quoted_ends g t (further_judged end next Literal.TheVariants.Nothing k f), b)
+  pub going_ends : {at end next : ℕ} {bad : Bool} → Going at end bad → Skips text end next → Fails text segment next →
+      Judges text quoted (BadQuoted text) at (Some (record { end = end; bad = bad }))
+  going_ends {end = end} {next} g p f = (quoted_ends g.start g.row (further_judged end next None p f), g.says)

@@ -9,7 +9,7 @@ ghost use Rattle.string.specs.Parts.{BadNumber, Counts};
 use lexicon::{Base, Literal};
 use text::byte::stands;
 use text::class::{classes, holds};
-use text::digit::{Lettered, base_of, digit_set, limited, radix};
+use text::digit::{base_of, digit_set, limited, radix};
 
 // A row of digits: where it ends, and its number up to the limit.
 #[derive(Drop)]
@@ -22,13 +22,7 @@ struct Run {
 fn outside(code: u32) -> bool
     ensures { Says result (Scalar code → ⊥) }
 {
-    if code <= 0xD7FF {
-        return false;
-    }
-    if code < 0xE000 {
-        return true;
-    }
-    0x10FFFF < code
+    char::from_u32(code).is_none()
 }
 
 // The digits of the base from the place on.
@@ -52,36 +46,26 @@ fn count(text: &[u8], at: usize, base: Base) -> Run
 }
 
 // Where the number at the place ends, and whether it is none of a code point.
-fn number(text: &[u8], at: usize, base: Base) -> Literal
+fn number(text: &[u8], at: usize, base: Base) -> Option<Literal>
     ensures { Judges text.now (Parts.number base) (BadNumber text.now base) at result }
 {
-    let run = count(text, at, base);
-    let end = run.end;
-    if end == at {
-        return Literal::Nothing;
-    }
-    Literal::At {
+    let Run { end, code } = count(text, at, base);
+    (end != at).then_some(Literal {
         end,
-        bad: outside(run.code),
-    }
+        bad: outside(code),
+    })
 }
 
 // Where the code point at the place ends, and whether its number is none.
-pub fn code_point(text: &[u8], at: usize) -> Literal
+pub fn code_point(text: &[u8], at: usize) -> Option<Literal>
     ensures { Judges text.now code_point_of (BadCode text.now) at result }
 {
-    if !stands(text, at, b'0') {
-        return Literal::Nothing;
-    }
-    if !stands(text, at + 1, b'c') {
-        return Literal::Nothing;
+    if !stands(text, at, b'0') || !stands(text, at + 1, b'c') {
+        return None;
     }
     let mark = at + 2;
-    if mark >= text.len() {
-        return Literal::Nothing;
+    match base_of(*text.get(mark)?) {
+        Some(base) => number(text, at + 3, base),
+        None => number(text, mark, Base::Ten),
     }
-    let Lettered::Of(base) = base_of(text[mark]) else {
-        return number(text, mark, Base::Ten);
-    };
-    number(text, at + 3, base)
 }

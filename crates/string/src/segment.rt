@@ -1,38 +1,40 @@
 // One segment of a quoted text. It is an escaped one only if a backslash stands first in it.
 ghost use Rattle.std.specs.Prelude.{◌≡◌, ◌+◌};
 ghost use Rattle.rules.specs.Test.{Says};
+ghost use Rattle.rules.specs.Class.{has};
 ghost use Rattle.rules.specs.Rule.{one, many, Takes, Longest};
 ghost use Rattle.lexicon.specs.Found.{Finds, Judges};
 ghost use Rattle.lexicon.specs.Literals;
 ghost use Rattle.lexicon.specs.Bad.{BadEscape};
-ghost use Rattle.string.specs.FirstBad.{marked_at, sooner_of, RestWalked, SegmentWalked};
+ghost use Rattle.string.specs.FirstBad.{RestWalked, SegmentWalked};
 ghost use Rattle.string.specs.Parts;
 ghost use Rattle.string.specs.Parts.{BadAngled};
 
 use crate::code_point::code_point;
-use lexicon::{Found, Literal};
+use lexicon::Literal;
 use text::byte::{stands, within};
 use utf8::sequence;
 
 // Where a part of a quoted text ends, and the backslash of the first bad escape in it, if there is one.
 #[derive(Drop)]
-pub enum Walk {
-    At { end: usize, bad: Found },
-    Nothing,
+pub struct Walk {
+    pub end: usize,
+    pub bad: Option<usize>,
 }
 
-// Whether a byte of ASCII stands at the place that may stand inside quotes as it is, other than a backslash.
+// Whether a byte of ASCII may stand inside quotes as it is, other than a backslash: all from the space on but three.
+#[tactic(auto, unfolding(rules::specs::Class::has))]
+fn is_plain(b: u8) -> bool
+    ensures { result ≡ has Literals.plain_byte b }
+{
+    matches!(b, b' '..=b'!' | b'#'..=b'[' | b']'..=b'_' | b'a'..=0x7F)
+}
+
+// Whether such a byte stands at the place.
 fn plain_byte(text: &[u8], at: usize) -> bool
     ensures { Says result (Takes text.now (one Literals.plain_byte) at (at + 1)) }
 {
-    if text.len() <= at {
-        return false;
-    }
-    match text[at] {
-        b'"' | b'\\' | b'`' => false,
-        0x20..=0x7F => true,
-        _ => false,
-    }
+    text.get(at).is_some_and(|b| is_plain(*b))
 }
 
 // The end of the run of such bytes at the place: by eights first, since it may be long, but not where there is none, as between two
@@ -54,92 +56,71 @@ fn run(text: &[u8], at: usize) -> usize
 }
 
 // A character that may stand inside quotes as it is, other than a backslash.
-fn character(text: &[u8], at: usize) -> Found
+fn character(text: &[u8], at: usize) -> Option<usize>
     ensures { Finds text.now Literals.unescaped at result }
 {
-    if text.len() <= at {
-        return Found::Nothing;
+    let b = *text.get(at)?;
+    match b {
+        // Of ASCII the byte decides alone.
+        0x00..=0x7F => is_plain(b).then_some(at + 1),
+        // U+0080 to U+009F may not stand.
+        0xC2 => within(text, at + 1, 0xA0, 0xBF).then_some(at + 2),
+        _ => sequence(text, at),
     }
-    let b = text[at];
-    // Of ASCII the byte decides alone.
-    if b < 0x80 {
-        if plain_byte(text, at) {
-            return Found::At(at + 1);
-        }
-        return Found::Nothing;
-    }
-    // U+0080 to U+009F may not stand.
-    if b == 0xC2 {
-        if within(text, at + 1, 0xA0, 0xBF) {
-            return Found::At(at + 2);
-        }
-        return Found::Nothing;
-    }
-    sequence(text, at)
 }
 
 // A code point by its number and the closing angle.
-fn angled(text: &[u8], at: usize) -> Literal
+fn angled(text: &[u8], at: usize) -> Option<Literal>
     ensures { Judges text.now Parts.angled (BadAngled text.now) at result }
 {
-    let Literal::At { end, bad } = code_point(text, at) else {
-        return Literal::Nothing;
-    };
-    if stands(text, end, b'>') {
-        return Literal::At { end: end + 1, bad };
-    }
-    Literal::Nothing
+    let Literal { end, bad } = code_point(text, at)?;
+    stands(text, end, b'>').then_some(Literal { end: end + 1, bad })
 }
 
 // A backslash, and a letter or a code point by its number.
-fn escape(text: &[u8], at: usize) -> Literal
+fn escape(text: &[u8], at: usize) -> Option<Literal>
     ensures { Judges text.now Literals.escape (BadEscape text.now) at result }
 {
     if !stands(text, at, b'\\') {
-        return Literal::Nothing;
-    }
-    let next = at + 1;
-    if next >= text.len() {
-        return Literal::Nothing;
+        return None;
     }
     let end = at + 2;
-    match text[next] {
-        b'q' => Literal::At { end, bad: false },
-        b'g' => Literal::At { end, bad: false },
-        b'b' => Literal::At { end, bad: false },
-        b't' => Literal::At { end, bad: false },
-        b'n' => Literal::At { end, bad: false },
-        b'r' => Literal::At { end, bad: false },
+    let letter = Some(Literal { end, bad: false });
+    match *text.get(at + 1)? {
+        b'q' => letter,
+        b'g' => letter,
+        b'b' => letter,
+        b't' => letter,
+        b'n' => letter,
+        b'r' => letter,
         b'<' => angled(text, end),
-        _ => Literal::Nothing,
+        _ => None,
     }
 }
 
 // A character or an escape.
-fn item(text: &[u8], at: usize) -> Literal
+fn item(text: &[u8], at: usize) -> Option<Literal>
     ensures { Judges text.now Parts.item (BadEscape text.now) at result }
 {
-    let Found::At(end) = character(text, at) else {
-        return escape(text, at);
-    };
-    Literal::At { end, bad: false }
+    match character(text, at) {
+        Some(end) => Some(Literal { end, bad: false }),
+        None => escape(text, at),
+    }
 }
 
 // A character or a backslash.
-fn restricted(text: &[u8], at: usize) -> Found
+fn restricted(text: &[u8], at: usize) -> Option<usize>
     ensures { Finds text.now Literals.restricted at result }
 {
-    let Found::At(end) = character(text, at) else {
-        if stands(text, at, b'\\') {
-            return Found::At(at + 1);
-        }
-        return Found::Nothing;
-    };
-    Found::At(end)
+    match character(text, at) {
+        Some(end) => Some(end),
+        None if stands(text, at, b'\\') => Some(at + 1),
+        None => None,
+    }
 }
 
 // Characters and backslashes up to the closing quote, which begins none of them.
-fn plain(text: &[u8], at: usize) -> Found
+fn plain(text: &[u8], at: usize) -> Option<usize>
     ensures { Finds text.now Parts.plain_rest at result }
 {
     let mut i = at;
@@ -147,70 +128,39 @@ fn plain(text: &[u8], at: usize) -> Found
         i = run(text, i);
         // What ends most runs, so it is asked first.
         if stands(text, i, b'"') {
-            return Found::At(i + 1);
+            return Some(i + 1);
         }
-        let Found::At(next) = restricted(text, i) else {
-            return Found::Nothing;
-        };
-        i = next;
-    }
-}
-
-// The place, if an escape there is bad.
-fn marked(bad: bool, place: usize) -> Found
-    ensures { result ≡ marked_at bad place }
-{
-    if bad {
-        Found::At(place)
-    } else {
-        Found::Nothing
-    }
-}
-
-// The bad escape that was met first, or else the one that is met now.
-pub fn sooner(met: Found, now: Found) -> Found
-    ensures { result ≡ sooner_of met now }
-{
-    match met {
-        Found::At(place) => Found::At(place),
-        Found::Nothing => now,
+        i = restricted(text, i)?;
     }
 }
 
 // Characters and escapes up to the closing quote, which begins none of them.
-fn escaped(text: &[u8], at: usize) -> Walk
+fn escaped(text: &[u8], at: usize) -> Option<Walk>
     ensures { RestWalked text.now at result }
 {
     let mut i = at;
-    let mut bad = Found::Nothing;
+    let mut bad = None;
     loop {
         i = run(text, i);
         if stands(text, i, b'"') {
-            return Walk::At { end: i + 1, bad };
+            return Some(Walk { end: i + 1, bad });
         }
-        let Literal::At { end, bad: worse } = item(text, i) else {
-            return Walk::Nothing;
-        };
-        bad = sooner(bad, marked(worse, i));
-        i = end;
+        let found = item(text, i)?;
+        bad = bad.or(found.bad.then_some(i));
+        i = found.end;
     }
 }
 
 // A segment.
-pub fn segment(text: &[u8], at: usize) -> Walk
+pub fn segment(text: &[u8], at: usize) -> Option<Walk>
     ensures { SegmentWalked text.now at result }
 {
     if !stands(text, at, b'"') {
-        return Walk::Nothing;
+        return None;
     }
     if stands(text, at + 1, b'\\') {
         return escaped(text, at + 2);
     }
-    let Found::At(end) = plain(text, at + 1) else {
-        return Walk::Nothing;
-    };
-    Walk::At {
-        end,
-        bad: Found::Nothing,
-    }
+    let end = plain(text, at + 1)?;
+    Some(Walk { end, bad: None })
 }

@@ -2,6 +2,7 @@
 pub mod Table
 pub mod Sets
 pub mod Ranges
+pub mod Gets
 pub mod Searches
 pub mod Digits
 pub mod Letters

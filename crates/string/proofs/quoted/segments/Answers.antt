@@ -1,27 +1,26 @@
--- `string::quoted::segments` meets its contract: the segments up to `end` are a row, `bad` is the first bad escape in them, if there is one, and
--- behind the space another would begin at `next`. Assumes nothing.
+-- `string::quoted::segments` meets its contract: the segments up to `end` are a row, and `bad` is the first bad escape in them, if there is one.
+-- Assumes nothing.
 use mathlib.Core.Path.{refl}
 use native.Mathlib.Omega.{arith}
 use Rattle.rules.proofs.Matches.{forward}
 use Rattle.rules.proofs.Ways.{begins_within}
 use Rattle.lexicon.specs.Literals.{segment}
-use Rattle.string.proofs.Segments.{segment_strict, none}
-use Rattle.string.proofs.FirstBad.{none_met, walked_at, walked_none, segments_on, segments_none, segments_end}
+use Rattle.string.proofs.Segments.{segment_strict}
+use Rattle.string.proofs.FirstBad.{segments_start, segments_on, segments_none, segments_end}
 use Rattle.string.proofs.quoted.segments.Goals as goal
 
-pub loop-stop-init : goal.loop-stop-init
-loop-stop-init c = (none refl refl refl, λ p e. absurd (none_met e))
+pub returns-in_err-end : goal.returns-in_err-end
+returns-in_err-end c = rw c.from_residual.ensures (segments_none _ c.in_err-end.ensures)
 
-pub loop-stop-smaller : goal.loop-stop-smaller
-loop-stop-smaller c = let y = walked_at _ c.in-At.is c.segment.ensures in
-    omega (arith, begins_within segment refl y.0.0.takes, (segment_strict _).less y.0.0.takes, forward c.space-next.ensures.takes)
+pub loop-further-init : goal.loop-further-init
+loop-further-init c = segments_start _ c.in_ok-end.ensures
 
-pub loop-stop-preserved : goal.loop-stop-preserved
-loop-stop-preserved c = segments_on _ c.sooner-bad.ensures c.loop-stop.invariant
-    (walked_at _ c.in-At.is c.segment.ensures) c.space-next.ensures
+pub loop-further-smaller : goal.loop-further-smaller
+loop-further-smaller c = let y = c.in-Some.ensures in
+    omega (arith, begins_within segment refl y.0.0.takes, (segment_strict _).less y.0.0.takes, forward c.space.ensures.takes)
 
-pub returns-then-end-at : goal.returns-then-end-at
-returns-then-end-at c = segments_none _ c.loop-stop.invariant.0 (walked_none _ c.in_default.is c.segment.ensures) c.if-end-at.true
+pub loop-further-preserved : goal.loop-further-preserved
+loop-further-preserved c = rw c.or-bad.ensures (segments_on _ c.loop-further.invariant c.space.ensures c.in-Some.ensures)
 
 pub returns : goal.returns
-returns c = segments_end _ _ c.loop-stop.invariant (walked_none _ c.in_default.is c.segment.ensures) c.if-end-at.false
+returns c = segments_end _ _ c.loop-further.invariant c.space.ensures c.in_default.ensures

@@ -1,20 +1,18 @@
 -- `string::segment::angled` meets its contract: a code point is closed only at its longest match.
 -- Assumes nothing.
+use mathlib.Core.Path.{refl}
 use native.Mathlib.Omega.{arith}
-use Rattle.lexicon.specs.Bad.{BadCode}
-use Rattle.rules.proofs.Tests.{there, not_there}
-use Rattle.lexicon.proofs.Answers.{judged_at, judged_none}
-use Rattle.string.proofs.Escapes.{no_angled, unclosed, angled_judged}
+use Rattle.rules.proofs.Matches.{inside}
+use Rattle.rules.proofs.Ways.{begins_within}
+use Rattle.lexicon.specs.Literals.{code_point_of}
+use Rattle.string.proofs.Escapes.{angled_none, angled_found}
 use Rattle.string.proofs.segment.angled.Goals as goal
 
-pub returns-in_default : goal.returns-in_default
-returns-in_default c = let a = c.args in no_angled a.text.now (judged_none (BadCode a.text.now) c.in_default.is c.code_point.ensures)
+pub returns-in_err-end : goal.returns-in_err-end
+returns-in_err-end c = rw c.from_residual.ensures (angled_none _ c.in_err-end.ensures)
 
-pub overflow_add-result : goal.overflow_add-result
-overflow_add-result c = omega (arith, (there c.stands.ensures c.if-stands.true).0)
-
-pub returns-then-stands : goal.returns-then-stands
-returns-then-stands c = let a = c.args in angled_judged a.text.now a.at c.in-At.end c.in-At.bad (judged_at (BadCode a.text.now) c.in-At.is c.code_point.ensures) (there c.stands.ensures c.if-stands.true)
+pub overflow_add-end : goal.overflow_add-end
+overflow_add-end c = let t = c.in_ok-end.ensures.0.takes in omega (arith, inside t (omega (arith, begins_within code_point_of refl t)))
 
 pub returns : goal.returns
-returns c = let a = c.args in unclosed a.text.now (judged_at (BadCode a.text.now) c.in-At.is c.code_point.ensures).0 (not_there c.stands.ensures c.if-stands.false)
+returns c = rw c.then_some.ensures (angled_found _ _ _ c.in_ok-end.ensures c.stands.ensures)

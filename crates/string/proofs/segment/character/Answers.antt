@@ -1,25 +1,24 @@
 -- `string::segment::character` meets its contract: its first byte decides, or a well-formed sequence is one.
 -- Assumes nothing.
+use mathlib.Core.Path.{refl, sym, ◌∙◌, ap}
 use native.Mathlib.Omega.{arith}
-use mathlib.Core.Path.{refl}
+use Rattle.rules.specs.Class.{has}
+use Rattle.lexicon.specs.Literals.{plain_byte}
+use Rattle.text.proofs.Gets.{got, not_got}
 use Rattle.text.proofs.Searches.{fails_end}
-use Rattle.string.proofs.Characters.{ascii, barred, control_C2, character_C2, other}
+use Rattle.string.proofs.Characters.{ascii_found, found_C2, other}
 use Rattle.string.proofs.segment.character.Goals as goal
 
-pub returns-then-text-at : goal.returns-then-text-at
-returns-then-text-at c = fails_end refl c.if-text-at.true
+pub returns-in_err-b : goal.returns-in_err-b
+returns-in_err-b c = rw c.from_residual.ensures (fails_end refl (not_got _ _ c.in_err-b.ensures.lookup))
 
-pub returns-then-plain_byte : goal.returns-then-plain_byte
-returns-then-plain_byte c = ascii (c.plain_byte.ensures.true_holds c.if-plain_byte.true)
+pub returns-in-194 : goal.returns-in-194
+returns-in-194 c = let g = got _ _ c.in_ok-b.field-0 c.in_ok-b.ensures.lookup in
+    rw c.then_some.ensures (found_C2 _ c.args.at g.0 (omega arith) c.within.ensures)
 
-pub returns-then-b-lt128 : goal.returns-then-b-lt128
-returns-then-b-lt128 c = barred c.args.at (omega arith) (omega arith) c.plain_byte.ensures c.if-plain_byte.false
+pub returns-in-0-to-127 : goal.returns-in-0-to-127
+returns-in-0-to-127 c = let g = got _ _ c.in_ok-b.field-0 c.in_ok-b.ensures.lookup in
+    rw c.then_some-in-0-to-127.ensures (ascii_found _ c.args.at g.0 (omega arith) (c.is_plain.ensures ∙ ap (has plain_byte) g.1))
 
-pub returns-then-within : goal.returns-then-within
-returns-then-within c = character_C2 c.args.at c.within.result (omega arith) c.if-b.true c.within.ensures c.if-within.true
-
-pub returns-then-b : goal.returns-then-b
-returns-then-b c = control_C2 c.args.at c.within.result (omega arith) c.if-b.true c.within.ensures c.if-within.false
-
-pub returns : goal.returns
-returns c = let a = c.args in other a.text.now a.at c.sequence.result (omega arith) c.if-b.false c.sequence.ensures
+pub returns-in_default : goal.returns-in_default
+returns-in_default c = let g = got _ _ c.in_ok-b.field-0 c.in_ok-b.ensures.lookup in other _ c.args.at c.sequence.result (omega arith) (λ e. omega arith) c.sequence.ensures

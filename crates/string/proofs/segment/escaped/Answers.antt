@@ -14,8 +14,7 @@ use Rattle.rules.proofs.Closed.{never_closes}
 use Rattle.lexicon.proofs.Segments.{quote}
 use Rattle.string.proofs.Items.{quote_item, item_single, item_strict}
 use Rattle.string.proofs.Segments.{plain_items, plain_said, rest_judged}
-use Rattle.string.proofs.FirstBad.{none_met, Items, items_on}
-use Rattle.lexicon.proofs.Answers.{judged_at, judged_none}
+use Rattle.string.proofs.FirstBad.{none_met, Items, items_more}
 use Rattle.string.proofs.segment.escaped.Goals as goal
 
 pub loop-bad-init : goal.loop-bad-init
@@ -29,17 +28,15 @@ returns-then-stands c =
     let passed : Items c.args.text.now c.args.at c.run-i.result c.loop-bad.bad = let v = c.loop-bad.invariant in (join v.0 (plain_items _ c.run-i.ensures.takes), plain_said _ v.0 c.run-i.ensures.takes v.1, v.2) in
     let v = passed in (rest_judged _ v.0 (there c.stands.ensures c.if-stands.true) v.1, v.2)
 
-pub returns-in_default : goal.returns-in_default
-returns-in_default c =
+pub returns-in_err-found : goal.returns-in_err-found
+returns-in_err-found c =
     let passed : Items c.args.text.now c.args.at c.run-i.result c.loop-bad.bad = let v = c.loop-bad.invariant in (join v.0 (plain_items _ c.run-i.ensures.takes), plain_said _ v.0 c.run-i.ensures.takes v.1, v.2) in
-    never_closes item quote item_single quote_item (passed).0 (judged_none (BadEscape c.args.text.now) c.in_default.is c.item.ensures)
-    (not_there c.stands.ensures c.if-stands.false)
+    rw c.from_residual.ensures (never_closes item quote item_single quote_item (passed).0 c.in_err-found.ensures (not_there c.stands.ensures c.if-stands.false))
 
 pub loop-bad-smaller : goal.loop-bad-smaller
-loop-bad-smaller c = let y = judged_at (BadEscape c.args.text.now) c.in-At.is c.item.ensures in omega (arith, forward c.run-i.ensures.takes, begins_within item refl y.0.takes, item_strict.less y.0.takes)
+loop-bad-smaller c = let y = c.in_ok-found.ensures in omega (arith, forward c.run-i.ensures.takes, begins_within item refl y.0.takes, item_strict.less y.0.takes)
 
 pub loop-bad-preserved : goal.loop-bad-preserved
 loop-bad-preserved c =
     let passed : Items c.args.text.now c.args.at c.run-i.result c.loop-bad.bad = let v = c.loop-bad.invariant in (join v.0 (plain_items _ c.run-i.ensures.takes), plain_said _ v.0 c.run-i.ensures.takes v.1, v.2) in
-    let y = judged_at (BadEscape c.args.text.now) c.in-At.is c.item.ensures in let v = passed in
-    items_on _ c.marked.ensures c.sooner-bad.ensures v y
+    rw (c.or-bad.ensures, c.then_some.ensures) (items_more _ _ _ passed c.in_ok-found.ensures)

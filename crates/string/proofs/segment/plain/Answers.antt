@@ -6,7 +6,6 @@ use Rattle.rules.specs.Rule.{many, Takes, left, stop}
 use Rattle.rules.proofs.Matches.{forward}
 use Rattle.rules.proofs.Chains.{join, snoc, each}
 use Rattle.lexicon.specs.Literals.{restricted}
-use Rattle.lexicon.proofs.Answers.{found_at, found_none}
 use Rattle.rules.proofs.Tests.{there, not_there}
 use Rattle.rules.proofs.Ways.{begins_within}
 use Rattle.rules.proofs.Closed.{closes, never_closes}
@@ -25,16 +24,15 @@ returns-then-stands c =
     let passed : Takes c.args.text.now (many restricted) c.args.at c.run-i.result = join c.loop-at.invariant (each (λ _ _ t. left (left t)) c.run-i.ensures.takes) in
     closes restricted quote restricted_single quote_restricted passed (there c.stands.ensures c.if-stands.true)
 
-pub returns-in_default : goal.returns-in_default
-returns-in_default c =
+pub returns-in_err-i : goal.returns-in_err-i
+returns-in_err-i c =
     let passed : Takes c.args.text.now (many restricted) c.args.at c.run-i.result = join c.loop-at.invariant (each (λ _ _ t. left (left t)) c.run-i.ensures.takes) in
-    never_closes restricted quote restricted_single quote_restricted passed (found_none c.in_default.is c.restricted.ensures)
-    (not_there c.stands.ensures c.if-stands.false)
+    rw c.from_residual.ensures (never_closes restricted quote restricted_single quote_restricted passed c.in_err-i.ensures (not_there c.stands.ensures c.if-stands.false))
 
 pub loop-at-smaller : goal.loop-at-smaller
-loop-at-smaller c = let l = found_at c.in-At.is c.restricted.ensures in omega (arith, forward c.run-i.ensures.takes, begins_within restricted refl l.takes, restricted_strict.less l.takes)
+loop-at-smaller c = let l = c.in_ok-i.ensures in omega (arith, forward c.run-i.ensures.takes, begins_within restricted refl l.takes, restricted_strict.less l.takes)
 
 pub loop-at-preserved : goal.loop-at-preserved
 loop-at-preserved c =
     let passed : Takes c.args.text.now (many restricted) c.args.at c.run-i.result = join c.loop-at.invariant (each (λ _ _ t. left (left t)) c.run-i.ensures.takes) in
-    snoc passed (found_at c.in-At.is c.restricted.ensures).takes
+    snoc passed c.in_ok-i.ensures.takes

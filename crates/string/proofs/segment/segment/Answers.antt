@@ -1,7 +1,6 @@
 -- `string::segment::segment` meets its contract: the first byte behind the quote tells the kind.
 -- Assumes nothing.
 use native.Mathlib.Omega.{arith}
-use Rattle.lexicon.proofs.Answers.{found_at, found_none}
 use Rattle.rules.proofs.Tests.{there, not_there}
 use Rattle.string.proofs.Segments.{no_segment, segment_open}
 use Rattle.string.proofs.FirstBad.{escaped_walked, plain_walked}
@@ -22,8 +21,8 @@ returns-then-stands c = let a = c.args in escaped_walked a.text.now a.at c.escap
 pub overflow_add-at-2 : goal.overflow_add-at-2
 overflow_add-at-2 c = omega (arith, (there c.stands.ensures c.if-not-stands.false).0)
 
-pub returns-in_default : goal.returns-in_default
-returns-in_default c = let a = c.args in segment_open a.text.now a.at (not_there c.stands-2.ensures c.if-stands.false) (found_none c.in_default.is c.plain.ensures)
+pub returns-in_err-end : goal.returns-in_err-end
+returns-in_err-end c = rw c.from_residual.ensures (segment_open _ c.args.at (not_there c.stands-2.ensures c.if-stands.false) c.in_err-end.ensures)
 
 pub returns : goal.returns
-returns c = let a = c.args in plain_walked a.text.now a.at c.in-At.end (there c.stands.ensures c.if-not-stands.false) (not_there c.stands-2.ensures c.if-stands.false) (found_at c.in-At.is c.plain.ensures)
+returns c = plain_walked _ c.args.at _ (there c.stands.ensures c.if-not-stands.false) (not_there c.stands-2.ensures c.if-stands.false) c.in_ok-end.ensures
