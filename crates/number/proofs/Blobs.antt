@@ -1,19 +1,18 @@
 -- Bits and Blobs: the digits behind a mark, the choice between the marks, and what the padding tells. Assumes nothing.
-use mathlib.Core.Path.{◌≡◌, refl, subst, subst⁻¹}
-use mathlib.Core.Bool.{Bool, true, false, not}
+use mathlib.Core.Path.{◌≡◌, refl, sym, subst, subst⁻¹, ◌∙◌}
+use mathlib.Core.Bool.{Bool, true, false}
 use mathlib.Core.List.{List, [], ◌∷◌}
 use Prim.Native.Nat.{ℕ, suc, ◌+◌, ◌≤◌}
 use Prim.Native.String.{String}
 use native.Mathlib.Omega.{arith}
 use lib.Dec.{eqb}
 use lib.ListN.{length}
-use borrow.Author.Tests.{not-true, not-false}
 use Rattle.rules.specs.Test.{Says}
 use Rattle.rules.specs.Class.{just}
-use Rattle.rules.specs.Rule.{Rule, one, ◌then◌, ◌or◌, opt, row, lit, Takes, nothing, byte, both, left, right, Longest, Fails}
-use Rattle.rules.proofs.Classes.{apart, apart_span}
+use Rattle.rules.specs.Rule.{Rule, one, ◌then◌, ◌or◌, opt, row, lit, Takes, At, nothing, byte, both, left, right, Longest, Fails}
+use Rattle.rules.proofs.Classes.{apart, apart_span, is_just, just_is}
 use Rattle.rules.proofs.Matches.{starting, ending, forward, row_end, move_at}
-use Rattle.rules.proofs.Tests.{says_no, refuted, not_there}
+use Rattle.rules.proofs.Tests.{says_no, not_there}
 use Rattle.rules.proofs.Ways.{covers, covers_all}
 use Rattle.lexicon.specs.declared.Base.TheVariants.{Two, Eight, Sixteen}
 use Rattle.lexicon.specs.declared.Set.{Set}
@@ -24,7 +23,10 @@ use Rattle.lexicon.specs.Literals.{maybe, bits, blob}
 use Rattle.lexicon.specs.Values.{Digits, Behind, mark_alone, mark_digits}
 use Rattle.lexicon.specs.Parts.{size}
 use Rattle.lexicon.specs.Bad.{NoBytes}
-use Rattle.lexicon.specs.declared.Literal.TheVariants as Literal
+use Rattle.std.proofs.Common.{Option, Some, None, Bor}
+use Rattle.std.specs.Option.{option_copied}
+use Rattle.std.specs.Slice.{IsItemAt}
+use Rattle.text.proofs.Gets.{got, not_got}
 use Rattle.lexicon.specs.Found.{Judges}
 use Rattle.lexicon.proofs.Spaces.{skips_same, landed}
 use Rattle.lexicon.proofs.Groups.{Clear, digits_most, digits_at, digits_unit, digits_forward, to_row, of_row}
@@ -32,9 +34,7 @@ use Rattle.lexicon.proofs.Numbers.{clear, clear_base64}
 use Rattle.lexicon.proofs.Unfit.{state_says, binary_bytes, hexadecimal_bytes}
 use Rattle.lexicon.proofs.Paddings.{unfit}
 use Rattle.number.specs.Tally.{tally_of, tallies}
-use Rattle.number.specs.declared.groups.Groups.{Groups}
-use Rattle.number.specs.Groups.{Grouped}
-use Rattle.number.specs.Blob.{TailOf, digits_stand, none_stand}
+use Rattle.number.specs.Blob.{Marked, TailOf, digits_stand, none_stand}
 
 -- ---- the digits behind a mark
 
@@ -68,8 +68,8 @@ module _ (text : List ℕ) (ps : List ℕ) (r : Rule) where
       most : {k : ℕ} → Takes text (row ps then r) i k → k ≤ j
       most (both u v) = l.most (starting (row_end ps u) v)
 
-  pub no_mark_lem : {i k : ℕ} (o : Bool) → Says o (Takes text (row ps) i (i + length ps)) → o ≡ false → Takes text (row ps then r) i k → ⊥
-  no_mark_lem o s e (both u v) = refuted s e (ending (row_end ps u) u)
+  pub no_mark_lem : {i k : ℕ} → (Takes text (row ps) i (i + length ps) → ⊥) → Takes text (row ps then r) i k → ⊥
+  no_mark_lem n (both u v) = n (ending (row_end ps u) u)
 
 -- a literal of a mark
 abbrev part : ℕ → ℕ → ℕ → Set → Rule
@@ -127,37 +127,34 @@ module _ (text : List ℕ) where
 
 module _ (text : List ℕ) where
   -- a mark, byte by byte
-  pub mark_none_1 : (i b c : ℕ) (o : Bool) → Says o (Takes text (one (just 0x30)) i (i + 1)) → not o ≡ true → Says false (Takes text (row (0x30 ∷ b ∷ c ∷ [])) i (i + 3))
-  mark_none_1 i b c o s e = says_no (λ t. go t)
+  pub mark_none_1 : {i : ℕ} (b : ℕ) {o : Bool} → Says o (Takes text (one (just 0x30)) i (i + 1)) → o ≡ false → Marked text i b None
+  mark_none_1 {i} b s e c t = go t
     where
       go : Takes text (row (0x30 ∷ b ∷ c ∷ [])) i (i + 3) → ⊥
-      go (both (byte x f) t) = not_there s (not-true o e) x
+      go (both (byte x f) t) = not_there s e x
 
-  pub mark_none_2 : (i b c : ℕ) (o : Bool) → Says o (Takes text (one (just b)) (i + 1) (i + 1 + 1)) → not o ≡ true → Says false (Takes text (row (0x30 ∷ b ∷ c ∷ [])) i (i + 3))
-  mark_none_2 i b c o s e = says_no (λ t. go t)
+  pub mark_none_2 : {i : ℕ} (b : ℕ) {o : Bool} → Says o (Takes text (one (just b)) (i + 1) (i + 1 + 1)) → o ≡ false → Marked text i b None
+  mark_none_2 {i} b s e c t = go t
     where
       go : Takes text (row (0x30 ∷ b ∷ c ∷ [])) i (i + 3) → ⊥
-      go (both (byte x f) (both (byte y g) t)) = not_there s (not-true o e) (move_at text (just b) f y)
+      go (both (byte x f) (both (byte y g) t)) = not_there s e (move_at text (just b) f y)
 
-  pub mark_says : (i b c : ℕ) (p q o : Bool) → Says p (Takes text (one (just 0x30)) i (i + 1)) → not p ≡ false → Says q (Takes text (one (just b)) (i + 1) (i + 1 + 1)) → not q ≡ false → Says o (Takes text (one (just c)) (i + 2) (i + 2 + 1)) → Says o (Takes text (row (0x30 ∷ b ∷ c ∷ [])) i (i + 3))
-  mark_says i b c p q o s d t e u =
-      record {
-        true_holds = λ x. both (s.true_holds (not-false p d)) (both (t.true_holds (not-false q e)) (third (u.true_holds x)));
-        holds_true = λ r. go r;
-      }
-    where
-      third : Takes text (one (just c)) (i + 2) (i + 2 + 1) → Takes text (one (just c)) (i + 1 + 1) (i + 3)
-      third z = let m : i + 2 ≡ i + 1 + 1 = omega arith in let n : i + 2 + 1 ≡ i + 3 = omega arith in starting m (ending n z)
+  third_at : (i b c : ℕ) → Takes text (row (0x30 ∷ b ∷ c ∷ [])) i (i + 3) → At text (just c) (i + 2)
+  third_at i b c (both (byte x f) (both (byte y g) (byte {i = k} z h))) = let m : k ≡ i + 2 = omega arith in move_at text (just c) m z
 
-      go : Takes text (row (0x30 ∷ b ∷ c ∷ [])) i (i + 3) → o ≡ true
-      go (both (byte x f) (both (byte y g) (byte {i = k} z h))) =
-          let m : k ≡ i + 2 = omega arith in let n : i + 3 ≡ i + 2 + 1 = omega arith in u.holds_true (starting m (ending n (byte z h)))
+  pub mark_told : {i : ℕ} (b : ℕ) {p q : Bool} → Says p (Takes text (one (just 0x30)) i (i + 1)) → p ≡ true → Says q (Takes text (one (just b)) (i + 1) (i + 1 + 1)) → q ≡ true →
+      (r : Option (Bor ℕ)) → IsItemAt text (i + 2) r → Marked text i b (option_copied r)
+  mark_told {i} b s d t e None u = λ c v. let h = not_got text (i + 2) u in omega (arith, (third_at i b c v).0)
+  mark_told {i} b s d t e (Some x) u =
+      let g = got text (i + 2) x u in
+      let m : i + 2 ≡ i + 1 + 1 = omega arith in
+      both (s.true_holds d) (both (t.true_holds e) (starting m (byte (g.0, is_just x.now _ (sym g.1)) (omega arith))))
 
-  pub mark_within : (i b c : ℕ) (o : Bool) → Says o (Takes text (row (0x30 ∷ b ∷ c ∷ [])) i (i + 3)) → o ≡ true → i + 3 ≤ length text
-  mark_within i b c o s e = go (s.true_holds e)
-    where
-      go : Takes text (row (0x30 ∷ b ∷ c ∷ [])) i (i + 3) → i + 3 ≤ length text
-      go (both (byte x f) (both (byte y g) (byte z h))) = let a = z.0 in omega arith
+  pub mark_within : {i b c : ℕ} → Takes text (row (0x30 ∷ b ∷ c ∷ [])) i (i + 3) → i + 3 ≤ length text
+  mark_within {i} {b} {c} t = let a = (third_at i b c t).0 in omega arith
+
+  pub one_third : {i b c d : ℕ} → Takes text (row (0x30 ∷ b ∷ c ∷ [])) i (i + 3) → Takes text (row (0x30 ∷ b ∷ d ∷ [])) i (i + 3) → c ≡ d
+  one_third {i} {b} {c} {d} t u = sym (just_is c _ (third_at i b c t).1) ∙ just_is d _ (third_at i b d u).1
 
   -- ---- the literals
 
@@ -169,8 +166,8 @@ module _ (text : List ℕ) where
   whole b c m set cl t d = behind_mark_lem text (0x30 ∷ b ∷ c ∷ []) (maybe (suc m) (members set)) t (tail_longest text set m cl d)
 
   -- and none without it
-  lacks : (b c n : ℕ) (set : Set) {i : ℕ} (o : Bool) → Says o (Mark b c i) → o ≡ false → (k : ℕ) → Takes text (part b c n set) i k → ⊥
-  lacks b c n set o s e k t = no_mark_lem text (0x30 ∷ b ∷ c ∷ []) (maybe n (members set)) o s e t
+  lacks : (b c n : ℕ) (set : Set) {i : ℕ} → (Mark b c i → ⊥) → (k : ℕ) → Takes text (part b c n set) i k → ⊥
+  lacks b c n set m k t = no_mark_lem text (0x30 ∷ b ∷ c ∷ []) (maybe n (members set)) m t
 
   pub bits_binary : {i j s : ℕ} → Mark 0x62 0x62 i → TailOf text Binary 1 (i + 3) j s → Longest text bits i j
   unfolding covers apart apart_span
@@ -184,32 +181,24 @@ module _ (text : List ℕ) where
   unfolding covers apart apart_span
   bits_hexadecimal t d = third_of text (part 0x62 0x62 1 Binary) (part 0x62 0x6F 1 Octal) (part 0x62 0x78 1 Hexadecimal) refl refl (whole 0x62 0x78 0 Hexadecimal (clear Sixteen) t d)
 
-  pub blob_binary : {i j s : ℕ} → Mark 0x78 0x62 i → TailOf text Binary 8 (i + 3) j s → Judges text blob (NoBytes text) i (Literal.At j false)
+  pub blob_binary : {i j s : ℕ} → Mark 0x78 0x62 i → TailOf text Binary 8 (i + 3) j s → Judges text blob (NoBytes text) i (Some (record { end = j; bad = false }))
   unfolding covers apart apart_span
   blob_binary t d =
       (first_of text (part 0x78 0x62 8 Binary) (part 0x78 0x78 2 Hexadecimal) (part 0x78 0x79 4 Base64) refl refl (whole 0x78 0x62 7 Binary (clear Two) t d), says_no (λ n. binary_bytes (tail_behind text "0xb" 8 Binary t d).1 n))
 
-  pub blob_hexadecimal : {i j s : ℕ} → Mark 0x78 0x78 i → TailOf text Hexadecimal 2 (i + 3) j s → Judges text blob (NoBytes text) i (Literal.At j false)
+  pub blob_hexadecimal : {i j s : ℕ} → Mark 0x78 0x78 i → TailOf text Hexadecimal 2 (i + 3) j s → Judges text blob (NoBytes text) i (Some (record { end = j; bad = false }))
   unfolding covers apart apart_span
   blob_hexadecimal t d =
       (second_of text (part 0x78 0x62 8 Binary) (part 0x78 0x78 2 Hexadecimal) (part 0x78 0x79 4 Base64) refl refl (whole 0x78 0x78 1 Hexadecimal (clear Sixteen) t d), says_no (λ n. hexadecimal_bytes (tail_behind text "0xx" 2 Hexadecimal t d).1 n))
 
-  pub blob_base64 : {i j s : ℕ} → Mark 0x78 0x79 i → TailOf text Base64 4 (i + 3) j s → Judges text blob (NoBytes text) i (Literal.At j (eqb s unfit))
+  pub blob_base64 : {i j s : ℕ} → Mark 0x78 0x79 i → TailOf text Base64 4 (i + 3) j s → Judges text blob (NoBytes text) i (Some (record { end = j; bad = eqb s unfit }))
   unfolding covers apart apart_span
   blob_base64 t d =
       let x = tail_behind text "0xy" 4 Base64 t d in
       (third_of text (part 0x78 0x62 8 Binary) (part 0x78 0x78 2 Hexadecimal) (part 0x78 0x79 4 Base64) refl refl (whole 0x78 0x79 3 Base64 clear_base64 t d), judged text x.1 x.2)
 
-  pub bits_none : {i : ℕ} (o p q : Bool) → Says o (Mark 0x62 0x62 i) → o ≡ false → Says p (Mark 0x62 0x6F i) → p ≡ false → Says q (Mark 0x62 0x78 i) → q ≡ false → Fails text bits i
-  bits_none o p q s d t e u f = none_of text (part 0x62 0x62 1 Binary) (part 0x62 0x6F 1 Octal) (part 0x62 0x78 1 Hexadecimal) (lacks 0x62 0x62 1 Binary o s d) (lacks 0x62 0x6F 1 Octal p t e) (lacks 0x62 0x78 1 Hexadecimal q u f)
+  pub bits_none : {i : ℕ} → (Mark 0x62 0x62 i → ⊥) → (Mark 0x62 0x6F i → ⊥) → (Mark 0x62 0x78 i → ⊥) → Fails text bits i
+  bits_none s t u = none_of text (part 0x62 0x62 1 Binary) (part 0x62 0x6F 1 Octal) (part 0x62 0x78 1 Hexadecimal) (lacks 0x62 0x62 1 Binary s) (lacks 0x62 0x6F 1 Octal t) (lacks 0x62 0x78 1 Hexadecimal u)
 
-  pub blob_none : {i : ℕ} (o p q : Bool) → Says o (Mark 0x78 0x62 i) → o ≡ false → Says p (Mark 0x78 0x78 i) → p ≡ false → Says q (Mark 0x78 0x79 i) → q ≡ false → Fails text blob i
-  blob_none o p q s d t e u f = none_of text (part 0x78 0x62 8 Binary) (part 0x78 0x78 2 Hexadecimal) (part 0x78 0x79 4 Base64) (lacks 0x78 0x62 8 Binary o s d) (lacks 0x78 0x78 2 Hexadecimal p t e) (lacks 0x78 0x79 4 Base64 q u f)
-
-  -- ---- what the search for a row answered
-
-  pub tail_digits : {n i g j s : ℕ} (set : Set) (r : Groups) → Skips text i g → Grouped text set n g r → r ≡ Groups.At j s → TailOf text set n i j s
-  tail_digits {n} {g = g} set r k d e = digits_stand k (subst (λ (x : Groups). Grouped text set n g x) e d)
-
-  pub tail_none : {n i g : ℕ} (set : Set) (r : Groups) → Skips text i g → Grouped text set n g r → r ≡ Groups.Nothing → TailOf text set n i i 0
-  tail_none {n} {g = g} set r k d e = none_stand k (subst (λ (x : Groups). Grouped text set n g x) e d)
+  pub blob_none : {i : ℕ} → (Mark 0x78 0x62 i → ⊥) → (Mark 0x78 0x78 i → ⊥) → (Mark 0x78 0x79 i → ⊥) → Fails text blob i
+  blob_none s t u = none_of text (part 0x78 0x62 8 Binary) (part 0x78 0x78 2 Hexadecimal) (part 0x78 0x79 4 Base64) (lacks 0x78 0x62 8 Binary s) (lacks 0x78 0x78 2 Hexadecimal t) (lacks 0x78 0x79 4 Base64 u)

@@ -1,28 +1,29 @@
 -- The parts of a Fraction, by what their searches answered: exponent, power, significand, and the whole. Assumes nothing.
-use mathlib.Core.Path.{◌≡◌, refl, sym, ap, subst, subst⁻¹, ◌∙◌}
+use mathlib.Core.Path.{◌≡◌, refl, sym, subst, subst⁻¹, ◌∙◌}
 use mathlib.Core.Logic.{◌⊎◌, inl, inr, ⊎_elim}
-use mathlib.Core.Bool.{Bool, true, false, not, ◌||◌}
+use mathlib.Core.Bool.{Bool, true, false, ◌||◌}
 use mathlib.Core.List.{List}
 use Prim.Native.Nat.{ℕ, ◌+◌, ◌≤◌, ◌<◌}
 use native.Mathlib.Decide.{dec_le}
-use native.Mathlib.Nat.{le_antisymm, le_of_lt}
+use native.Mathlib.Nat.{le_antisymm}
 use native.Mathlib.Omega.{arith}
 use lib.Dec.{ltb}
-use lib.ListN.{length}
-use borrow.Author.Tests.{ltb-true, lt-ltb, eqb-true, eq-eqb, not-true}
+use lib.ListN.{length, get_or}
+use borrow.Author.Tests.{ltb-true, lt-ltb, eqb-true, eq-eqb}
 use Rattle.rules.specs.Test.{Says}
 use Rattle.rules.specs.Class.{just}
 use Rattle.rules.specs.Rule.{one, ◌then◌, opt, At, Takes, nothing, both, left, right, Longest, Fails}
 use Rattle.rules.proofs.Bools.{or_cases, or_left, or_right}
-use Rattle.rules.proofs.Matches.{starting, forward, inside, move_at, fails_first}
+use Rattle.rules.proofs.Classes.{is_just, just_is}
+use Rattle.rules.proofs.Matches.{starting, forward, move_at, fails_first}
 use Rattle.rules.proofs.Tests.{says_no, there, not_there}
 use Rattle.lexicon.specs.declared.Base.{Base}
-use Rattle.lexicon.specs.declared.Found as Answer
+use Rattle.std.proofs.Common.{Option, Some, None}
 use Rattle.lexicon.specs.declared.Literal.{Literal}
-use Rattle.lexicon.specs.Bytes.{digits, decimal, radix}
+use Rattle.lexicon.specs.Bytes.{digits, digit_set_of, decimal, radix}
 use Rattle.lexicon.specs.Space.{Skips}
 use Rattle.lexicon.specs.Found.{Finds, Judges}
-use Rattle.lexicon.specs.Literals.{integer, spaced, significand, power, fraction}
+use Rattle.lexicon.specs.Literals.{unit, integer, spaced, significand, power, fraction}
 use Rattle.lexicon.specs.Values.{Number, OfBase, value}
 use Rattle.lexicon.proofs.Spaces.{skips_same, Ahead, ahead_apart}
 use Rattle.lexicon.proofs.Groups.{digits_unit, digits_most}
@@ -31,12 +32,11 @@ use Rattle.lexicon.proofs.Numbers.{clear, numeral, numeral_at, number_same, valu
 use Rattle.lexicon.proofs.Integers.{of_integer, to_integer, decimal_blank}
 use Rattle.lexicon.proofs.Fractions.{Significand, pointed, divided, Symbol, of_spaced, to_spaced, symbol_ahead, symbol_from, stops, some, ends_same, ahead_most, of_significand, to_significand, significand_start, align_point, align_ratio, behind_symbol, significand_cut, point_apart, slash_apart, star_apart, point_slash}
 use Rattle.lexicon.proofs.Powers.{Found, no_caret, no_exponent, whole_exponent, no_star, no_radix, no_power, whole_power, radix_is, small_power, power_ahead}
-use Rattle.text.proofs.Searches.{fails_end}
-use Rattle.number.specs.declared.integer.Number as Numbers
-use Rattle.number.specs.Number.{IsNumber, NoNumber, Numbered, OfBase as OfBaseAnswer}
+use Rattle.number.specs.Groups.{Row}
+use Rattle.number.specs.Number.{IsNumber, NoNumber}
 use Rattle.lexicon.specs.Bad.{BadFraction}
 use Rattle.number.specs.Fraction.{PointDigits, NoDigits, Pointed, Denominator, NoDenominator, Divided, ZeroRatio, Behind}
-use Rattle.number.proofs.Integers.{some_number, number_found}
+use Rattle.number.proofs.Integers.{some_number}
 
 module _ (text : List ℕ) where
   -- ---- a symbol behind dividing space
@@ -44,26 +44,25 @@ module _ (text : List ℕ) where
   abbrev Byte : ℕ → ℕ → Type 0
   Byte b m = Takes text (one (just b)) m (m + 1)
 
-  pub found : (b i m p : ℕ) (o : Bool) → Skips text i m → Says o (Byte b m) → o ≡ true → Skips text (m + 1) p → Found text b i p
-  found b i m p o s t e r = record { place = m; skipped = s; stands = there t e; behind = r }
+  pub found : (b : ℕ) {i m p : ℕ} {o : Bool} → Skips text i m → Says o (Byte b m) → o ≡ true → Skips text (m + 1) p → Found text b i p
+  found b s t e r = record { place = _; skipped = s; stands = there t e; behind = r }
 
-  pub not_ahead : (b i m : ℕ) (o : Bool) → Skips text i m → Says o (Byte b m) → o ≡ false → Ahead text (just b) i → ⊥
-  not_ahead b i m o s t e a =
-      not_there t e (move_at text (just b) (skips_same a.skipped s) a.stands)
+  not_ahead : (b : ℕ) {i m : ℕ} → Skips text i m → (At text (just b) m → ⊥) → Ahead text (just b) i → ⊥
+  not_ahead b s n a = n (move_at text (just b) (skips_same a.skipped s) a.stands)
 
   -- ---- the exponent
 
-  pub exponent_answer : {i q : ℕ} → Found text 0x5E i q → (r : Answer.Found) → Finds text integer q r → Finds text exponent i r
-  exponent_answer f (Answer.TheVariants.At j) l = whole_exponent text f l
-  exponent_answer f Answer.TheVariants.Nothing h = no_exponent text f h
+  pub exponent_answer : {i q : ℕ} → Found text 0x5E i q → (r : Option ℕ) → Finds text integer q r → Finds text exponent i r
+  exponent_answer f (Some j) l = whole_exponent text f l
+  exponent_answer f None h = no_exponent text f h
 
-  pub exponent_none : (i m : ℕ) (o : Bool) → Skips text i m → Says o (Byte 0x5E m) → not o ≡ true → Fails text exponent i
-  exponent_none i m o s t e = no_caret text (not_ahead 0x5E i m o s t (not-true o e))
+  pub exponent_none : {i m : ℕ} {o : Bool} → Skips text i m → Says o (Byte 0x5E m) → o ≡ false → Fails text exponent i
+  exponent_none s t e = no_caret text (not_ahead 0x5E s (not_there t e))
 
   -- ---- the power
 
-  pub power_none : (i m : ℕ) (o : Bool) → Skips text i m → Says o (Byte 0x2A m) → not o ≡ true → Fails text power i
-  power_none i m o s t e = no_star text (not_ahead 0x2A i m o s t (not-true o e))
+  pub power_none : {i m : ℕ} {o : Bool} → Skips text i m → Says o (Byte 0x2A m) → o ≡ false → Fails text power i
+  power_none s t e = no_star text (not_ahead 0x2A s (not_there t e))
 
   pub power_no_radix : {i p : ℕ} → Found text 0x2A i p → NoNumber text p → Fails text power i
   power_no_radix f n = no_radix text f (λ k m. n.none m)
@@ -98,14 +97,14 @@ module _ (text : List ℕ) where
       abbrev this : SomeNumeral text g e
       this = some_number text n
 
-      pub significand_no_sign : (m : ℕ) (o p : Bool) → Skips text e m → Says o (Byte 0x2E m) → o ≡ false → Says p (Byte 0x2F m) → p ≡ false → Fails text significand i
-      significand_no_sign m o p s x d y f = record { none = λ t. go (number_of (of_significand text st t)) }
+      pub significand_no_sign : {m : ℕ} → Skips text e m → (At text (just 0x2E) m → ⊥) → (At text (just 0x2F) m → ⊥) → Fails text significand i
+      significand_no_sign s x y = record { none = λ t. go (number_of (of_significand text st t)) }
         where
           go : (f : ℕ) × SomeNumeral text g f × (Ahead text (just 0x2E) f ⊎ Ahead text (just 0x2F) f) → ⊥
           go (k, w, inl a) =
-              not_ahead 0x2E e m o s x d (subst (Ahead text (just 0x2E)) (le_antisymm (n.most w) (ahead_most text 0x2E point_apart w a this)) a)
+              not_ahead 0x2E s x (subst (Ahead text (just 0x2E)) (le_antisymm (n.most w) (ahead_most text 0x2E point_apart w a this)) a)
           go (k, w, inr a) =
-              not_ahead 0x2F e m p s y f (subst (Ahead text (just 0x2F)) (le_antisymm (n.most w) (ahead_most text 0x2F slash_apart w a this)) a)
+              not_ahead 0x2F s y (subst (Ahead text (just 0x2F)) (le_antisymm (n.most w) (ahead_most text 0x2F slash_apart w a this)) a)
 
       -- behind a point
       module _ {m : ℕ} (s : Skips text e m) (x : At text (just 0x2E) m) where
@@ -236,49 +235,29 @@ module _ (text : List ℕ) where
         go (zero_below r (right (nothing x))) = or_left z q (s.holds_true (zero_at (ends (ratio_takes r) x) r))
         go (small_radix_lem {j} u v) = or_right z q (t.holds_true (subst (λ (y : ℕ). SmallPower text y k) (power_end l u (small_takes v)) v))
 
-  -- the same by how `||` is taken
-  pub fraction_power_bad : {i e k : ℕ} {z q : Bool} → Longest text significand i e × Says z (ZeroRatio text i e) → Longest text power e k × Says q (SmallPower text e k) → z ≡ true → Longest text fraction i k × Says z (BadFraction text i k)
-  fraction_power_bad {i} {k = k} {z = z} {q = q} l p e =
-      let w = fraction_power l.0 l.1 p.0 p.1 in (w.0, subst (λ (x : Bool). Says x (BadFraction text i k)) (or_left z q e ∙ sym e) w.1)
-
-  pub fraction_power_good : {i e k : ℕ} {z q : Bool} → Longest text significand i e × Says z (ZeroRatio text i e) → Longest text power e k × Says q (SmallPower text e k) → z ≡ false → Longest text fraction i k × Says q (BadFraction text i k)
-  fraction_power_good {i} {k = k} {q = q} l p e =
-      let w = fraction_power l.0 l.1 p.0 p.1 in (w.0, subst (λ (x : Bool). Says x (BadFraction text i k)) (ap (λ (x : Bool). x || q) e) w.1)
-
-  pub fraction_beyond : (i : ℕ) → length text < i → Fails text fraction i
-  fraction_beyond i h = fails_end refl (le_of_lt h)
-
   pub fraction_none : {i : ℕ} → Fails text significand i → Fails text fraction i
   fraction_none f = fails_first f
 
   -- ---- what the searches answered
 
-  pub digits_missing : {b : Base} {i p : ℕ} (r : Numbers.Number) → Skips text i p → OfBaseAnswer text b p r → r ≡ Numbers.TheVariants.Nothing → NoDigits text b i
-  digits_missing {b} {p = p} r s d e = record { from = p; skipped = s; none = subst (λ (x : Numbers.Number). OfBaseAnswer text b p x) e d }
+  pub digits_missing : {b : Base} {i p : ℕ} → Skips text i p → Fails text (unit 1 (digits b)) p → NoDigits text b i
+  digits_missing {p = p} s f = record { from = p; skipped = s; none = f }
 
-  pub digits_found : {b c : Base} {i p j v : ℕ} (r : Numbers.Number) → Skips text i p → OfBaseAnswer text b p r → r ≡ Numbers.TheVariants.At c j v → PointDigits text b i j
-  digits_found {b} {p = p} {v = v} r s d e =
-      record { from = p; skipped = s; sum = v; row = (subst (λ (x : Numbers.Number). OfBaseAnswer text b p x) e d).1 }
+  pub digits_found : {b : Base} {i p j v : ℕ} → Skips text i p → Row text (digit_set_of b) 1 p j v → PointDigits text b i j
+  digits_found {p = p} {v = v} s r = record { from = p; skipped = s; sum = v; row = r }
 
-  pub point_answer : {b : Base} {i g e v m : ℕ} (o : Bool) → Start text i g → IsNumber text b g e v → Skips text e m → Says o (Byte 0x2E m) → o ≡ true → (r : Literal) → Pointed text b (m + 1) r → Judges text significand (ZeroRatio text) i r
-  point_answer {i = i} o st n s x y (Literal.At j z) d =
-      let w = point_whole st n s (there x y) d.1 in (w.0, subst⁻¹ (λ (q : Bool). Says q (ZeroRatio text i j)) d.0 w.1)
-  point_answer o st n s x y Literal.Nothing d = point_none st n s (there x y) d
+  pub point_answer : {b : Base} {i g e v m : ℕ} → Start text i g → IsNumber text b g e v → Skips text e m → At text (just 0x2E) m → (r : Option Literal) → Pointed text b (m + 1) r → Judges text significand (ZeroRatio text) i r
+  point_answer {i = i} st n s x (Some l) d =
+      let w = point_whole st n s x d.1 in (w.0, subst⁻¹ (λ (q : Bool). Says q (ZeroRatio text i l.end)) d.0 w.1)
+  point_answer st n s x None d = point_none st n s x d
 
-  pub ratio_answer : {b : Base} {i g e v m : ℕ} (o : Bool) → Start text i g → IsNumber text b g e v → Skips text e m → Says o (Byte 0x2F m) → o ≡ true → (r : Literal) → Divided text (m + 1) r → Judges text significand (ZeroRatio text) i r
-  ratio_answer o st n s x y (Literal.At j z) d = ratio_whole st n s (there x y) d
-  ratio_answer o st n s x y Literal.Nothing d = ratio_none st n s (there x y) d
+  pub ratio_answer : {b : Base} {i g e v m : ℕ} → Start text i g → IsNumber text b g e v → Skips text e m → At text (just 0x2F) m → (r : Option Literal) → Divided text (m + 1) r → Judges text significand (ZeroRatio text) i r
+  ratio_answer st n s x (Some l) d = ratio_whole st n s x d
+  ratio_answer st n s x None d = ratio_none st n s x d
 
-  pub significand_of : (b : Base) (i g e v : ℕ) (n : Numbers.Number) (r : Literal) → Start text i g → Numbered text g n → n ≡ Numbers.TheVariants.At b e v → Behind text b e r → Judges text significand (ZeroRatio text) i r
-  significand_of b i g e v n r st m q h = h.of st (number_found text b g e v n m q)
+  -- a sign that `get` lent
+  pub sign_is : (b : ℕ) {c m : ℕ} → (m < length text) × (c ≡ get_or text m 0) → c ≡ b → At text (just b) m
+  sign_is b g e = (g.0, is_just b _ (sym g.1 ∙ e))
 
-  -- ---- bounds
-
-  pub skip_within : {i m : ℕ} → Skips text i m → i ≤ length text → m ≤ length text
-  skip_within s h = inside s.takes h
-
-  pub sign_within : (b m : ℕ) (o : Bool) → Says o (Byte b m) → o ≡ true → m + 1 ≤ length text
-  sign_within b m o s e = let a = (there s e).0 in omega arith
-
-  pub number_within : {b : Base} {i j v : ℕ} → IsNumber text b i j v → i ≤ length text → j ≤ length text
-  number_within n h = inside (to_base text n.is) h
+  pub sign_is_not : (b : ℕ) {c m : ℕ} → c ≡ get_or text m 0 → (c ≡ b → ⊥) → At text (just b) m → ⊥
+  sign_is_not b e n a = n (e ∙ just_is b _ a.1)

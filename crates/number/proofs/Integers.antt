@@ -1,31 +1,16 @@
 -- The Integer's longest match, by its number's. Assumes nothing.
-use mathlib.Core.Path.{◌≡◌, refl, subst}
 use mathlib.Core.List.{List}
-use Prim.Native.Nat.{ℕ, ◌<◌}
-use native.Mathlib.Nat.{le_of_lt}
-use lib.ListN.{length}
+use Prim.Native.Nat.{ℕ}
 use Rattle.rules.specs.Rule.{Longest, Fails}
 use Rattle.lexicon.specs.declared.Base.{Base}
 use Rattle.lexicon.specs.Literals.{integer}
 use Rattle.lexicon.specs.Parts.{SomeNumeral, Start}
 use Rattle.lexicon.proofs.Integers.{of_integer, to_integer}
-use Rattle.text.proofs.Searches.{fails_end}
-use Rattle.number.specs.declared.integer.Number.{Number}
-use Rattle.number.specs.Number.{IsNumber, NoNumber, Numbered}
+use Rattle.number.specs.Number.{IsNumber, NoNumber}
 
 module _ (text : List ℕ) where
   abbrev pub some_number : {b : Base} {i j v : ℕ} → IsNumber text b i j v → SomeNumeral text i j
   some_number n = record { of = _; bytes = n.bytes; is = n.is }
-
-  -- what the search answered
-  pub number_found : (b : Base) (i j v : ℕ) (r : Number) → Numbered text i r → r ≡ Number.At b j v → IsNumber text b i j v
-  number_found b i j v r n e = subst (λ (x : Number). Numbered text i x) e n
-
-  pub number_missing : (i : ℕ) (r : Number) → Numbered text i r → r ≡ Number.Nothing → NoNumber text i
-  number_missing i r n e = subst (λ (x : Number). Numbered text i x) e n
-
-  pub integer_beyond : (i : ℕ) → length text < i → Fails text integer i
-  integer_beyond i h = fails_end refl (le_of_lt h)
 
   pub integer_longest : {b : Base} {i g j v : ℕ} → Start text i g → IsNumber text b g j v → Longest text integer i j
   integer_longest s n = record { takes = to_integer text s (some_number n); most = λ t. n.most (of_integer text s t) }

@@ -5,8 +5,8 @@ use mathlib.Core.List.{List}
 use Prim.Native.Nat.{ℕ, ◌+◌, ◌≤◌, ◌<◌, min}
 use native.Mathlib.Omega.{arith}
 use lib.ListN.{length, get_or}
-use Rattle.rules.specs.Class.{In, has}
-use Rattle.rules.specs.Rule.{Takes, Fails, opt}
+use Rattle.rules.specs.Class.{In, has, just}
+use Rattle.rules.specs.Rule.{Takes, Fails, At, opt}
 use Rattle.rules.proofs.Classes.{is_just, just_is, in_cons}
 use Rattle.rules.proofs.Matches.{forward, starting}
 use Rattle.lexicon.specs.declared.Base.{Base}
@@ -22,31 +22,30 @@ use Rattle.lexicon.proofs.Limits.{limited_value}
 use Rattle.lexicon.proofs.Spaces.{skips_same, landed}
 use Rattle.lexicon.proofs.Groups.{digits_most, digits_forward, digits_unit, digits_at}
 use Rattle.lexicon.proofs.Numbers.{clear, in_marks, bare_short, aligned, same_base}
-use Rattle.text.specs.declared.digit.Lettered.{Lettered}
+use Rattle.std.proofs.Common.{Option, Some, None}
+use Rattle.std.specs.Option.{MatchOption}
 use Rattle.text.specs.Letters.{Letters}
 use Rattle.number.specs.declared.integer.Number.{Number}
 use Rattle.number.specs.Tally.{tally_of, tallies}
-use Rattle.number.specs.declared.groups.Groups.{Groups}
-use Rattle.number.specs.Groups.{Row, Grouped}
+use Rattle.number.specs.Groups.{Row}
 use Rattle.number.specs.Number.{HasMark, NoMark, Marks, OfBase, IsNumber, NoNumber, NoMarked, MarkedNumber, Numbered}
 
 -- ---- the mark
 
 module _ (text : List ℕ) (i : ℕ) where
-  pub other_mark : (get_or text i 0 ≡ 0x30 → ⊥) → NoMark text i
-  other_mark f = record { none = λ m. f (just_is 0x30 (get_or text i 0) m.zero.1) }
+  pub no_mark : (At text (just 0x30) i → ⊥) → NoMark text i
+  no_mark f = record { none = λ m. f m.zero }
+
+  pub no_letter_behind : length text ≤ i + 1 → NoMark text i
+  no_letter_behind h = record { none = λ m. omega (arith, m.letter_is.0) }
 
   -- the letter behind `0` decides
-  pub letter_marks : (r : Lettered) → i + 1 < length text → get_or text i 0 ≡ 0x30 → Letters (get_or text (i + 1) 0) r → Marks text i r
-  letter_marks (Lettered.Of b) h z l =
-      record {
-        zero = (omega arith, is_just 0x30 (get_or text i 0) z);
-        letter_is = (h, is_just (letter b) (get_or text (i + 1) 0) l);
-      }
-  letter_marks Lettered.Nothing h z n = record { none = λ m. go m }
+  pub letter_marks : {c : ℕ} (r : Option Base) → At text (just 0x30) i → (i + 1 < length text) × (c ≡ get_or text (i + 1) 0) → Letters c r → Marks text i r
+  letter_marks (Some b) z g l = record { zero = z; letter_is = (g.0, is_just (letter b) (get_or text (i + 1) 0) (sym g.1 ∙ l)) }
+  letter_marks None z g n = record { none = λ m. go m }
     where
       go : {b : Base} → HasMark text b i → ⊥
-      go {b} m = n b (just_is (letter b) (get_or text (i + 1) 0) m.letter_is.1)
+      go {b} m = n b (g.1 ∙ just_is (letter b) (get_or text (i + 1) 0) m.letter_is.1)
 
 -- ---- the sum of a base's digits is its value, up to the limit
 
@@ -111,27 +110,22 @@ module _ (text : List ℕ) (i : ℕ) where
 
   -- ---- what the searches answered
 
-  pub mark_told : {r s : Lettered} → r ≡ s → Marks text i r → Marks text i s
-  mark_told e m = subst (λ (x : Lettered). Marks text i x) e m
-
   -- the digits behind the mark, or none
-  pub marked_answer : (b : Base) {g : ℕ} → HasMark text b i → Skips text (i + 2) g → (n : Number) → OfBase text b g n → MarkedNumber text i n
-  marked_answer b m s (Number.At c j v) d = subst (λ (x : Base). IsNumber text x i j v) (sym d.0) (marked_number b m s d.1)
-  marked_answer b m s Number.Nothing f = no_digits b m s f
+  pub marked_answer : (b : Base) {g : ℕ} → HasMark text b i → Skips text (i + 2) g → (n : Option Number) → OfBase text b g n → MarkedNumber text i n
+  marked_answer b m s (Some n) d = subst (λ (x : Base). IsNumber text x i n.end n.value) (sym d.0) (marked_number b m s d.1)
+  marked_answer b m s None f = no_digits b m s f
 
-  pub bare_answer : (m : Number) → MarkedNumber text i m → m ≡ Number.Nothing → (n : Number) → OfBase text Ten i n → Numbered text i n
-  bare_answer m f e (Number.At c j v) d =
-      subst (λ (x : Base). IsNumber text x i j v) (sym d.0) (bare_number (subst (λ (x : Number). MarkedNumber text i x) e f) d.1)
-  bare_answer m f e Number.Nothing g = no_number (subst (λ (x : Number). MarkedNumber text i x) e f) g
+  -- else decimal digits
+  pub number_answer : (m n : Option Number) → MarkedNumber text i m → MatchOption m (OfBase text Ten i n) (λ x. n ≡ Some x) → Numbered text i n
+  number_answer (Some m) n y e = rw e y
+  number_answer None (Some n) f d = subst (λ (x : Base). IsNumber text x i n.end n.value) (sym d.0) (bare_number f d.1)
+  number_answer None None f g = no_number f g
 
-  pub marked_stands : (b : Base) (j v : ℕ) (r : Number) → MarkedNumber text i r → r ≡ Number.At b j v → Numbered text i r
-  marked_stands b j v r m e = subst⁻¹ (λ (x : Number). Numbered text i x) e (subst (λ (x : Number). MarkedNumber text i x) e m)
+  pub row_found : (b : Base) {j v : ℕ} {s : Set} → s ≡ digit_set_of b → Row text s 1 i j v → Row text (digit_set_of b) 1 i j v
+  row_found b {j} {v} e r = subst (λ (x : Set). Row text x 1 i j v) e r
 
-  pub row_found : (b : Base) {j v : ℕ} (s : Set) (r : Groups) → s ≡ digit_set_of b → Grouped text s 1 i r → r ≡ Groups.At j v → Row text (digit_set_of b) 1 i j v
-  row_found b {j} {v} s r e g f = subst (λ (x : Set). Row text x 1 i j v) e (subst (λ (x : Groups). Grouped text s 1 i x) f g)
-
-  pub row_missing : (b : Base) (s : Set) (r : Groups) → s ≡ digit_set_of b → Grouped text s 1 i r → r ≡ Groups.Nothing → Fails text (unit 1 (digits b)) i
-  row_missing b s r e g f = subst (λ (x : Set). Fails text (unit 1 (members x)) i) e (subst (λ (x : Groups). Grouped text s 1 i x) f g)
+  pub row_missing : (b : Base) {s : Set} → s ≡ digit_set_of b → Fails text (unit 1 (members s)) i → Fails text (unit 1 (digits b)) i
+  row_missing b e f = subst (λ (x : Set). Fails text (unit 1 (members x)) i) e f
 
 -- ---- the sign
 
@@ -144,15 +138,11 @@ unfolding has
 minus_in = refl
 
 module _ (text : List ℕ) (i : ℕ) where
-  pub start_end : length text ≤ i → Start text i i
-  start_end h = unsigned (λ a. let x = a.0 in omega arith) refl
+  pub start_plus : {g : ℕ} → At text (just 0x2B) i → Skips text (i + 1) g → Start text i g
+  start_plus a s = behind (a.0, subst⁻¹ (In plus_minus) (just_is 0x2B _ a.1) plus_in) s
 
-  pub start_plus : (g : ℕ) → i < length text → get_or text i 0 ≡ 0x2B → Skips text (i + 1) g → Start text i g
-  start_plus g h b s = behind (h, subst (In plus_minus) (sym b) plus_in) s
+  pub start_minus : {g : ℕ} → At text (just 0x2D) i → Skips text (i + 1) g → Start text i g
+  start_minus a s = behind (a.0, subst⁻¹ (In plus_minus) (just_is 0x2D _ a.1) minus_in) s
 
-  pub start_minus : (g : ℕ) → i < length text → get_or text i 0 ≡ 0x2D → Skips text (i + 1) g → Start text i g
-  start_minus g h b s = behind (h, subst (In plus_minus) (sym b) minus_in) s
-
-  pub start_other : (get_or text i 0 ≡ 0x2B → ⊥) → (get_or text i 0 ≡ 0x2D → ⊥) → Start text i i
-  start_other f g =
-      unsigned (λ a. ⊎_elim (λ x. f (just_is 0x2B (get_or text i 0) x)) (λ x. g (just_is 0x2D (get_or text i 0) x)) (in_cons _ _ (get_or text i 0) a.1)) refl
+  pub start_other : (At text (just 0x2B) i → ⊥) → (At text (just 0x2D) i → ⊥) → Start text i i
+  start_other f g = unsigned (λ a. ⊎_elim (λ x. f (a.0, x)) (λ x. g (a.0, x)) (in_cons _ _ (get_or text i 0) a.1)) refl

@@ -4,9 +4,10 @@ use mathlib.Core.List.{List}
 use Prim.Native.Nat.{ℕ, ◌+◌, ◌-◌, ◌≤◌}
 use native.Mathlib.Nat.{add-zero}
 use native.Mathlib.Omega.{arith}
+use lib.ListN.{length}
 use Rattle.rules.specs.Rule.{many, opt, At, Takes, nothing, right, stop, more, Longest, Fails}
 use Rattle.rules.proofs.Chains.{snoc}
-use Rattle.rules.proofs.Matches.{forward, starting, move_at}
+use Rattle.rules.proofs.Matches.{forward, inside, starting, move_at}
 use Rattle.lexicon.specs.declared.Set.{Set}
 use Rattle.lexicon.specs.Bytes.{members}
 use Rattle.lexicon.specs.Literals.{unit, joint}
@@ -87,6 +88,14 @@ module _ (text : List ℕ) (set : Set) (n : ℕ) where
 
   pub no_units : (i j : ℕ) → 1 ≤ n → Units i j → j ≡ i → Fails text (unit n (members set)) i
   no_units i j h l e = subst (λ (k : ℕ). Fails text (unit n (members set)) k) e (units_end i j h l)
+
+  -- units lie within the text
+  pub units_within : {i j : ℕ} → 1 ≤ n → Units i j → (j ≡ i → ⊥) → j ≤ length text
+  units_within {i} {j} h l d = go l.takes
+    where
+      go : Chain i j → j ≤ length text
+      go (stop e) = absurd (d (sym e))
+      go (more u us) = let a = (unit_byte n (members set) i u 0 h).0 in inside us (inside u (omega arith))
 
   module _ (i j m s : ℕ) (h : 1 ≤ n) (d : OfDigits set) (r : Summed text set n i j s) (p : Longest text (opt joint) j m) where
     -- none behind the joint either

@@ -1,11 +1,16 @@
 -- What the search for the digits behind a mark answers. Assumes nothing.
-use Rattle.std.specs.Prelude.{List, ℕ}
-use Rattle.rules.specs.Rule.{Fails}
+use Rattle.std.specs.Prelude.{List, [], ◌∷◌, ℕ, ◌+◌, Option, Some, None}
+use Rattle.rules.specs.Rule.{row, Takes, Fails}
 use Rattle.lexicon.specs.declared.Set.{Set}
 use Rattle.lexicon.specs.Bytes.{members}
 use Rattle.lexicon.specs.Space.{Skips}
 use Rattle.lexicon.specs.Literals.{unit}
 use Rattle.number.specs.Groups.{Row}
+
+-- `0`, a letter and one more byte stand at i
+abbrev pub Marked : List ℕ → ℕ → ℕ → Option ℕ → Type 0
+Marked text i b (Some c) = Takes text (row (0x30 ∷ b ∷ c ∷ [])) i (i + 3)
+Marked text i b None = (c : ℕ) → Takes text (row (0x30 ∷ b ∷ c ∷ [])) i (i + 3) → ⊥
 
 -- the digits behind the dividing space at i end at j and have the sum s; or there are none
 pub data TailOf (text : List ℕ) (set : Set) (n i : ℕ) : ℕ → ℕ → Type 0 where

@@ -1,8 +1,7 @@
 -- What the searches for a Fraction, its parts, or else an Integer answer. Assumes nothing.
-use Rattle.std.specs.Prelude.{◌≡◌, Bool, false, List, ℕ, eqb}
+use Rattle.std.specs.Prelude.{◌≡◌, Bool, false, List, ℕ, eqb, Option, Some, None}
 use Rattle.rules.specs.Rule.{Takes, Fails, ◌then◌}
 use Rattle.lexicon.specs.declared.Base.{Base}
-use Rattle.lexicon.specs.declared.Found as Found
 use Rattle.lexicon.specs.declared.Literal.{Literal}
 use Rattle.lexicon.specs.Bytes.{digits, digit_set_of}
 use Rattle.lexicon.specs.Space.{Skips}
@@ -11,8 +10,8 @@ use Rattle.lexicon.specs.Literals.{unit, integer, spaced, significand, fraction}
 use Rattle.lexicon.specs.Values.{Number}
 use Rattle.lexicon.specs.Bad.{BadFraction}
 use Rattle.lexicon.specs.Parts.{Start}
-use Rattle.number.specs.declared.Numeral as Numeral
 use Rattle.number.specs.declared.Numeral.{Numeral}
+use Rattle.number.specs.declared.Numeral.TheVariants.{Integer, Fraction}
 use Rattle.number.specs.Groups.{Row}
 use Rattle.number.specs.Number.{IsNumber, NoNumber}
 
@@ -28,9 +27,9 @@ pub record NoDigits (text : List ℕ) (b : Base) (i : ℕ) : Type 0 where
   pub skipped : Skips text i from
   pub none : Fails text (unit 1 (digits b)) from
 
-abbrev pub Pointed : List ℕ → Base → ℕ → Literal → Type 0
-Pointed text b i (Literal.At j z) = (z ≡ false) × PointDigits text b i j
-Pointed text b i Literal.Nothing = NoDigits text b i
+abbrev pub Pointed : List ℕ → Base → ℕ → Option Literal → Type 0
+Pointed text b i (Some l) = (l.bad ≡ false) × PointDigits text b i l.end
+Pointed text b i None = NoDigits text b i
 
 -- the denominator behind a slash
 pub record Denominator (text : List ℕ) (i j : ℕ) (z : Bool) : Type 0 where
@@ -46,9 +45,9 @@ pub record NoDenominator (text : List ℕ) (i : ℕ) : Type 0 where
   pub skipped : Skips text i from
   pub none : NoNumber text from
 
-abbrev pub Divided : List ℕ → ℕ → Literal → Type 0
-Divided text i (Literal.At j z) = Denominator text i j z
-Divided text i Literal.Nothing = NoDenominator text i
+abbrev pub Divided : List ℕ → ℕ → Option Literal → Type 0
+Divided text i (Some l) = Denominator text i l.end l.bad
+Divided text i None = NoDenominator text i
 
 -- a significand with denominator 0
 pub record ZeroRatio (text : List ℕ) (i j : ℕ) : Type 0 where
@@ -57,12 +56,11 @@ pub record ZeroRatio (text : List ℕ) (i j : ℕ) : Type 0 where
   pub zero : Number text start j 0
 
 -- the longest significand of a number that has the base b and ends at e, wherever its sign or the number begins
-pub record Behind (text : List ℕ) (b : Base) (e : ℕ) (r : Literal) : Type 0 where
+pub record Behind (text : List ℕ) (b : Base) (e : ℕ) (r : Option Literal) : Type 0 where
   pub of : {i g v : ℕ} → Start text i g → IsNumber text b g e v → Judges text significand (ZeroRatio text) i r
 
 -- the literal that begins with a number at i: a Fraction if one stands there, else an Integer
-abbrev pub NumeralAt : List ℕ → ℕ → Numeral → Type 0
-NumeralAt text i (Numeral.TheVariants.Integer j) =
-    Fails text fraction i × Finds text integer i (Found.TheVariants.At j)
-NumeralAt text i (Numeral.TheVariants.Fraction j z) = Judges text fraction (BadFraction text) i (Literal.At j z)
-NumeralAt text i Numeral.TheVariants.Nothing = Fails text fraction i × Fails text integer i
+abbrev pub NumeralAt : List ℕ → ℕ → Option Numeral → Type 0
+NumeralAt text i (Some (Integer j)) = Fails text fraction i × Finds text integer i (Some j)
+NumeralAt text i (Some (Fraction l)) = Judges text fraction (BadFraction text) i (Some l)
+NumeralAt text i None = Fails text fraction i × Fails text integer i

@@ -1,12 +1,11 @@
 -- What the search for digit groups answers. Assumes nothing.
-use Rattle.std.specs.Prelude.{◌≡◌, List, ℕ}
+use Rattle.std.specs.Prelude.{◌≡◌, List, ℕ, Option, Some, None}
 use Rattle.rules.specs.Rule.{Fails}
 use Rattle.lexicon.specs.declared.Set.{Set}
 use Rattle.lexicon.specs.Bytes.{members}
 use Rattle.lexicon.specs.Literals.{unit}
 use Rattle.lexicon.specs.Values.{Digits}
 use Rattle.lexicon.specs.Parts.{size, Ended}
-use Rattle.number.specs.declared.groups.Groups as Groups
 use Rattle.number.specs.declared.groups.Groups.{Groups}
 use Rattle.number.specs.Tally.{tallies}
 
@@ -29,6 +28,6 @@ pub record Row (text : List ℕ) (set : Set) (n i j s : ℕ) : Type 0 where
   pub row : Summed text set n i j s
   pub ended : Ended text n (members set) j
 
-abbrev pub Grouped : List ℕ → Set → ℕ → ℕ → Groups → Type 0
-Grouped text set n i (Groups.TheVariants.At j s) = Row text set n i j s
-Grouped text set n i Groups.TheVariants.Nothing = Fails text (unit n (members set)) i
+abbrev pub Grouped : List ℕ → Set → ℕ → ℕ → Option Groups → Type 0
+Grouped text set n i (Some r) = Row text set n i r.end r.sum
+Grouped text set n i None = Fails text (unit n (members set)) i

@@ -1,17 +1,15 @@
 // Bits and Blobs: a mark of three bytes, and digits behind it if there are any.
-// A function with a `requires` is this crate's own: its place is within the text by its caller's search, so that sums of places fit.
-ghost use Rattle.std.specs.Prelude.{[], ◌∷◌, ◌+◌, ◌≤◌, length};
-ghost use Rattle.rules.specs.Test.{Says};
-ghost use Rattle.rules.specs.Rule.{Takes, row};
+// A function with a `requires` is this crate's own: its set is one of digits.
+ghost use Rattle.std.specs.Prelude.{◌≤◌};
 ghost use Rattle.lexicon.specs.Found.{Finds, Judges};
 ghost use Rattle.lexicon.specs.Literals.{bits as bits_of, blob as blob_of};
 ghost use Rattle.lexicon.specs.Bad.{NoBytes};
 ghost use Rattle.number.specs.Groups.{OfDigits};
-ghost use Rattle.number.specs.Blob.{TailOf};
+ghost use Rattle.number.specs.Blob.{Marked, TailOf};
 
 use crate::groups::{Groups, longest_row};
 use crate::padding::UNFIT;
-use lexicon::{Found, Literal, Set};
+use lexicon::{Literal, Set};
 use space::space;
 use text::byte::stands;
 
@@ -22,74 +20,59 @@ pub struct Tail {
     pub sum: u32,
 }
 
-// Whether `0` and two letters stand at a place.
-fn marked(text: &[u8], at: usize, second: u8, third: u8) -> bool
-    ensures { Says result (Takes text.now (row (0x30 ∷ second ∷ third ∷ [])) at (at + 3)) }
+// The third byte of a mark at a place: of `0`, this letter and one more.
+fn third(text: &[u8], at: usize, letter: u8) -> Option<u8>
+    ensures { Marked text.now at letter result }
 {
-    if !stands(text, at, b'0') {
-        return false;
+    if !stands(text, at, b'0') || !stands(text, at + 1, letter) {
+        return None;
     }
-    if !stands(text, at + 1, second) {
-        return false;
-    }
-    stands(text, at + 2, third)
+    text.get(at + 2).copied()
 }
 
 // The digits behind a mark. Dividing space that leads to none is not taken.
 fn tail_at(text: &[u8], at: usize, set: Set, width: usize) -> Tail
-    requires { (at ≤ length text.now) × (1 ≤ width) × OfDigits set }
+    requires { (1 ≤ width) × OfDigits set }
     ensures { TailOf text.now set width at result.end result.sum }
 {
-    let from = space(text, at);
-    let Groups::At { end, sum } = longest_row(text, from, set, width) else {
-        return Tail { end: at, sum: 0 };
-    };
-    Tail { end, sum }
+    match longest_row(text, space(text, at), set, width) {
+        Some(Groups { end, sum }) => Tail { end, sum },
+        None => Tail { end: at, sum: 0 },
+    }
 }
 
 // The Bits literal at a place.
-pub fn bits(text: &[u8], at: usize) -> Found
+pub fn bits(text: &[u8], at: usize) -> Option<usize>
     ensures { Finds text.now bits_of at result }
 {
-    if marked(text, at, b'b', b'b') {
-        let found = tail_at(text, at + 3, Set::Binary, 1);
-        return Found::At(found.end);
+    match third(text, at, b'b')? {
+        b'b' => Some(tail_at(text, at + 3, Set::Binary, 1).end),
+        b'o' => Some(tail_at(text, at + 3, Set::Octal, 1).end),
+        b'x' => Some(tail_at(text, at + 3, Set::Hexadecimal, 1).end),
+        _ => None,
     }
-    if marked(text, at, b'b', b'o') {
-        let found = tail_at(text, at + 3, Set::Octal, 1);
-        return Found::At(found.end);
-    }
-    if marked(text, at, b'b', b'x') {
-        let found = tail_at(text, at + 3, Set::Hexadecimal, 1);
-        return Found::At(found.end);
-    }
-    Found::Nothing
 }
 
 // The Blob literal at a place; one that has no bytes is bad, which only one in base 64 can be.
-pub fn blob(text: &[u8], at: usize) -> Literal
+pub fn blob(text: &[u8], at: usize) -> Option<Literal>
     ensures { Judges text.now blob_of (NoBytes text.now) at result }
 {
-    if marked(text, at, b'x', b'b') {
-        let found = tail_at(text, at + 3, Set::Binary, 8);
-        return Literal::At {
-            end: found.end,
+    match third(text, at, b'x')? {
+        b'b' => Some(Literal {
+            end: tail_at(text, at + 3, Set::Binary, 8).end,
             bad: false,
-        };
-    }
-    if marked(text, at, b'x', b'x') {
-        let found = tail_at(text, at + 3, Set::Hexadecimal, 2);
-        return Literal::At {
-            end: found.end,
+        }),
+        b'x' => Some(Literal {
+            end: tail_at(text, at + 3, Set::Hexadecimal, 2).end,
             bad: false,
-        };
+        }),
+        b'y' => {
+            let Tail { end, sum } = tail_at(text, at + 3, Set::Base64, 4);
+            Some(Literal {
+                end,
+                bad: sum == UNFIT,
+            })
+        }
+        _ => None,
     }
-    if marked(text, at, b'x', b'y') {
-        let found = tail_at(text, at + 3, Set::Base64, 4);
-        return Literal::At {
-            end: found.end,
-            bad: found.sum == UNFIT,
-        };
-    }
-    Literal::Nothing
 }

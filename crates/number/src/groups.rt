@@ -1,7 +1,6 @@
 // Digit groups: units of so many bytes of a set, side by side or joined by one `_` or one stretch of dividing space.
-// A function with a `requires` is this crate's own: its place is within the text by its caller's search, so that sums of places fit;
-// the table that it is lent is the classes', made by its caller.
-ghost use Rattle.std.specs.Prelude.{◌≤◌, length};
+// A function with a `requires` is this crate's own: the table that it is lent is the classes', made by its caller.
+ghost use Rattle.std.specs.Prelude.{◌≤◌};
 ghost use Rattle.rules.specs.Rule.{one, many, Longest};
 ghost use Rattle.lexicon.specs.Bytes.{members};
 ghost use Rattle.lexicon.specs.Literals.{unit};
@@ -16,14 +15,14 @@ use text::digit::radix;
 
 // The end of the longest row of groups and the sum over its digits.
 #[derive(Drop)]
-pub enum Groups {
-    At { end: usize, sum: u32 },
-    Nothing,
+pub struct Groups {
+    pub end: usize,
+    pub sum: u32,
 }
 
 // Where the bytes of the set that stand side by side end.
 fn run(text: &[u8], at: usize, set: Set, classes: &[u8; 256]) -> usize
-    requires { (at ≤ length text.now) × IsTable classes.now }
+    requires { IsTable classes.now }
     ensures { Longest text.now (many (one (members set))) at result }
 {
     let mut i = at;
@@ -39,7 +38,7 @@ fn run(text: &[u8], at: usize, set: Set, classes: &[u8; 256]) -> usize
 
 // Where the units that stand side by side end: bytes that make no whole unit are left.
 fn units(text: &[u8], at: usize, set: Set, width: usize, classes: &[u8; 256]) -> usize
-    requires { (at ≤ length text.now) × (1 ≤ width) × IsTable classes.now }
+    requires { (1 ≤ width) × IsTable classes.now }
     ensures { Longest text.now (many (unit width (members set))) at result }
 {
     let end = run(text, at, set, classes);
@@ -51,26 +50,26 @@ fn units(text: &[u8], at: usize, set: Set, width: usize, classes: &[u8; 256]) ->
 }
 
 // The longest row of units from a place. The table of classes is made once, for all of them.
-pub(crate) fn longest_row(text: &[u8], at: usize, set: Set, width: usize) -> Groups
-    requires { (at ≤ length text.now) × (1 ≤ width) × OfDigits set }
+pub(crate) fn longest_row(text: &[u8], at: usize, set: Set, width: usize) -> Option<Groups>
+    requires { (1 ≤ width) × OfDigits set }
     ensures { Grouped text.now set width at result }
 {
     let radix = radix(set);
     let classes = classes();
     let mut end = units(text, at, set, width, &classes);
     if end == at {
-        return Groups::Nothing;
+        return None;
     }
     let mut sum = tally_run(text, at, end - at, radix, 0);
     loop {
         let next = joint(text, end);
         // Without a joint the row ends here: no unit stands behind the last.
         if next == end {
-            return Groups::At { end, sum };
+            return Some(Groups { end, sum });
         }
         let stop = units(text, next, set, width, &classes);
         if stop == next {
-            return Groups::At { end, sum };
+            return Some(Groups { end, sum });
         }
         sum = tally_run(text, next, stop - next, radix, sum);
         end = stop;

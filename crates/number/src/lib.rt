@@ -8,10 +8,11 @@ pub mod integer;
 mod padding;
 mod tally;
 
-// The literal that begins with a number: a Fraction, with its end and whether its value is bad, or else an Integer, with its end.
+use lexicon::Literal;
+
+// The literal that begins with a number: a Fraction, or else an Integer, with its end.
 #[derive(Drop)]
 pub enum Numeral {
     Integer(usize),
-    Fraction { end: usize, bad: bool },
-    Nothing,
+    Fraction(Literal),
 }

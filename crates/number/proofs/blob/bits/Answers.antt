@@ -1,35 +1,30 @@
 -- `number::blob::bits` meets its contract. Assumes nothing.
 use native.Mathlib.Omega.{arith}
 use Rattle.number.specs.Groups.{OfDigits}
-use Rattle.number.proofs.Blobs.{mark_within, bits_binary, bits_octal, bits_hexadecimal, bits_none}
+use Rattle.number.proofs.Blobs.{mark_within, one_third, bits_binary, bits_octal, bits_hexadecimal, bits_none}
 use Rattle.number.proofs.blob.bits.Goals as goal
 
-pub overflow_add-at : goal.overflow_add-at
-overflow_add-at c = omega (arith, mark_within _ _ _ _ c.marked.result c.marked.ensures c.if-marked.true, c.well_formed.0.0)
+pub returns-in_err-third : goal.returns-in_err-third
+returns-in_err-third c = let n = c.in_err-third.ensures in rw c.from_residual.ensures (bits_none _ (n 0x62) (n 0x6F) (n 0x78))
 
-pub tail_at-found-requires : goal.tail_at-found-requires
-tail_at-found-requires c = (mark_within _ _ _ _ c.marked.result c.marked.ensures c.if-marked.true, omega arith, OfDigits.binary)
+pub tail_at-requires : goal.tail_at-requires
+tail_at-requires c = (omega arith, OfDigits.binary)
 
-pub returns-then-marked : goal.returns-then-marked
-returns-then-marked c = bits_binary _ (c.marked.ensures.true_holds c.if-marked.true) c.tail_at-found.ensures
+pub tail_at-requires-in-111 : goal.tail_at-requires-in-111
+tail_at-requires-in-111 c = (omega arith, OfDigits.octal)
 
-pub overflow_add-at-then-marked-2 : goal.overflow_add-at-then-marked-2
-overflow_add-at-then-marked-2 c = omega (arith, mark_within _ _ _ _ c.marked-2.result c.marked-2.ensures c.if-marked-2.true, c.well_formed.0.0)
+pub tail_at-requires-in-120 : goal.tail_at-requires-in-120
+tail_at-requires-in-120 c = (omega arith, OfDigits.hexadecimal)
 
-pub tail_at-found-requires-then-marked-2 : goal.tail_at-found-requires-then-marked-2
-tail_at-found-requires-then-marked-2 c = (mark_within _ _ _ _ c.marked-2.result c.marked-2.ensures c.if-marked-2.true, omega arith, OfDigits.octal)
+pub returns-in-98 : goal.returns-in-98
+returns-in-98 c = bits_binary _ (rw c.in-98.is at c.in_ok-third.ensures) c.tail_at.ensures
 
-pub returns-then-marked-2 : goal.returns-then-marked-2
-returns-then-marked-2 c = bits_octal _ (c.marked-2.ensures.true_holds c.if-marked-2.true) c.tail_at-found-then-marked-2.ensures
+pub returns-in-111 : goal.returns-in-111
+returns-in-111 c = bits_octal _ (rw c.in-111.is at c.in_ok-third.ensures) c.tail_at-in-111.ensures
 
-pub overflow_add-at-then-marked-3 : goal.overflow_add-at-then-marked-3
-overflow_add-at-then-marked-3 c = omega (arith, mark_within _ _ _ _ c.marked-3.result c.marked-3.ensures c.if-marked-3.true, c.well_formed.0.0)
+pub returns-in-120 : goal.returns-in-120
+returns-in-120 c = bits_hexadecimal _ (rw c.in-120.is at c.in_ok-third.ensures) c.tail_at-in-120.ensures
 
-pub tail_at-found-requires-then-marked-3 : goal.tail_at-found-requires-then-marked-3
-tail_at-found-requires-then-marked-3 c = (mark_within _ _ _ _ c.marked-3.result c.marked-3.ensures c.if-marked-3.true, omega arith, OfDigits.hexadecimal)
-
-pub returns-then-marked-3 : goal.returns-then-marked-3
-returns-then-marked-3 c = bits_hexadecimal _ (c.marked-3.ensures.true_holds c.if-marked-3.true) c.tail_at-found-then-marked-3.ensures
-
-pub returns : goal.returns
-returns c = bits_none _ c.marked.result c.marked-2.result c.marked-3.result c.marked.ensures c.if-marked.false c.marked-2.ensures c.if-marked-2.false c.marked-3.ensures c.if-marked-3.false
+pub returns-in_default : goal.returns-in_default
+returns-in_default c = let m = c.in_ok-third.ensures in
+    bits_none _ (λ t. omega (arith, one_third _ m t)) (λ t. omega (arith, one_third _ m t)) (λ t. omega (arith, one_third _ m t))

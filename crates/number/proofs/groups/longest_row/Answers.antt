@@ -3,7 +3,7 @@ use Prim.Native.Nat.{◌≤◌}
 use native.Mathlib.Omega.{arith}
 use lib.ListN.{length}
 use Rattle.rules.proofs.Matches.{forward, inside}
-use Rattle.number.proofs.Rows.{no_units, first_units, later_units, units_end, row_unjoined, row_joined}
+use Rattle.number.proofs.Rows.{no_units, first_units, later_units, units_end, units_within, row_unjoined, row_joined}
 use borrow.Author.Rules.{rules}
 use Rattle.number.proofs.groups.longest_row.Goals as goal
 
@@ -14,16 +14,13 @@ pub overflow_sub-end : goal.overflow_sub-end
 overflow_sub-end c = forward c.units-end.ensures.takes
 
 pub tally_run-sum-requires : goal.tally_run-sum-requires
-tally_run-sum-requires c = omega (arith, forward c.units-end.ensures.takes, inside c.units-end.ensures.takes (search rules))
+tally_run-sum-requires c = omega (arith, forward c.units-end.ensures.takes, units_within _ _ _ (search rules) c.units-end.ensures c.if-end-at.false)
 
 pub loop-end-init : goal.loop-end-init
-loop-end-init c = (inside c.units-end.ensures.takes (search rules), search (first_units, rules), search (units_end, rules))
+loop-end-init c = (units_within _ _ _ (search rules) c.units-end.ensures c.if-end-at.false, search (first_units, rules), search (units_end, rules))
 
 pub returns-then-next-end : goal.returns-then-next-end
 returns-then-next-end c = search (row_unjoined, rules)
-
-pub units-stop-requires : goal.units-stop-requires
-units-stop-requires c = (omega (arith, inside c.joint-next.ensures.takes (search rules)), search rules, search rules)
 
 pub returns-then-stop-next : goal.returns-then-stop-next
 returns-then-stop-next c = search (row_joined, rules)

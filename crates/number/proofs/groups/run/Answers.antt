@@ -12,20 +12,20 @@ use borrow.Author.Rules.{rules}
 use Rattle.number.proofs.groups.run.Goals as goal
 
 pub loop-i-init : goal.loop-i-init
-loop-i-init c = (search rules, stop refl)
+loop-i-init c = stop refl
 
 pub overflow_cast-b : goal.overflow_cast-b
 overflow_cast-b c = omega (arith, c.type_inv.text c.loop-i.i)
 
 pub returns-then-not-holds : goal.returns-then-not-holds
 returns-then-not-holds c =
-    let told : c.holds.result ≡ has (members c.args.set) (get_or c.args.text.now c.loop-i.i 0) = in_table c.args.set c.requires.1 (c.type_inv.text c.loop-i.i).fits c.holds.ensures in
-    run_other _ _ _ _ c.holds.result c.loop-i.invariant.1 told (ap not c.if-not-holds.true)
+    let told : c.holds.result ≡ has (members c.args.set) (get_or c.args.text.now c.loop-i.i 0) = in_table c.args.set c.requires (c.type_inv.text c.loop-i.i).fits c.holds.ensures in
+    run_other _ _ _ _ c.holds.result c.loop-i.invariant told (ap not c.if-not-holds.true)
 
 pub loop-i-preserved : goal.loop-i-preserved
 loop-i-preserved c =
-    let told : c.holds.result ≡ has (members c.args.set) (get_or c.args.text.now c.loop-i.i 0) = in_table c.args.set c.requires.1 (c.type_inv.text c.loop-i.i).fits c.holds.ensures in
-    (search rules, run_next _ _ _ _ c.holds.result c.loop-i.invariant.1 (search rules) told (ap not c.if-not-holds.false))
+    let told : c.holds.result ≡ has (members c.args.set) (get_or c.args.text.now c.loop-i.i 0) = in_table c.args.set c.requires (c.type_inv.text c.loop-i.i).fits c.holds.ensures in
+    run_next _ _ _ _ c.holds.result c.loop-i.invariant (search rules) told (ap not c.if-not-holds.false)
 
 pub returns : goal.returns
 returns c = search (run_all, rules)

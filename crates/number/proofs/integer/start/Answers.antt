@@ -1,17 +1,17 @@
 -- `number::integer::start` meets its contract. Assumes nothing.
-use Rattle.number.proofs.Marks.{start_end, start_plus, start_minus, start_other}
-use Rattle.rules.proofs.Matches.{inside}
-use borrow.Author.Rules.{rules}
+use native.Mathlib.Omega.{arith}
+use Rattle.rules.proofs.Tests.{there, not_there}
+use Rattle.number.proofs.Marks.{start_plus, start_minus, start_other}
 use Rattle.number.proofs.integer.start.Goals as goal
+use Rattle.number.proofs.integer.start.Goals.{then-stands-via-then-stands, then-stands-via-else-stands+then-stands-2}
 
-pub returns-then-at-text : goal.returns-then-at-text
-returns-then-at-text c = (search (start_end, rules), search rules)
+pub overflow_add-at : goal.overflow_add-at
+overflow_add-at c =
+    elim c.then-stands.branch [ then-stands-via-then-stands w ↦ omega (arith, (there c.stands.ensures w.if-stands.true).0) | then-stands-via-else-stands+then-stands-2 w ↦ omega (arith, (there w.stands-else-stands.ensures w.if-stands-2.true).0) ]
 
-pub returns-then-text-at-eq43 : goal.returns-then-text-at-eq43
-returns-then-text-at-eq43 c = (search (start_plus, rules), inside c.space.ensures.takes (search rules))
-
-pub returns-then-text-at-eq45 : goal.returns-then-text-at-eq45
-returns-then-text-at-eq45 c = (search (start_minus, rules), inside c.space-then-text-at-eq45.ensures.takes (search rules))
+pub returns-then-stands : goal.returns-then-stands
+returns-then-stands c =
+    elim c.then-stands.branch [ then-stands-via-then-stands w ↦ start_plus _ c.args.at (there c.stands.ensures w.if-stands.true) c.space.ensures | then-stands-via-else-stands+then-stands-2 w ↦ start_minus _ c.args.at (there w.stands-else-stands.ensures w.if-stands-2.true) c.space.ensures ]
 
 pub returns : goal.returns
-returns c = (search (start_other, rules), search rules)
+returns c = start_other _ c.args.at (not_there c.stands.ensures c.if-stands.false) (not_there c.stands-else-stands.ensures c.if-stands-2.false)
