@@ -1,6 +1,18 @@
 -- A piece that is refused: what the steps of a call found is its answer. Assumes nothing.
-use Rattle.std.proofs.Common.{◌≡◌, ℕ, ◌≤◌, List, length, subst}
-use Rattle.std.specs.Prelude.{Result, Ok, Err}
+use Rattle.std.proofs.Common.{◌≡◌, ℕ, ◌≤◌, List, length}
+use mathlib.Core.Path.{subst⁻¹}
+use native.Mathlib.Nat.{le_antisymm}
+use native.Mathlib.Omega.{arith}
+use borrow.Author.Tests.{eqb-true, eq-eqb}
+use lib.Dec.{eqb}
+use Rattle.std.specs.Option.{option_eq}
+use Rattle.rules.specs.Test.{Says}
+use Rattle.rules.specs.Rule.{Rule}
+use Rattle.rules.proofs.Matches.{inside, ending}
+use Rattle.rules.proofs.Tests.{says_no}
+use Rattle.lexicon.specs.Found.{Finds}
+use Rattle.values.specs.Exactly.{Exactly}
+use Rattle.std.specs.Prelude.{Option, Some, None, Result, Ok, Err, IsErrAnd}
 use Rattle.lexicon.specs.declared.NotUtf8.{NotUtf8}
 use Rattle.lexicon.specs.Utf8.{WellFormed, Encoded}
 use Rattle.lexicon.proofs.Answers.{encoded_as}
@@ -12,19 +24,22 @@ use Rattle.values.specs.Bytes.{Call}
 use Rattle.values.specs.Bytes as Bytes
 use Rattle.values.specs.Integer.{refusal, IntegerAnswers}
 use Rattle.values.specs.Integer as Integer
-use Rattle.piece.specs.Sounds.{Unsound, too_long, not_utf8, Sounds}
-use Rattle.piece.specs.Fits.{Unfit, not_the_literal, bad, Refuses, Fits}
+use Rattle.piece.specs.Sounds.{Unsound, too_long, not_utf8}
+use Rattle.piece.specs.Fits.{Unfit, not_the_literal, bad, Refuses, Fits, Judges}
 
 -- by the answer of the UTF-8 test
 pub not_utf8_by : {rules : Rules} {piece : List ℕ} {r : Result (Unit {0}) NotUtf8} {b : NotUtf8} → length piece ≤ rules.text →
     Encoded piece r → r ≡ Err b → Unsound rules piece (record { refusal = Refusal.NotUtf8; place = b.at })
 not_utf8_by {piece = piece} h u e = not_utf8 h (encoded_as piece e u)
 
-pub sounds_as : (rules : Rules) (piece : List ℕ) {r s : Result (Unit {0}) Refused} → r ≡ s → Sounds rules piece r → Sounds rules piece s
-sounds_as rules piece e x = subst (λ (y : Result (Unit {0}) Refused). Sounds rules piece y) e x
-
-pub fits_as : {Fit : Type 0} (call : Call) (piece : List ℕ) (Is : Fit → Type 0) {r s : Result Fit Refused} → r ≡ s → Fits call piece Is r → Fits call piece Is s
-fits_as {Fit} call piece Is e x = subst (λ (y : Result Fit Refused). Fits call piece Is y) e x
+-- whether a literal that was looked for at the front is all of the piece
+pub whole : {piece : List ℕ} {literal : Rule} (f : Option ℕ) → Finds piece literal 0 f → Says (option_eq eqb f (Some (length piece))) (Exactly literal piece)
+whole {piece} (Some j) l =
+    record {
+      true_holds = λ e. ending (eqb-true j (length piece) e) l.takes;
+      holds_true = λ t. eq-eqb j (length piece) (le_antisymm (inside l.takes (omega arith)) (l.most t));
+    }
+whole None f = says_no (λ t. f.none t)
 
 -- ---- the answer of each call
 
@@ -40,3 +55,14 @@ module _ {rules : Rules} {piece : List ℕ} where
   pub unfit_bytes : {call : Call} {r : Refused} → length piece ≤ rules.text → WellFormed piece → Unfit call piece r → Refuses call piece rules r
   unfit_bytes h w (not_the_literal n) lent = Bytes.not_the_literal h w n
   unfit_bytes h w (bad x b) lent = Bytes.bad h w x b
+
+-- a sound piece that is found to fit or not is so judged
+pub fits_judges : {Fit : Type 0} (call : Call) {piece : List ℕ} (Is : Fit → Type 0) (rules : Rules) (r : Result Fit Refused) →
+    (length piece ≤ rules.text) × WellFormed piece → Fits call piece Is r → Judges call piece Is rules r
+fits_judges call Is rules (Ok x) s f = (f, s.0, s.1)
+fits_judges call Is rules (Err r) s u = unfit_bytes s.0 s.1 u
+
+pub judged_unsound : {Fit : Type 0} (call : Call) {piece : List ℕ} (Is : Fit → Type 0) (rules : Rules) (r : Result Fit Refused) {x : Refused} →
+    Unsound rules piece x → IsErrAnd r (λ y. y ≡ x) → Judges call piece Is rules r
+judged_unsound call {piece} Is rules (Ok v) u e = absurd e
+judged_unsound call {piece} Is rules (Err y) u e = subst⁻¹ (λ (z : Refused). Refuses call piece rules z) e (unsound_bytes u)
