@@ -1,7 +1,6 @@
 // The call itself: the refusals in their order, then the value.
 // A function with a `requires` is this crate's own: its caller has tested the piece. `integer`, the public one, has none.
 ghost use Rattle.std.specs.Prelude.{cond, pos, neg_ℤ, SomeIff};
-ghost use Rattle.rules.specs.Test.{Says};
 ghost use Rattle.reading.specs.Sizes.{base as rules};
 ghost use Rattle.lexicon.specs.Literals.{integer as integer_of};
 ghost use Rattle.values.specs.Exactly.{Exactly};
@@ -13,13 +12,6 @@ use crate::parts::{mark, sign};
 use piece::{NOT_THE_LITERAL, sound};
 use reading::{Refusal, Refused};
 use values::IntegerAnswer;
-
-// Whether the piece is exactly one Integer literal.
-fn exactly(piece: &[u8]) -> bool
-    ensures { Says result (Exactly integer_of piece.now) }
-{
-    number::integer::integer(piece, 0) == Some(piece.len())
-}
 
 // The integer by sign and size, if it is within.
 fn signed(minus: bool, size: u64) -> Option<i64>
@@ -47,7 +39,7 @@ fn value(piece: &[u8]) -> Result<i64, Refused>
     ensures { Judged piece.now rules result }
 {
     sound(piece)?;
-    if !exactly(piece) {
+    if number::integer::integer(piece, 0) != Some(piece.len()) {
         return Err(NOT_THE_LITERAL);
     }
     literal(piece).ok_or(Refused {

@@ -1,15 +1,16 @@
 -- A piece that is refused: what the steps of a call found is its answer. Assumes nothing.
 use Rattle.std.proofs.Common.{◌≡◌, ℕ, ◌≤◌, List, length}
-use mathlib.Core.Path.{subst⁻¹}
+use mathlib.Core.Path.{sym, subst⁻¹, ◌∙◌}
+use mathlib.Core.Bool.{Bool, true, false, not}
 use native.Mathlib.Nat.{le_antisymm}
 use native.Mathlib.Omega.{arith}
-use borrow.Author.Tests.{eqb-true, eq-eqb}
+use borrow.Author.Tests.{eqb-true, eq-eqb, not-true, not-false}
 use lib.Dec.{eqb}
 use Rattle.std.specs.Option.{option_eq}
 use Rattle.rules.specs.Test.{Says}
 use Rattle.rules.specs.Rule.{Rule}
 use Rattle.rules.proofs.Matches.{inside, ending}
-use Rattle.rules.proofs.Tests.{says_no}
+use Rattle.rules.proofs.Tests.{says_no, refuted}
 use Rattle.lexicon.specs.Found.{Finds}
 use Rattle.values.specs.Exactly.{Exactly}
 use Rattle.std.specs.Prelude.{Option, Some, None, Result, Ok, Err, IsErrAnd}
@@ -32,14 +33,22 @@ pub not_utf8_by : {rules : Rules} {piece : List ℕ} {r : Result (Unit {0}) NotU
     Encoded piece r → r ≡ Err b → Unsound rules piece (record { refusal = Refusal.NotUtf8; place = b.at })
 not_utf8_by {piece = piece} h u e = not_utf8 h (encoded_as piece e u)
 
--- whether a literal that was looked for at the front is all of the piece
-pub whole : {piece : List ℕ} {literal : Rule} (f : Option ℕ) → Finds piece literal 0 f → Says (option_eq eqb f (Some (length piece))) (Exactly literal piece)
-whole {piece} (Some j) l =
-    record {
-      true_holds = λ e. ending (eqb-true j (length piece) e) l.takes;
-      holds_true = λ t. eq-eqb j (length piece) (le_antisymm (inside l.takes (omega arith)) (l.most t));
-    }
-whole None f = says_no (λ t. f.none t)
+-- whether a literal that was looked for at the front is all of the piece, by the test that says no
+module _ {piece : List ℕ} {literal : Rule} where
+  whole : (f : Option ℕ) → Finds piece literal 0 f → Says (option_eq eqb f (Some (length piece))) (Exactly literal piece)
+  whole (Some j) l =
+      record {
+        true_holds = λ e. ending (eqb-true j (length piece) e) l.takes;
+        holds_true = λ t. eq-eqb j (length piece) (le_antisymm (inside l.takes (omega arith)) (l.most t));
+      }
+  whole None f = says_no (λ t. f.none t)
+
+  module _ (f : Option ℕ) {o : Bool} (l : Finds piece literal 0 f) (e : o ≡ not (option_eq eqb f (Some (length piece)))) where
+    pub is_whole : o ≡ false → Exactly literal piece
+    is_whole n = (whole f l).true_holds (not-false _ (sym e ∙ n))
+
+    pub not_whole : o ≡ true → Exactly literal piece → ⊥
+    not_whole n = refuted (whole f l) (not-true _ (sym e ∙ n))
 
 -- ---- the answer of each call
 
