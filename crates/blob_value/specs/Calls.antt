@@ -10,7 +10,6 @@ use Rattle.values.specs.Bits.{bits_call}
 use Rattle.blob_value.specs.declared.Kind.{Kind}
 use Rattle.blob_value.specs.declared.mark.Mark.{Mark}
 use Rattle.blob_value.specs.declared.mark.Mark.TheVariants.{BlobBase64}
-use Rattle.blob_value.specs.declared.value.Verdict.{Verdict}
 use Rattle.blob_value.specs.Marks.{kind_of}
 use Rattle.blob_value.specs.Spread.{Whole, Has}
 
@@ -32,7 +31,7 @@ pub record Padded (piece : List ℕ) (mark : Mark) (n : ℕ) : Type 0 where
   pub base64_is : mark ≡ BlobBase64 → (ds bs : List ℕ) → Behind piece "0xy" 4 base64 0 (length piece) ds →
       (e : Encodes ds bs) → e.padding ≡ n
 
-pub data Judged (kind : Kind) (piece : List ℕ) : Verdict → Type 0 where
-  other : (Exactly (call_of kind).literal piece → ⊥) → Judged kind piece Verdict.Other
-  bad : Exactly (call_of kind).literal piece → BadPiece (call_of kind) piece 0 → Judged kind piece Verdict.Bad
-  good : {mark : Mark} → kind_of mark ≡ kind → Sound piece mark → Judged kind piece (Verdict.Good mark)
+-- the piece is sound for its mark, which is one of the kind
+pub record Marked (kind : Kind) (piece : List ℕ) (mark : Mark) : Type 0 where
+  pub of_kind : kind_of mark ≡ kind
+  pub sound : Sound piece mark

@@ -16,59 +16,50 @@ pub enum Mark {
     BitsHexadecimal,
 }
 
-// How many digits make a unit.
-pub(crate) fn unit(mark: Mark) -> usize
-    ensures { result ≡ unit_of mark }
-{
-    match mark {
-        Mark::BlobBinary => 8,
-        Mark::BlobHexadecimal => 2,
-        Mark::BlobBase64 => 4,
-        Mark::BitsBinary => 1,
-        Mark::BitsOctal => 1,
-        Mark::BitsHexadecimal => 1,
+impl Mark {
+    // How many digits make a unit.
+    pub(crate) fn unit(self) -> usize
+        ensures { result ≡ unit_of self }
+    {
+        match self {
+            Mark::BlobBinary => 8,
+            Mark::BlobHexadecimal => 2,
+            Mark::BlobBase64 => 4,
+            Mark::BitsBinary | Mark::BitsOctal | Mark::BitsHexadecimal => 1,
+        }
     }
-}
 
-// How many bytes a unit fills.
-pub(crate) fn bytes(mark: Mark) -> usize
-    ensures { result ≡ bytes_of mark }
-{
-    match mark {
-        Mark::BlobBinary => 1,
-        Mark::BlobHexadecimal => 1,
-        Mark::BlobBase64 => 3,
-        Mark::BitsBinary => 1,
-        Mark::BitsOctal => 3,
-        Mark::BitsHexadecimal => 4,
+    // How many bytes a unit fills.
+    pub(crate) fn bytes(self) -> usize
+        ensures { result ≡ bytes_of self }
+    {
+        match self {
+            Mark::BlobBinary | Mark::BlobHexadecimal | Mark::BitsBinary => 1,
+            Mark::BlobBase64 | Mark::BitsOctal => 3,
+            Mark::BitsHexadecimal => 4,
+        }
     }
-}
 
-// How many values a digit has.
-pub(crate) fn radix(mark: Mark) -> u64
-    ensures { result ≡ 2 ^ width_of mark }
-{
-    match mark {
-        Mark::BlobBinary => 2,
-        Mark::BlobHexadecimal => 16,
-        Mark::BlobBase64 => 64,
-        Mark::BitsBinary => 2,
-        Mark::BitsOctal => 8,
-        Mark::BitsHexadecimal => 16,
+    // How many values a digit has.
+    pub(crate) fn radix(self) -> u64
+        ensures { result ≡ 2 ^ width_of self }
+    {
+        match self {
+            Mark::BlobBinary | Mark::BitsBinary => 2,
+            Mark::BitsOctal => 8,
+            Mark::BlobHexadecimal | Mark::BitsHexadecimal => 16,
+            Mark::BlobBase64 => 64,
+        }
     }
-}
 
-// Whose literals they are: a byte of the buffer holds eight bits of a Blob, or one of Bits.
-pub(crate) fn kind(mark: Mark) -> Kind
-    ensures { result ≡ kind_of mark }
-{
-    match mark {
-        Mark::BlobBinary => Kind::Blob,
-        Mark::BlobHexadecimal => Kind::Blob,
-        Mark::BlobBase64 => Kind::Blob,
-        Mark::BitsBinary => Kind::Bits,
-        Mark::BitsOctal => Kind::Bits,
-        Mark::BitsHexadecimal => Kind::Bits,
+    // Whose literals they are: a byte of the buffer holds eight bits of a Blob, or one of Bits.
+    pub(crate) fn kind(self) -> Kind
+        ensures { result ≡ kind_of self }
+    {
+        match self {
+            Mark::BlobBinary | Mark::BlobHexadecimal | Mark::BlobBase64 => Kind::Blob,
+            Mark::BitsBinary | Mark::BitsOctal | Mark::BitsHexadecimal => Kind::Bits,
+        }
     }
 }
 
@@ -82,7 +73,7 @@ pub(crate) fn digit_value(radix: u64, b: u8) -> u64
     if b == b'=' {
         return 0;
     }
-    sextet(b as u32) as u64
+    u64::from(sextet(u32::from(b)))
 }
 
 // The bits of a number that a byte of the buffer holds, with so many such bytes behind it.

@@ -8,7 +8,7 @@ ghost use Rattle.blob_value.specs.Marks.{size_of};
 ghost use Rattle.blob_value.specs.Spread.{with_digit, parts, Small, HasUnits, Counts, Units, Has, Spreads};
 
 use crate::Kind;
-use crate::mark::{Mark, bytes, digit_value, kind, part, radix, unit};
+use crate::mark::{Mark, digit_value, part};
 use buffer::Writer;
 use space::joint::joint;
 
@@ -56,12 +56,13 @@ pub(crate) fn units(piece: &[u8], at: usize, mark: Mark, out: &mut Writer)
     requires { Has (Units piece.now mark at) }
     ensures { Spreads mark (Units piece.now mark at) out.old out.new }
 {
-    let width = unit(mark);
-    let radix = radix(mark);
-    let filled = bytes(mark);
+    let width = mark.unit();
+    let radix = mark.radix();
+    let filled = mark.bytes();
+    let kind = mark.kind();
     let mut i = at;
     loop {
-        spread(number(piece, i, width, radix), filled, kind(mark), out);
+        spread(number(piece, i, width, radix), filled, kind, out);
         i += width;
         if i == piece.len() {
             return;

@@ -1,91 +1,62 @@
 // The calls themselves: the refusals in their order, then the value.
 // A function with a `requires` is this crate's own: its caller has tested the piece. `blob` and `bits`, the public ones, have none.
-ghost use Rattle.std.specs.Prelude.{◌≡◌, ◌≤◌, length};
+ghost use Rattle.std.specs.Prelude.{◌≤◌, length};
 ghost use Rattle.lexicon.specs.Utf8.{WellFormed};
-ghost use Rattle.reading.specs.Answers.{answer};
 ghost use Rattle.reading.specs.Sizes.{base as rules, widest};
 ghost use Rattle.values.specs.Bytes.{BytesAnswers};
-ghost use Rattle.values.specs.Blob.{BlobAnswers};
-ghost use Rattle.values.specs.Bits.{BitsAnswers};
+ghost use Rattle.values.specs.Blob.{blob_call, BlobAnswers};
+ghost use Rattle.values.specs.Bits.{bits_call, BitsAnswers};
+ghost use Rattle.piece.specs.Fits.{Judges};
 ghost use Rattle.blob_value.specs.declared.Kind.TheVariants as Kinds;
 ghost use Rattle.blob_value.specs.Marks.{kind_of};
 ghost use Rattle.blob_value.specs.Spread.{Whole, Has, Measured, Spread};
-ghost use Rattle.blob_value.specs.Calls.{call_of, Sound, Judged, Padded};
+ghost use Rattle.blob_value.specs.Calls.{call_of, Sound, Marked, Padded};
 
-use crate::Kind;
-use crate::mark::{Mark, bytes, unit};
+use crate::mark::Mark;
 use crate::spread::{count, units};
 use buffer::Writer;
-use lexicon::{Encoding, Found, Literal};
-use reading::{Answer, TEXT};
+use lexicon::Literal;
+use piece::{NOT_THE_LITERAL, sound};
+use reading::{Answer, Refusal, Refused};
 use space::space;
 use text::byte::stands;
-use utf8::utf8;
 
-// What a piece is: no literal of the kind, a bad one, or one with a mark.
-#[derive(Drop)]
-enum Verdict {
-    Other,
-    Bad,
-    Good(Mark),
-}
-
-const LONGEST: usize = TEXT;
-
-fn refused(number: u32, place: usize) -> Answer
-    ensures { result ≡ answer number place 0 }
+// The mark of a Blob literal that has bytes, or the first refusal. The byte behind `0x` tells the base.
+fn judge_blob(piece: &[u8]) -> Result<Mark, Refused>
+    ensures { Judges blob_call piece.now (Marked Kinds.Blob piece.now) rules result }
 {
-    Answer {
-        number,
-        place,
-        count: 0,
-    }
-}
-
-// The byte behind `0x` tells the base.
-fn judge_blob(piece: &[u8]) -> Verdict
-    ensures { Judged Kinds.Blob piece.now result }
-{
-    let Literal::At { end, bad } = number::blob::blob(piece, 0) else {
-        return Verdict::Other;
+    sound(piece)?;
+    let Some(Literal { end, bad }) = number::blob::blob(piece, 0) else {
+        return Err(NOT_THE_LITERAL);
     };
     if end != piece.len() {
-        return Verdict::Other;
+        return Err(NOT_THE_LITERAL);
     }
     if bad {
-        return Verdict::Bad;
+        return Err(Refused {
+            refusal: Refusal::BadValue,
+            place: 0,
+        });
     }
     match piece[2] {
-        b'b' => Verdict::Good(Mark::BlobBinary),
-        b'x' => Verdict::Good(Mark::BlobHexadecimal),
-        _ => Verdict::Good(Mark::BlobBase64),
+        b'b' => Ok(Mark::BlobBinary),
+        b'x' => Ok(Mark::BlobHexadecimal),
+        _ => Ok(Mark::BlobBase64),
     }
 }
 
-// The byte behind `0b` tells the base.
-fn judge_bits(piece: &[u8]) -> Verdict
-    ensures { Judged Kinds.Bits piece.now result }
+// The mark of a Bits literal, or the first refusal. The byte behind `0b` tells the base.
+fn judge_bits(piece: &[u8]) -> Result<Mark, Refused>
+    ensures { Judges bits_call piece.now (Marked Kinds.Bits piece.now) rules result }
 {
-    let Found::At(end) = number::blob::bits(piece, 0) else {
-        return Verdict::Other;
-    };
-    if end != piece.len() {
-        return Verdict::Other;
+    sound(piece)?;
+    if number::blob::bits(piece, 0) != Some(piece.len()) {
+        return Err(NOT_THE_LITERAL);
     }
     match piece[2] {
-        b'b' => Verdict::Good(Mark::BitsBinary),
-        b'o' => Verdict::Good(Mark::BitsOctal),
-        _ => Verdict::Good(Mark::BitsHexadecimal),
-    }
-}
-
-// Whether the piece is exactly one literal of the kind, by which mark, and whether its value is bad.
-fn judge(kind: Kind, piece: &[u8]) -> Verdict
-    ensures { Judged kind piece.now result }
-{
-    match kind {
-        Kind::Blob => judge_blob(piece),
-        Kind::Bits => judge_bits(piece),
+        b'b' => Ok(Mark::BitsBinary),
+        b'o' => Ok(Mark::BitsOctal),
+        _ => Ok(Mark::BitsHexadecimal),
     }
 }
 
@@ -98,7 +69,7 @@ fn measured(piece: &[u8], mark: Mark) -> usize
         return 0;
     }
     let start = space(piece, 3);
-    count(piece, start, unit(mark)) * bytes(mark)
+    count(piece, start, mark.unit()) * mark.bytes()
 }
 
 // These bytes from the start of the buffer on.
@@ -140,52 +111,29 @@ fn fitting(piece: &[u8], mark: Mark, buffer: &mut [u8]) -> Answer
 {
     let needed = measured(piece, mark) - padding(piece, mark);
     if buffer.len() < needed {
-        return Answer {
-            number: 8,
-            place: piece.len(),
-            count: needed,
-        };
+        return Answer::no_room(piece.len(), needed);
     }
     // No byte beyond those needed fits in this part: what a `=` stands for is not written.
     write(piece, mark, &mut buffer[..needed]);
-    Answer {
-        number: 0,
-        place: piece.len(),
-        count: needed,
-    }
+    Answer::accepted(piece.len(), needed)
 }
 
-// The bytes of a piece that is exactly one literal of the kind, from the start of the buffer.
-fn value(kind: Kind, piece: &[u8], buffer: &mut [u8]) -> Answer
-    ensures { BytesAnswers (call_of kind) rules piece.now buffer.old result buffer.new }
-{
-    if piece.len() > LONGEST {
-        return refused(2, 0);
-    }
-    let encoding = utf8(piece);
-    match encoding {
-        Encoding::BadAt(place) => refused(3, place),
-        Encoding::WellFormed => {
-            let verdict = judge(kind, piece);
-            match verdict {
-                Verdict::Other => refused(9, 0),
-                Verdict::Bad => refused(5, 0),
-                Verdict::Good(mark) => fitting(piece, mark, buffer),
-            }
-        }
-    }
-}
-
-// The bytes of a piece that is exactly one Blob literal.
+// The bytes of a piece that is exactly one Blob literal, from the start of the buffer.
 pub fn blob(piece: &[u8], buffer: &mut [u8]) -> Answer
     ensures { BlobAnswers rules piece.now buffer.old result buffer.new }
 {
-    value(Kind::Blob, piece, buffer)
+    match judge_blob(piece) {
+        Ok(mark) => fitting(piece, mark, buffer),
+        Err(refused) => refused.into(),
+    }
 }
 
-// The bits of a piece that is exactly one Bits literal, a byte each, 0 or 1.
+// The bits of a piece that is exactly one Bits literal, a byte each, 0 or 1, from the start of the buffer.
 pub fn bits(piece: &[u8], buffer: &mut [u8]) -> Answer
     ensures { BitsAnswers rules piece.now buffer.old result buffer.new }
 {
-    value(Kind::Bits, piece, buffer)
+    match judge_bits(piece) {
+        Ok(mark) => fitting(piece, mark, buffer),
+        Err(refused) => refused.into(),
+    }
 }

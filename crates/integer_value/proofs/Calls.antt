@@ -1,95 +1,55 @@
--- The answers, by what was found. Assumes nothing.
-use mathlib.Core.Path.{◌≡◌, sym, subst}
-use mathlib.Core.Bool.{Bool, false, cond}
+-- The integer of a literal, and the answers, by what was found. Assumes nothing.
+use mathlib.Core.Path.{◌≡◌, subst, subst⁻¹}
+use mathlib.Core.Bool.{Bool, true, false, cond}
 use mathlib.Core.List.{List}
-use Prim.Native.Nat.{ℕ, ◌≤◌, ◌<◌, ◌^◌}
-use native.Mathlib.Nat.{le_antisymm}
+use Prim.Native.Nat.{ℕ, zero, suc, ◌≤◌, ◌<◌, ◌^◌}
 use native.Mathlib.Omega.{arith}
-use borrow.Author.Tests.{eqb-true, eq-eqb}
-use lib.Dec.{eqb}
-use lib.IntN.{pos, neg_ℤ}
+use lib.IntN.{ℤ, pos, neg_ℤ}
 use lib.ListN.{length}
-use Rattle.rules.specs.Test.{Says}
-use Rattle.rules.specs.Rule.{Longest, Fails}
-use Rattle.rules.proofs.Matches.{inside, ending}
-use Rattle.rules.proofs.Tests.{says_no}
+use Rattle.std.specs.Prelude.{Option, Some, None, Result, Ok, Err, SomeIff, IsErrAnd}
+use Rattle.std.specs.Option.{ok_or}
 use Rattle.lexicon.specs.declared.Base.{Base}
-use Rattle.lexicon.specs.declared.Encoding.{Encoding}
-use Rattle.lexicon.specs.Bytes.{radix}
 use Rattle.lexicon.specs.Literals.{integer}
-use Rattle.lexicon.specs.Utf8.{WellFormed, Encoded}
-use Rattle.lexicon.specs.Values.{value}
-use Rattle.lexicon.proofs.Answers.{encoded_as}
+use Rattle.lexicon.specs.Utf8.{WellFormed}
+use Rattle.reading.specs.declared.Refusal.{Refusal}
+use Rattle.reading.specs.declared.Refused.{Refused}
 use Rattle.reading.specs.Sizes.{base}
-use Rattle.values.specs.declared.IntegerAnswer.{IntegerAnswer}
-use Rattle.integer_value.specs.declared.digits.Size.{Size}
 use Rattle.values.specs.Exactly.{Exactly}
-use Rattle.values.specs.Integer.{refusal, IntegerAnswers, too_long, not_utf8, not_integer, outside, accepted}
-use Rattle.integer_value.specs.Parts as Parts
-use Rattle.integer_value.specs.Parts.{SignOf, MarkOf, Counted, Total, SignedOf, Valued}
-use Rattle.integer_value.proofs.Numbers.{size_outside}
+use Rattle.values.specs.Integer.{Within, not_integer, outside, accepted}
+use Rattle.piece.specs.Sounds.{Unsound}
+use Rattle.piece.proofs.Refused.{unsound_integer}
+use Rattle.integer_value.specs.Parts.{SignOf, MarkOf, Total, Valued, Judged}
 use Rattle.integer_value.proofs.Starts.{integer_of}
 
+-- a size beyond 64 bits is outside with either sign
+size_outside : (minus : Bool) (n : ℕ) → (n < 2 ^ 64 → ⊥) → Within (cond minus (neg_ℤ (pos n)) (pos n)) → ⊥
+size_outside true zero h w = h (omega arith)
+size_outside true (suc n) h w = h (omega arith)
+size_outside false n h w = h (omega arith)
+
 module _ (piece : List ℕ) where
-  -- ---- exactly one literal
+  module _ {b : Base} {s g : ℕ} {minus : Bool} (n : SignOf piece minus g) (m : MarkOf piece g b s) where
+    pub valued_none : Total piece b s None → Valued piece None
+    valued_none t = record { integer = _; integer_of = integer_of piece n m t.digits_are; within = size_outside minus _ t.counted }
 
-  pub exactly_none : Fails piece integer 0 → Says false (Exactly integer piece)
-  exactly_none f = says_no (λ t. f.none t)
-
-  pub exactly_at : {j : ℕ} → Longest piece integer 0 j → Says (eqb j (length piece)) (Exactly integer piece)
-  exactly_at {j} l =
-      record {
-        true_holds = λ e. ending (eqb-true j (length piece) e) l.takes;
-        holds_true = λ t. eq-eqb j (length piece) (le_antisymm (inside l.takes (omega arith)) (l.most t));
-      }
-
-  -- ---- the literal's value
-
-  module _ {b : Base} {s : ℕ} (r : Size) (t : Total piece b s r) where
-    pub total_fits : (v : ℕ) → r ≡ Size.Of v → v ≤ 2 ^ 63
-    total_fits v e = let c = subst (λ (x : Size). Counted (value (radix b) t.bytes) x) e t.counted in omega arith
-
-    module _ {minus : Bool} {g : ℕ} (n : SignOf piece minus g) (m : MarkOf piece g b s) (a : IntegerAnswer) where
-      pub valued_beyond : r ≡ Size.Beyond → a ≡ refusal 10 0 → Valued piece a
-      valued_beyond e f =
-          record {
-            integer = _;
-            integer_of = integer_of piece n m t.digits_are;
-            signed =
-                subst (λ (x : IntegerAnswer). SignedOf (length piece) (cond minus (neg_ℤ (pos (value (radix b) t.bytes))) (pos (value (radix b) t.bytes))) x) (sym f)
-                (Parts.outside (size_outside minus _ (subst (λ (x : Size). Counted (value (radix b) t.bytes) x) e t.counted)));
-          }
-
-      pub valued_of : (v : ℕ) → r ≡ Size.Of v → SignedOf (length piece) (cond minus (neg_ℤ (pos v)) (pos v)) a → Valued piece a
-      valued_of v e f =
-          let c = subst (λ (x : Size). Counted (value (radix b) t.bytes) x) e t.counted in
-          record {
-            integer = _;
-            integer_of = integer_of piece n m t.digits_are;
-            signed = subst (λ (x : ℕ). SignedOf (length piece) (cond minus (neg_ℤ (pos x)) (pos x)) a) c.0 f;
-          }
+    pub valued_some : {v : ℕ} {r : Option ℤ} → Total piece b s (Some v) → SomeIff r (Within (cond minus (neg_ℤ (pos v)) (pos v))) (cond minus (neg_ℤ (pos v)) (pos v)) → Valued piece r
+    valued_some {r = r} t k =
+        record {
+          integer = _;
+          integer_of = integer_of piece n m t.digits_are;
+          within = subst (λ (x : ℕ). SomeIff r (Within (cond minus (neg_ℤ (pos x)) (pos x))) (cond minus (neg_ℤ (pos x)) (pos x))) t.counted.1 k;
+        }
 
   -- ---- the answers in their order
 
-  abbrev Answered : IntegerAnswer → Type 0
-  Answered a = IntegerAnswers base piece a
+  pub judged_unsound : (r : Result ℤ Refused) {x : Refused} → Unsound base piece x → IsErrAnd r (λ y. y ≡ x) → Judged piece base r
+  judged_unsound (Ok z) u e = absurd e
+  judged_unsound (Err y) u e = subst⁻¹ (λ (x : Refused). Judged piece base (Err x)) e (unsound_integer u)
 
-  pub too_long_lem : {a : IntegerAnswer} → base.text < length piece → a ≡ refusal 2 0 → Answered a
-  too_long_lem h e = subst Answered (sym e) (too_long h)
+  module _ (s : (length piece ≤ base.text) × WellFormed piece) where
+    pub judged_other : (Exactly integer piece → ⊥) → Judged piece base (Err (record { refusal = Refusal.NotTheLiteral; place = 0 }))
+    judged_other n = not_integer s.0 s.1 n
 
-  well_formed_lem : (r : Encoding) → Encoded piece r → r ≡ Encoding.WellFormed → WellFormed piece
-  well_formed_lem r u e = encoded_as piece e u
-
-  module _ {a : IntegerAnswer} (h : length piece ≤ base.text) (r : Encoding) (u : Encoded piece r) where
-    pub not_utf8_lem : {p : ℕ} → r ≡ Encoding.BadAt p → a ≡ refusal 3 p → Answered a
-    not_utf8_lem e f = subst Answered (sym f) (not_utf8 h (encoded_as piece e u))
-
-    pub not_integer_lem : r ≡ Encoding.WellFormed → (Exactly integer piece → ⊥) → a ≡ refusal 9 0 → Answered a
-    not_integer_lem e n f = subst Answered (sym f) (not_integer h (well_formed_lem r u e) n)
-
-    pub of_literal : r ≡ Encoding.WellFormed → Exactly integer piece → Valued piece a → Answered a
-    of_literal e x v = go v.signed
-      where
-        go : {c : IntegerAnswer} → SignedOf (length piece) v.integer c → Answered c
-        go (Parts.outside n) = outside h (well_formed_lem r u e) x v.integer_of n
-        go (Parts.within w) = accepted h (well_formed_lem r u e) x v.integer_of w
+    pub judged_value : Exactly integer piece → (r : Option ℤ) → Valued piece r → Judged piece base (ok_or r (record { refusal = Refusal.OutOfRange; place = 0 }))
+    judged_value x None v = outside s.0 s.1 x v.integer_of v.within
+    judged_value x (Some z) v = subst⁻¹ (λ (y : ℤ). Judged piece base (Ok y)) v.within.1 (accepted s.0 s.1 x v.integer_of v.within.0)

@@ -1,5 +1,4 @@
 -- Laws that the proofs of this crate share.
-pub mod Numbers
 pub mod Starts
 pub mod Walks
 pub mod Calls

@@ -16,14 +16,12 @@ use Rattle.rules.proofs.Tests.{there, not_there}
 use Rattle.lexicon.specs.declared.Base.{Base}
 use Rattle.lexicon.specs.Bytes.{digits, radix}
 use Rattle.lexicon.specs.Literals.{integer}
-use Rattle.lexicon.specs.Space.{Skips}
 use Rattle.lexicon.specs.Values.{Digits, value, IntegerOf}
 use Rattle.lexicon.proofs.Spaces.{skips_same, landed}
 use Rattle.lexicon.proofs.Groups.{digits_at}
-use Rattle.lexicon.specs.Parts.{Numeral, marked, bare, letter}
+use Rattle.lexicon.specs.Parts.{Numeral, marked, bare, letter, Start}
 use Rattle.lexicon.proofs.Numbers.{clear, in_marks, bare_short, same_base, valued}
 use Rattle.lexicon.proofs.Integers.{start_sign, of_integer}
-use Rattle.number.proofs.Marks.{start_plus, start_minus, start_other}
 use Rattle.values.specs.Exactly.{Exactly}
 use Rattle.integer_value.specs.Parts.{SignOf, MarkOf, has_mark, no_mark, Ends}
 
@@ -35,23 +33,9 @@ front_other [] b h f e = omega arith
 front_other (x ∷ xs) b h f e = f (omega arith, is_just b x e)
 
 module _ (piece : List ℕ) where
-  pub minus_sign : (g : ℕ) {o : Bool} → Says o (Takes piece (one (just 0x2D)) 0 1) → o ≡ true → Skips piece 1 g → SignOf piece true g
-  minus_sign g s e k =
-      let a = there s e in
-      let b = just_is 0x2D (get_or piece 0 0) a.1 in
-      record { start = start_minus piece 0 g a.0 b k; minus_is = sym (eq-eqb (get_or piece 0 0) 0x2D b) }
-
-  pub plus_sign : (g : ℕ) {o p : Bool} → Says o (Takes piece (one (just 0x2D)) 0 1) → o ≡ false → Says p (Takes piece (one (just 0x2B)) 0 1) → p ≡ true → Skips piece 1 g → SignOf piece false g
-  plus_sign g s e t f k =
-      let a = there t f in
-      let b = just_is 0x2B (get_or piece 0 0) a.1 in
-      record { start = start_plus piece 0 g a.0 b k; minus_is = sym (ne_eqb (get_or piece 0 0) 0x2D (front_other piece 0x2D (omega arith) (not_there s e))) }
-
-  pub no_sign_lem : {o p : Bool} → Says o (Takes piece (one (just 0x2D)) 0 1) → o ≡ false → Says p (Takes piece (one (just 0x2B)) 0 1) → p ≡ false → SignOf piece false 0
-  no_sign_lem s e t f =
-      let m = front_other piece 0x2D (omega arith) (not_there s e) in
-      let p = front_other piece 0x2B (omega arith) (not_there t f) in
-      record { start = start_other piece 0 p m; minus_is = sym (ne_eqb (get_or piece 0 0) 0x2D m) }
+  pub sign_lem : {g : ℕ} (o : Bool) → Says o (Takes piece (one (just 0x2D)) 0 1) → Start piece 0 g → SignOf piece o g
+  sign_lem true s t = record { start = t; minus_is = sym (eq-eqb (get_or piece 0 0) 0x2D (just_is 0x2D (get_or piece 0 0) (there s refl).1)) }
+  sign_lem false s t = record { start = t; minus_is = sym (ne_eqb (get_or piece 0 0) 0x2D (front_other piece 0x2D (omega arith) (not_there s refl))) }
 
 -- ---- the digits behind the mark
 

@@ -1,5 +1,5 @@
 -- What the private functions answer. Assumes nothing.
-use Rattle.std.specs.Prelude.{◌≡◌, Bool, List, ℕ, ◌+◌, ◌≤◌, ◌<◌, ◌^◌, eqb, ℤ, length, get_or}
+use Rattle.std.specs.Prelude.{◌≡◌, Bool, List, ℕ, ◌+◌, ◌<◌, ◌^◌, eqb, ℤ, length, get_or, Option, Result, Ok, Err, SomeIff}
 use Rattle.rules.specs.Class.{byte_of}
 use Rattle.lexicon.specs.declared.Base.{Base}
 use Rattle.lexicon.specs.declared.Base.TheVariants.{Ten}
@@ -8,10 +8,10 @@ use Rattle.lexicon.specs.Space.{Skips}
 use Rattle.lexicon.specs.Values.{Digits, value, IntegerOf}
 use Rattle.lexicon.specs.Parts.{Start}
 use Rattle.number.specs.Number.{HasMark, NoMark}
-use Rattle.values.specs.declared.IntegerAnswer.{IntegerAnswer}
-use Rattle.integer_value.specs.declared.digits.Size as Size
-use Rattle.integer_value.specs.declared.digits.Size.{Size}
-use Rattle.values.specs.Integer.{Within, answer, refusal}
+use Rattle.reading.specs.declared.Refused.{Refused}
+use Rattle.reading.specs.declared.Rules.{Rules}
+use Rattle.reading.specs.Refusals.{number_of}
+use Rattle.values.specs.Integer.{Within, answer, refusal, IntegerAnswers}
 
 module _ (piece : List ℕ) where
   -- the sign, and where the number behind it may begin
@@ -24,30 +24,24 @@ module _ (piece : List ℕ) where
     has_mark : {b : Base} {g : ℕ} → HasMark piece b i → Skips piece (i + 2) g → MarkOf i b g
     no_mark : NoMark piece i → MarkOf i Ten i
 
--- the number n, up to 2^63
-abbrev pub Counted : ℕ → Size → Type 0
-Counted n (Size.TheVariants.Of v) = (v ≡ n) × (n ≤ 2 ^ 63)
-Counted n Size.TheVariants.Beyond = 2 ^ 63 < n
-
-module _ (piece : List ℕ) where
   -- the base's digits from i to the end of the piece
   pub record Ends (b : Base) (i : ℕ) : Type 0 where
     pub bytes : List ℕ
     pub digits_are : Digits piece 1 (digits b) i (length piece) bytes
 
-  -- and their number
-  pub record Total (b : Base) (i : ℕ) (s : Size) : Type 0 where
+  -- and their number, if it fits 64 bits
+  pub record Total (b : Base) (i : ℕ) (s : Option ℕ) : Type 0 where
     pub bytes : List ℕ
     pub digits_are : Digits piece 1 (digits b) i (length piece) bytes
-    pub counted : Counted (value (radix b) bytes) s
+    pub counted : SomeIff s (value (radix b) bytes < 2 ^ 64) (value (radix b) bytes)
 
--- the answer for the integer z of a literal that ends at n
-pub data SignedOf (n : ℕ) (z : ℤ) : IntegerAnswer → Type 0 where
-  outside : (Within z → ⊥) → SignedOf n z (refusal 10 0)
-  within : Within z → SignedOf n z (answer 0 n z)
+  -- the integer of a piece that is a literal, if it is within
+  pub record Valued (s : Option ℤ) : Type 0 where
+    pub integer : ℤ
+    pub integer_of : IntegerOf piece 0 (length piece) integer
+    pub within : SomeIff s (Within integer) integer
 
--- the answer for a piece that is a literal
-pub record Valued (piece : List ℕ) (a : IntegerAnswer) : Type 0 where
-  pub integer : ℤ
-  pub integer_of : IntegerOf piece 0 (length piece) integer
-  pub signed : SignedOf (length piece) integer a
+  -- the call's answer, by the integer or the refusal
+  abbrev pub Judged : Rules → Result ℤ Refused → Type 0
+  Judged rules (Ok z) = IntegerAnswers rules piece (answer 0 (length piece) z)
+  Judged rules (Err r) = IntegerAnswers rules piece (refusal (number_of r.refusal) r.place)

@@ -5,53 +5,25 @@ use lexicon::Base;
 use number::integer::mark_at;
 use space::space;
 use text::byte::stands;
-use text::digit::Lettered;
 
-// Whether the sign is a minus, and where the number behind it begins.
-#[derive(Drop)]
-pub struct Signed {
-    pub minus: bool,
-    pub start: usize,
-}
-
-// A number's base, and where its digits begin.
-#[derive(Drop)]
-pub struct Marked {
-    pub base: Base,
-    pub start: usize,
-}
-
-// The sign of the piece.
-pub(crate) fn sign(piece: &[u8]) -> Signed
-    ensures { SignOf piece.now result.minus result.start }
+// Whether the sign of the piece is a minus, and where the number behind it begins.
+pub(crate) fn sign(piece: &[u8]) -> (bool, usize)
+    ensures { SignOf piece.now result.0 result.1 }
 {
-    if stands(piece, 0, b'-') {
-        let start = space(piece, 1);
-        return Signed { minus: true, start };
+    let minus = stands(piece, 0, b'-');
+    if minus || stands(piece, 0, b'+') {
+        return (minus, space(piece, 1));
     }
-    if stands(piece, 0, b'+') {
-        let start = space(piece, 1);
-        return Signed {
-            minus: false,
-            start,
-        };
-    }
-    Signed {
-        minus: false,
-        start: 0,
-    }
+    (minus, 0)
 }
 
-// The mark at a place, and dividing space behind it; without one the digits are decimal and begin here.
-pub(crate) fn mark(piece: &[u8], at: usize) -> Marked
-    ensures { MarkOf piece.now at result.base result.start }
+// The base that the mark at a place tells, and where the digits begin: behind it and dividing space; without a mark they are decimal
+// and begin here.
+pub(crate) fn mark(piece: &[u8], at: usize) -> (Base, usize)
+    ensures { MarkOf piece.now at result.0 result.1 }
 {
-    let Lettered::Of(base) = mark_at(piece, at) else {
-        return Marked {
-            base: Base::Ten,
-            start: at,
-        };
-    };
-    let start = space(piece, at + 2);
-    Marked { base, start }
+    match mark_at(piece, at) {
+        Some(base) => (base, space(piece, at + 2)),
+        None => (Base::Ten, at),
+    }
 }

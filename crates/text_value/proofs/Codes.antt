@@ -1,20 +1,17 @@
 -- The number of a code point literal. Assumes nothing.
 use mathlib.Core.Path.{◌≡◌, sym, ap, ◌∙◌}
-use mathlib.Core.List.{List, foldl}
+use mathlib.Core.List.{List}
 use Prim.Native.Nat.{ℕ, ◌+◌, ◌-◌, ◌≤◌, ◌<◌, min}
 use native.Mathlib.Omega.{arith}
 use lib.ListN.{length, take, drop}
 use Rattle.rules.specs.Rule.{lit, Takes, both}
 use Rattle.rules.proofs.Matches.{forward, inside}
 use Rattle.lexicon.specs.declared.Base.{Base}
-use Rattle.lexicon.specs.declared.Set.{Set}
-use Rattle.lexicon.specs.Bytes.{digit_set_of, radix}
-use Rattle.lexicon.specs.Parts.{size}
+use Rattle.lexicon.specs.Bytes.{radix}
 use Rattle.lexicon.specs.Literals.{code_of_base, code_point_of}
-use Rattle.lexicon.specs.Limited.{limit, limited}
-use Rattle.lexicon.specs.Values.{read, CodeOf}
-use Rattle.lexicon.proofs.Bases.{size_radix, some_base}
-use Rattle.lexicon.proofs.Limits.{limited_value}
+use Rattle.lexicon.specs.Limited.{limit}
+use Rattle.lexicon.specs.Values.{value, CodeOf}
+use Rattle.lexicon.proofs.Bases.{some_base}
 use Rattle.lexicon.specs.Parts.{Marked}
 use Rattle.string.specs.Parts.{number_at}
 use Rattle.lexicon.proofs.Marks.{begins, mark_long, first_digit}
@@ -36,26 +33,16 @@ module _ (piece : List ℕ) where
       go : (a : Base) → Takes piece (code_of_base a) i j → s ≤ j
       go a (both u d) = omega (arith, (m.only a u (first_digit d)).1, forward d)
 
-  -- ---- the digits
-
-  -- the sum of the bytes between two places, each taken for a digit
-  pub number_is : {n i j v : ℕ} (b : Base) {s : Set} → n ≡ size s → s ≡ digit_set_of b → i ≤ j → j ≤ length piece →
-      v ≡ foldl (limited n) 0 (take (j - i) (drop i piece)) → v ≡ min limit (number_at piece b i j)
-  number_is {n} {i} {j} b p q h l e =
-      e
-      ∙ ap (foldl (limited n) 0) (part_read piece i (j - i) (omega (arith, h, l)))
-      ∙ ap (λ (x : ℕ). foldl (limited x) 0 (read piece i (j - i))) (p ∙ ap size q ∙ size_radix b)
-      ∙ limited_value (radix b) 0 (read piece i (j - i))
-
   -- ---- its value
 
-  pub code_is : {i j s r : ℕ} (b : Base) → Marked piece i b s → r ≡ min limit (number_at piece b s j) → CodeIs piece i j r
-  code_is {i} {j} {s} {r} b m e = record { is = go }
+  pub code_is : {i j s r : ℕ} (b : Base) → Marked piece i b s → (s ≤ j) × (j ≤ length piece) → r ≡ min limit (value (radix b) (take (j - s) (drop s piece))) → CodeIs piece i j r
+  code_is {i} {j} {s} {r} b m h e = record { is = go }
     where
       go : (v : ℕ) → CodeOf piece i j v → r ≡ min limit v
       go v c =
           let o = m.only c.base c.before (first_digit c.all_digits) in
           e
+          ∙ ap (λ (l : List ℕ). min limit (value (radix b) l)) (part_read piece s (j - s) (omega (arith, h)))
           ∙ ap (λ (y : ℕ). min limit (number_at piece b y j)) (sym o.1)
           ∙ ap (λ (x : Base). min limit (number_at piece x c.start j)) (sym o.0)
           ∙ ap (min limit) (sym c.value_is)

@@ -16,19 +16,16 @@ use Rattle.lexicon.specs.Literals.{quoted, word, code_point_of}
 use Rattle.lexicon.specs.Utf8.{WellFormed}
 use Rattle.lexicon.specs.Values.{quotes, bare, coded}
 use Rattle.lexicon.specs.Bad.{Scalar}
-use Rattle.reading.specs.declared.Answer.{Answer}
 use Rattle.reading.specs.Answers.{answer}
 use Rattle.reading.specs.declared.Rules.{Rules}
-use Rattle.reading.specs.Sizes.{base}
 use Rattle.text_value.specs.declared.value.Shape as Shape
 use Rattle.text_value.specs.declared.value.Shape.{Shape}
-use Rattle.text_value.specs.declared.value.Verdict.{Verdict}
 use Rattle.values.specs.Exactly.{Exactly}
 use Rattle.values.specs.Bytes.{no_room, accepted}
 use Rattle.values.specs.Text.{text_literal, BadText, TextBytes, TextAnswers}
 use Rattle.lexicon.specs.Encode.{encode, encoded}
 use Rattle.text_value.specs.Parts.{CodeIs, HasQuoted, WroteQuoted}
-use Rattle.text_value.specs.Shapes.{Shaped, Judged, AppendsText, WroteText}
+use Rattle.text_value.specs.Shapes.{Shaped, AppendsText, WroteText}
 use Rattle.values.proofs.Shapes.{no_word, no_code, word_code, quoted_good, word_good, code_good}
 use Rattle.values.proofs.Spelled.{quoted_same}
 use Rattle.values.proofs.Characters.{quoted_bytes_lem, word_same}
@@ -77,12 +74,6 @@ module _ (piece : List ℕ) where
 
   pub shaped_as : {s u : Shape} → s ≡ u → Shaped piece s → Shaped piece u
   shaped_as e x = subst (λ (y : Shape). Shaped piece y) e x
-
-  pub judged_as : {v w : Verdict} → v ≡ w → Judged piece v → Judged piece w
-  judged_as e x = subst (λ (y : Verdict). Judged piece y) e x
-
-  pub answered : {lent t : List ℕ} {a b : Answer} → a ≡ b → TextAnswers base piece lent b t → TextAnswers base piece lent a t
-  answered {lent} {t} e x = subst (λ (y : Answer). TextAnswers base piece lent y t) (sym e) x
 
   pub shaped_exact : (s : Shape) → Shaped piece s → Exactly text_literal piece
   shaped_exact Shape.TheVariants.Quoted x = left x.0

@@ -1,5 +1,5 @@
 -- What each way through the code of a quoted text says of what is read and written. Assumes nothing.
-use mathlib.Core.Path.{◌≡◌, refl, sym, ap, subst, ◌∙◌}
+use mathlib.Core.Path.{◌≡◌, refl, sym, ap, subst, subst⁻¹, ◌∙◌}
 use mathlib.Core.Logic.{◌⊎◌, inl, inr}
 use mathlib.Core.List.{List, [], ◌∷◌, ◌++◌, append_assoc}
 use Prim.Native.Nat.{ℕ, ◌+◌, ◌-◌, ◌≤◌, ◌<◌, min}
@@ -19,10 +19,8 @@ use Rattle.lexicon.specs.Values.{read, Letter, CodeOf}
 use Rattle.lexicon.specs.Bad.{Scalar}
 use Rattle.lexicon.proofs.Spaces.{byte_single, skips_same}
 use Rattle.lexicon.proofs.Marks.{angle_most}
-use Rattle.text_value.specs.declared.quoted.Meaning.{Meaning}
 use Rattle.lexicon.specs.Encode.{encode}
 use Rattle.lexicon.proofs.Segments.{quote_not}
-use Rattle.text_value.specs.Letters.{NoMeaning, Means}
 use Rattle.text_value.specs.Parts.{CodeIs, Stands, Wrote, HasQuoted, WroteQuoted}
 use Rattle.values.specs.QuotedBytes.{quote, backslash, not_quote, other, Angled, Item, itself, letter, number, Unescapes}
 use Rattle.values.specs.QuotedBytes.{closed, Copies, SegmentBytes, plain, escaped, QuotedBytes, last}
@@ -37,23 +35,8 @@ use Rattle.text_value.proofs.Copies.{part_read}
 
 -- ---- letters
 
-pub is_letter : {b x c : ℕ} → Letter x c → b ≡ x → Letter b c
-is_letter {c = c} l e = subst (λ (y : ℕ). Letter y c) (sym e) l
-
-pub no_meaning : (b : ℕ) → (b ≡ 0x71 → ⊥) → (b ≡ 0x67 → ⊥) → (b ≡ 0x62 → ⊥) → (b ≡ 0x74 → ⊥) → (b ≡ 0x6E → ⊥) → (b ≡ 0x72 → ⊥) →
-    (b ≡ 0x3C → ⊥) → NoMeaning b
-no_meaning b n1 n2 n3 n4 n5 n6 n7 = record { no_letter = λ c l. go l refl; no_angle = n7 }
-  where
-    go : {x c : ℕ} → Letter x c → b ≡ x → ⊥
-    go Letter.quotation_mark e = n1 e
-    go Letter.grave_accent e = n2 e
-    go Letter.reverse_solidus e = n3 e
-    go Letter.tab e = n4 e
-    go Letter.line_feed e = n5 e
-    go Letter.carriage_return e = n6 e
-
-pub means : (b : ℕ) {m n : Meaning} → m ≡ n → Means b m → Means b n
-means b e x = subst (λ (y : Meaning). Means b y) e x
+pub letter_as : {b x c d : ℕ} → Letter x c → b ≡ x → d ≡ c → Letter b d
+letter_as {b} {c = c} l e f = subst⁻¹ (λ (y : ℕ). Letter b y) f (subst⁻¹ (λ (y : ℕ). Letter y c) e l)
 
 pub append_none : (l : List ℕ) → l ++ [] ≡ l
 append_none [] = refl
@@ -132,12 +115,22 @@ module _ (piece : List ℕ) where
         go (inl l) = absurd (letter_angle l.1 e)
         go (inr x) = x.1
 
-    pub escape_none : NoMeaning (get_or piece (i + 1) 0) → ⊥
-    escape_none n = go (escape_rest s a).1
+    -- it is a letter or the angle
+    pub escape_none : let b = get_or piece (i + 1) 0 in (b ≡ 0x71 → ⊥) → (b ≡ 0x67 → ⊥) → (b ≡ 0x62 → ⊥) → (b ≡ 0x74 → ⊥) → (b ≡ 0x6E → ⊥) →
+        (b ≡ 0x72 → ⊥) → (b ≡ 0x3C → ⊥) → ⊥
+    escape_none n1 n2 n3 n4 n5 n6 n7 = go (escape_rest s a).1
       where
+        no_letter : {x c : ℕ} → Letter x c → get_or piece (i + 1) 0 ≡ x → ⊥
+        no_letter Letter.quotation_mark e = n1 e
+        no_letter Letter.grave_accent e = n2 e
+        no_letter Letter.reverse_solidus e = n3 e
+        no_letter Letter.tab e = n4 e
+        no_letter Letter.line_feed e = n5 e
+        no_letter Letter.carriage_return e = n6 e
+
         go : ((c : ℕ) × Letter (get_or piece (i + 1) 0) c) ⊎ (At piece (just 0x3C) (i + 1) × Stands (Angled piece) (i + 2)) → ⊥
-        go (inl l) = n.no_letter l.0 l.1
-        go (inr x) = n.no_angle (just_is 0x3C _ x.0.1)
+        go (inl l) = no_letter l.1 refl
+        go (inr x) = n7 (just_is 0x3C _ x.0.1)
 
     pub letter_wrote : {c : ℕ} → Letter (get_or piece (i + 1) 0) c → {u v : Writer} → Appends u (c ∷ []) v →
         Wrote (Item piece) i (i + 2) u v

@@ -1,4 +1,3 @@
 -- What the private functions of this crate answer.
 pub mod Parts
-pub mod Letters
 pub mod Shapes

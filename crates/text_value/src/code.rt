@@ -1,50 +1,33 @@
-// The number of a code point literal. The functions have a `requires` each: their caller has found the literal.
-ghost use Rattle.std.specs.Prelude.{◌≡◌, ◌+◌, ◌≤◌, ◌<◌, min, length};
+// The number of a code point literal. A function with a `requires` is this crate's own: its caller has found the literal.
+ghost use Rattle.std.specs.Prelude.{◌≡◌, ◌+◌, ◌<◌, min, length};
 ghost use Rattle.rules.specs.Rule.{lit, Takes};
+ghost use Rattle.lexicon.specs.Bytes.{radix as radix_of};
 ghost use Rattle.lexicon.specs.Literals.{code_point_of};
 ghost use Rattle.lexicon.specs.Limited.{limit};
-ghost use Rattle.lexicon.specs.Parts as Marks;
-ghost use Rattle.string.specs.Parts.{number_at};
+ghost use Rattle.lexicon.specs.Parts.{Marked};
+ghost use Rattle.lexicon.specs.Values.{value};
 ghost use Rattle.text_value.specs.Parts.{CodeIs};
 
 use lexicon::Base;
-use text::digit::{Lettered, base_of, digit_set, limited, radix};
+use text::digit::{base_of, digit_set, limited, radix};
 
-// The base that the mark tells, and where the digits begin.
-#[derive(Drop)]
-struct Marked {
-    base: Base,
-    start: usize,
-}
-
-// The mark at a place: without a letter behind `0c` the digits are decimal and begin there.
-fn mark(piece: &[u8], at: usize) -> Marked
+// The base that the mark at a place tells, and where the digits begin: without a letter behind `0c` they are decimal and begin there.
+fn mark(piece: &[u8], at: usize) -> (Base, usize)
     requires { Takes piece.now (lit "0c") at (at + 2) × (at + 2 < length piece.now) }
-    ensures { Marks.Marked piece.now at result.base result.start }
+    ensures { Marked piece.now at result.0 result.1 }
 {
-    let Lettered::Of(base) = base_of(piece[at + 2]) else {
-        return Marked {
-            base: Base::Ten,
-            start: at + 2,
-        };
-    };
-    Marked {
-        base,
-        start: at + 3,
+    match base_of(piece[at + 2]) {
+        Some(base) => (base, at + 3),
+        None => (Base::Ten, at + 2),
     }
 }
 
-// The number of the digits from one place to the other, up to the limit.
-fn number(piece: &[u8], from: usize, to: usize, base: Base) -> u32
-    requires { (from ≤ to) × (to ≤ length piece.now) }
-    ensures { result ≡ min limit (number_at piece.now base from to) }
+// The number of a row of digits, up to the limit.
+fn number(digits: &[u8], base: Base) -> u32
+    ensures { result ≡ min limit (value (radix_of base) digits.now) }
 {
     let n = radix(digit_set(base));
-    let mut sum = 0;
-    for b in &piece[from..to] {
-        sum = limited(sum, n, *b);
-    }
-    sum
+    digits.iter().fold(0, |sum, b| limited(sum, n, *b))
 }
 
 // The number of the literal from one place to the other, up to the limit.
@@ -52,6 +35,6 @@ pub(crate) fn code(piece: &[u8], at: usize, end: usize) -> u32
     requires { Takes piece.now code_point_of at end }
     ensures { CodeIs piece.now at end result }
 {
-    let Marked { base, start } = mark(piece, at);
-    number(piece, start, end, base)
+    let (base, start) = mark(piece, at);
+    number(&piece[start..end], base)
 }

@@ -2,7 +2,6 @@
 ghost use Rattle.rules.specs.Rule.{one, many, At, Longest};
 ghost use Rattle.values.specs.QuotedBytes.{backslash, not_quote, Angled, Item, Unescapes, Copies, SegmentBytes};
 ghost use Rattle.text_value.specs.Parts.{Stands, Wrote, HasQuoted, WroteQuoted};
-ghost use Rattle.text_value.specs.Letters.{Means};
 
 use crate::bytes::encode;
 use crate::code::code;
@@ -11,36 +10,13 @@ use lexicon::Literal;
 use space::space;
 use text::byte::stands;
 
-// What a byte behind a backslash stands for: a character, the opening of a code point, or nothing.
-#[derive(Drop)]
-enum Meaning {
-    Character(u8),
-    Angle,
-    Nothing,
-}
-
-fn behind_backslash(b: u8) -> Meaning
-    ensures { Means b result }
-{
-    match b {
-        b'q' => Meaning::Character(0x22),
-        b'g' => Meaning::Character(0x60),
-        b'b' => Meaning::Character(0x5C),
-        b't' => Meaning::Character(0x09),
-        b'n' => Meaning::Character(0x0A),
-        b'r' => Meaning::Character(0x0D),
-        b'<' => Meaning::Angle,
-        _ => Meaning::Nothing,
-    }
-}
-
 // A code point by its number, and the closing angle; the place behind it.
 fn angled(piece: &[u8], at: usize, out: &mut Writer) -> usize
     requires { Stands (Angled piece.now) at }
     ensures { Wrote (Angled piece.now) at result out.old out.new }
 {
-    let Literal::At { end, bad } = string::code_point::code_point(piece, at) else {
-        return at;
+    let Some(Literal { end, .. }) = string::code_point::code_point(piece, at) else {
+        unreachable!();
     };
     encode(code(piece, at, end), out);
     end + 1
@@ -51,14 +27,18 @@ fn escape(piece: &[u8], at: usize, out: &mut Writer) -> usize
     requires { Stands (Item piece.now) at × At piece.now backslash at }
     ensures { Wrote (Item piece.now) at result out.old out.new }
 {
-    match behind_backslash(piece[at + 1]) {
-        Meaning::Character(b) => {
-            out.put(b);
-            at + 2
-        }
-        Meaning::Angle => angled(piece, at + 2, out),
-        Meaning::Nothing => at,
-    }
+    let character = match piece[at + 1] {
+        b'q' => 0x22,
+        b'g' => 0x60,
+        b'b' => 0x5C,
+        b't' => 0x09,
+        b'n' => 0x0A,
+        b'r' => 0x0D,
+        b'<' => return angled(piece, at + 2, out),
+        _ => unreachable!(),
+    };
+    out.put(character);
+    at + 2
 }
 
 // Characters and escapes, through the closing quote.

@@ -1,22 +1,22 @@
 // The call itself: the refusals in their order, then the value.
 // A function with a `requires` is this crate's own: its caller has tested the piece. `text`, the public one, has none.
-ghost use Rattle.std.specs.Prelude.{◌≡◌, ◌≤◌, length};
+ghost use Rattle.std.specs.Prelude.{◌≤◌, length};
 ghost use Rattle.rules.specs.Rule.{Fails};
 ghost use Rattle.lexicon.specs.Literals;
 ghost use Rattle.lexicon.specs.Utf8.{WellFormed};
-ghost use Rattle.reading.specs.Answers.{answer};
 ghost use Rattle.reading.specs.Sizes.{base as rules};
-ghost use Rattle.values.specs.Text.{TextAnswers};
-ghost use Rattle.text_value.specs.Shapes.{Shaped, Judged, AppendsText, WroteText};
+ghost use Rattle.values.specs.Text.{text_call, TextAnswers};
+ghost use Rattle.piece.specs.Fits.{Fits, Judges};
+ghost use Rattle.text_value.specs.Shapes.{Shaped, AppendsText, WroteText};
 
 use crate::bytes::encode;
 use crate::code::code;
 use crate::quoted::quoted;
 use buffer::Writer;
-use lexicon::{Encoding, Found, Literal};
-use reading::{Answer, TEXT};
+use lexicon::Literal;
+use piece::{NOT_THE_LITERAL, sound};
+use reading::{Answer, Refusal, Refused};
 use string::quoted::first_bad;
-use utf8::utf8;
 
 // How a Text is written.
 #[derive(Clone, Copy)]
@@ -26,71 +26,65 @@ enum Shape {
     CodePoint,
 }
 
-// What a piece is: no Text, one that is bad at a place, or one of a shape.
-#[derive(Drop)]
-enum Verdict {
-    Other,
-    Bad(usize),
-    Good(Shape),
-}
-
-const LONGEST: usize = TEXT;
-
-fn refused(number: u32, place: usize) -> Answer
-    ensures { result ≡ answer number place 0 }
-{
-    Answer {
-        number,
-        place,
-        count: 0,
-    }
-}
-
-// A piece that is neither quoted nor a word.
-fn coded(piece: &[u8]) -> Verdict
+// The shape of a piece that is neither quoted nor a word.
+fn coded(piece: &[u8]) -> Result<Shape, Refused>
     requires { Fails piece.now Literals.quoted 0 × Fails piece.now Literals.word 0 }
-    ensures { Judged piece.now result }
+    ensures { Fits text_call piece.now (Shaped piece.now) result }
 {
-    let Literal::At { end, bad } = string::code_point::code_point(piece, 0) else {
-        return Verdict::Other;
+    let Some(Literal { end, bad }) = string::code_point::code_point(piece, 0) else {
+        return Err(NOT_THE_LITERAL);
     };
     if end != piece.len() {
-        return Verdict::Other;
+        return Err(NOT_THE_LITERAL);
     }
     if bad {
-        return Verdict::Bad(0);
+        return Err(Refused {
+            refusal: Refusal::BadValue,
+            place: 0,
+        });
     }
-    Verdict::Good(Shape::CodePoint)
+    Ok(Shape::CodePoint)
 }
 
-// A piece that is not quoted.
-fn unquoted(piece: &[u8]) -> Verdict
+// The shape of a piece that is not quoted.
+fn unquoted(piece: &[u8]) -> Result<Shape, Refused>
     requires { Fails piece.now Literals.quoted 0 }
-    ensures { Judged piece.now result }
+    ensures { Fits text_call piece.now (Shaped piece.now) result }
 {
-    let Found::At(end) = word::word::word(piece, 0) else {
+    let Some(end) = word::word::word(piece, 0) else {
         return coded(piece);
     };
     if end != piece.len() {
-        return Verdict::Other;
+        return Err(NOT_THE_LITERAL);
     }
-    Verdict::Good(Shape::Word)
+    Ok(Shape::Word)
 }
 
-// Whether the piece is exactly one Text literal, of which shape, and whether its value is bad, and where.
-fn judge(piece: &[u8]) -> Verdict
-    ensures { Judged piece.now result }
+// The shape of a piece that is exactly one Text literal whose value is not bad.
+fn shape_of(piece: &[u8]) -> Result<Shape, Refused>
+    ensures { Fits text_call piece.now (Shaped piece.now) result }
 {
-    let Literal::At { end, bad } = string::quoted::quoted(piece, 0) else {
+    let Some(Literal { end, bad }) = string::quoted::quoted(piece, 0) else {
         return unquoted(piece);
     };
     if end != piece.len() {
-        return Verdict::Other;
+        return Err(NOT_THE_LITERAL);
     }
     if bad {
-        return Verdict::Bad(first_bad(piece, 0));
+        return Err(Refused {
+            refusal: Refusal::BadValue,
+            place: first_bad(piece, 0),
+        });
     }
-    Verdict::Good(Shape::Quoted)
+    Ok(Shape::Quoted)
+}
+
+// The shape, or the first refusal.
+fn judge(piece: &[u8]) -> Result<Shape, Refused>
+    ensures { Judges text_call piece.now (Shaped piece.now) rules result }
+{
+    sound(piece)?;
+    shape_of(piece)
 }
 
 // The characters of the piece.
@@ -122,37 +116,18 @@ fn fitting(piece: &[u8], shape: Shape, buffer: &mut [u8]) -> Answer
 {
     let needed = write(piece, shape, &mut buffer[..0]);
     if buffer.len() < needed {
-        return Answer {
-            number: 8,
-            place: piece.len(),
-            count: needed,
-        };
+        return Answer::no_room(piece.len(), needed);
     }
     let count = write(piece, shape, buffer);
-    Answer {
-        number: 0,
-        place: piece.len(),
-        count,
-    }
+    Answer::accepted(piece.len(), count)
 }
 
 // The characters of a piece that is exactly one Text literal, as UTF-8, from the start of the buffer.
 pub fn text(piece: &[u8], buffer: &mut [u8]) -> Answer
     ensures { TextAnswers rules piece.now buffer.old result buffer.new }
 {
-    if piece.len() > LONGEST {
-        return refused(2, 0);
-    }
-    let encoding = utf8(piece);
-    match encoding {
-        Encoding::BadAt(place) => refused(3, place),
-        Encoding::WellFormed => {
-            let verdict = judge(piece);
-            match verdict {
-                Verdict::Other => refused(9, 0),
-                Verdict::Bad(place) => refused(5, place),
-                Verdict::Good(shape) => fitting(piece, shape, buffer),
-            }
-        }
+    match judge(piece) {
+        Ok(shape) => fitting(piece, shape, buffer),
+        Err(refused) => refused.into(),
     }
 }

@@ -27,7 +27,7 @@ returns-then-i-piece c = let a = c.args in
     walk_ends a.piece.now a.mark _ _ c.loop-i.invariant
     (sum_known a.piece.now a.mark c.loop-i.i c.number.ensures c.unit-width.ensures c.radix-radix.ensures)
     c.bytes-filled.ensures
-    (ap (λ (k : Kind). size_of k) c.kind.ensures)
+    (ap (λ (k : Kind). size_of k) c.kind-kind.ensures)
     c.spread.ensures
     (omega (arith, c.unit-width.ensures, c.if-i-piece.true))
 
@@ -42,7 +42,7 @@ loop-i-preserved c = let a = c.args in
     walk_next a.piece.now a.mark _ _ c.loop-i.invariant
     (sum_known a.piece.now a.mark c.loop-i.i c.number.ensures c.unit-width.ensures c.radix-radix.ensures)
     c.bytes-filled.ensures
-    (ap (λ (k : Kind). size_of k) c.kind.ensures)
+    (ap (λ (k : Kind). size_of k) c.kind-kind.ensures)
     c.spread.ensures
     (λ h. c.if-i-piece.false (e ∙ h))
     (subst (λ (x : ℕ). Longest a.piece.now (opt joint) x c.joint-i.result) e c.joint-i.ensures)

@@ -11,4 +11,4 @@ pub slice_bounds-write-end-2 : goal.slice_bounds-write-end-2
 slice_bounds-write-end-2 c = part_length _ _ (omega arith)
 
 pub returns : goal.returns
-returns c = fits _ _ c.requires.0 c.padding.ensures base c.requires.1 c.requires.2 _ c.measured.ensures (omega arith) c.write.ensures
+returns c = rw c.accepted.ensures (fits _ _ c.requires.0 c.padding.ensures base c.requires.1 c.requires.2 _ c.measured.ensures (omega arith) c.write.ensures)

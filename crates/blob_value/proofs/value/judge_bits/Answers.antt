@@ -1,23 +1,30 @@
 -- `blob_value::value::judge_bits` meets its contract. Assumes nothing.
-use Rattle.lexicon.proofs.Answers.{found_at, found_none}
-use Rattle.blob_value.proofs.Judges.{bits_fails, bits_shorter, bits_within, binary_bits, octal_bits, hexadecimal_bits}
 use native.Mathlib.Omega.{arith}
+use Rattle.reading.specs.Sizes.{base}
+use Rattle.values.specs.Bits.{bits_call}
+use Rattle.piece.specs.Fits.{not_the_literal}
+use Rattle.piece.proofs.Refused.{is_whole, not_whole, judged_unsound, unfit_bytes}
+use Rattle.blob_value.specs.declared.Kind.{Kind}
+use Rattle.blob_value.specs.Calls.{Marked}
+use Rattle.blob_value.proofs.Judges.{bits_long, binary_bits, octal_bits, hexadecimal_bits}
 use Rattle.blob_value.proofs.value.judge_bits.Goals as goal
 
-pub returns-in_default : goal.returns-in_default
-returns-in_default c = bits_fails _ (found_none c.in_default.is c.bits.ensures)
+pub returns-in_err-sound : goal.returns-in_err-sound
+returns-in_err-sound c = judged_unsound bits_call (Marked Kind.Bits c.args.piece.now) base _ c.in_err-sound.ensures c.from_residual.ensures.1
 
-pub returns-then-end-piece : goal.returns-then-end-piece
-returns-then-end-piece c = bits_shorter _ (found_at c.in-At.is c.bits.ensures) c.if-end-piece.true
+pub returns-then-ne : goal.returns-then-ne
+returns-then-ne c = let s = c.in_ok-sound.ensures in unfit_bytes s.0 s.1 (not_the_literal (not_whole _ c.bits.ensures c.ne.ensures c.if-ne.true))
 
 pub bounds-piece-2 : goal.bounds-piece-2
-bounds-piece-2 c = bits_within _ (found_at c.in-At.is c.bits.ensures) c.if-end-piece.false
+bounds-piece-2 c = bits_long _ (is_whole _ c.bits.ensures c.ne.ensures c.if-ne.false)
 
 pub returns-in-98 : goal.returns-in-98
-returns-in-98 c = binary_bits _ (found_at c.in-At.is c.bits.ensures) c.if-end-piece.false c.in-98.is
+returns-in-98 c = let s = c.in_ok-sound.ensures in (binary_bits _ (is_whole _ c.bits.ensures c.ne.ensures c.if-ne.false) c.in-98.is, s.0, s.1)
 
 pub returns-in-111 : goal.returns-in-111
-returns-in-111 c = octal_bits _ (found_at c.in-At.is c.bits.ensures) c.if-end-piece.false c.in-111.is
+returns-in-111 c = let s = c.in_ok-sound.ensures in (octal_bits _ (is_whole _ c.bits.ensures c.ne.ensures c.if-ne.false) c.in-111.is, s.0, s.1)
 
-pub returns-in_default-piece : goal.returns-in_default-piece
-returns-in_default-piece c = hexadecimal_bits _ (found_at c.in-At.is c.bits.ensures) c.if-end-piece.false (λ e. omega arith) (λ e. omega arith)
+pub returns-in_default : goal.returns-in_default
+returns-in_default c =
+    let s = c.in_ok-sound.ensures in
+    (hexadecimal_bits _ (is_whole _ c.bits.ensures c.ne.ensures c.if-ne.false) (λ e. omega arith) (λ e. omega arith), s.0, s.1)

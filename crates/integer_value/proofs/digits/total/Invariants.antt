@@ -4,8 +4,8 @@ use lib.ListN.{length}
 use Rattle.integer_value.proofs.Walks.{Walk}
 use Rattle.integer_value.proofs.digits.total.Given as goal
 
-abbrev pub invariant-loop-next : goal.invariant-loop-next
-invariant-loop-next l = Walk l.piece l.base l.at l.i l.sum
+abbrev pub invariant-loop-sum : goal.invariant-loop-sum
+invariant-loop-sum l = Walk l.piece l.base l.at l.i l.sum
 
-abbrev pub decreases-loop-next : goal.decreases-loop-next
-decreases-loop-next l = length l.piece - l.i
+abbrev pub decreases-loop-sum : goal.decreases-loop-sum
+decreases-loop-sum l = length l.piece - l.i

@@ -1,18 +1,13 @@
 -- `integer_value::integer::literal` meets its contract. Assumes nothing.
 use Rattle.integer_value.proofs.Starts.{literal_digits}
-use Rattle.integer_value.proofs.Calls.{total_fits, valued_beyond, valued_of}
+use Rattle.integer_value.proofs.Calls.{valued_none, valued_some}
 use Rattle.integer_value.proofs.integer.literal.Goals as goal
 
 pub total-requires : goal.total-requires
-total-requires c = literal_digits _ c.requires c.sign-signs.ensures c.mark-marks.ensures
+total-requires c = literal_digits _ c.requires c.sign-minus.ensures c.mark-base.ensures
 
-pub returns-in_default : goal.returns-in_default
-returns-in_default c = valued_beyond _ c.total.result c.total.ensures c.sign-signs.ensures c.mark-marks.ensures c.refused.result
-    c.in_default.is c.refused.ensures
-
-pub signed-requires : goal.signed-requires
-signed-requires c = total_fits _ c.total.result c.total.ensures c.in-Of.size c.in-Of.is
+pub returns-in_err-size : goal.returns-in_err-size
+returns-in_err-size c = rw c.from_residual.ensures (valued_none _ c.sign-minus.ensures c.mark-base.ensures c.in_err-size.ensures)
 
 pub returns : goal.returns
-returns c = valued_of _ c.total.result c.total.ensures c.sign-signs.ensures c.mark-marks.ensures c.signed.result
-    c.in-Of.size c.in-Of.is c.signed.ensures
+returns c = valued_some _ c.sign-minus.ensures c.mark-base.ensures c.in_ok-size.ensures c.signed.ensures

@@ -1,12 +1,20 @@
 -- `integer_value::parts::sign` meets its contract. Assumes nothing.
-use Rattle.integer_value.proofs.Starts.{minus_sign, plus_sign, no_sign_lem}
+use Rattle.rules.proofs.Tests.{there, not_there}
+use Rattle.number.proofs.Marks.{start_plus, start_minus, start_other}
+use Rattle.integer_value.proofs.Starts.{sign_lem}
+use Rattle.integer_value.proofs.parts.sign.Goals.{then-minus-via-then-minus, then-minus-via-else-minus+then-stands}
 use Rattle.integer_value.proofs.parts.sign.Goals as goal
 
-pub returns-then-stands : goal.returns-then-stands
-returns-then-stands c = minus_sign _ c.space-start.result c.stands.ensures c.if-stands.true c.space-start.ensures
-
-pub returns-then-stands-2 : goal.returns-then-stands-2
-returns-then-stands-2 c = plus_sign _ c.space-start-then-stands-2.result c.stands.ensures c.if-stands.false c.stands-2.ensures c.if-stands-2.true c.space-start-then-stands-2.ensures
+pub returns-then-minus : goal.returns-then-minus
+returns-then-minus c =
+    let s = c.stands-minus.ensures in
+    sign_lem _ _ s
+    (elim c.then-minus.branch [
+      | then-minus-via-then-minus w ↦ start_minus _ _ (there s w.if-minus.true) c.space.ensures
+      | then-minus-via-else-minus+then-stands w ↦ start_plus _ _ (there w.stands.ensures w.if-stands.true) c.space.ensures
+    ])
 
 pub returns : goal.returns
-returns c = no_sign_lem _ c.stands.ensures c.if-stands.false c.stands-2.ensures c.if-stands-2.false
+returns c =
+    let s = c.stands-minus.ensures in
+    sign_lem _ _ s (start_other _ _ (not_there c.stands.ensures c.if-stands.false) (not_there s c.if-minus.false))

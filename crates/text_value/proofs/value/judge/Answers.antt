@@ -1,22 +1,12 @@
 -- `text_value::value::judge` meets its contract. Assumes nothing.
-use mathlib.Core.Logic.{inl}
-use Rattle.rules.specs.Rule.{left}
-use Rattle.rules.proofs.Matches.{ending}
-use Rattle.lexicon.specs.Bad.{BadQuoted}
-use Rattle.lexicon.proofs.Answers.{judged_at, judged_none}
-use Rattle.text_value.proofs.Texts.{quoted_other, whole_bad, whole_good}
+use Rattle.reading.specs.Sizes.{base}
+use Rattle.values.specs.Text.{text_call}
+use Rattle.piece.proofs.Refused.{judged_unsound, fits_judges}
+use Rattle.text_value.specs.Shapes.{Shaped}
 use Rattle.text_value.proofs.value.judge.Goals as goal
 
-pub unquoted-requires : goal.unquoted-requires
-unquoted-requires c = judged_none (BadQuoted c.args.piece.now) c.in_default.is c.quoted.ensures
-
-pub returns-then-end-piece : goal.returns-then-end-piece
-returns-then-end-piece c = quoted_other _ (judged_at (BadQuoted c.args.piece.now) c.in-At.is c.quoted.ensures).0 c.if-end-piece.true
-
-pub returns-then-bad : goal.returns-then-bad
-returns-then-bad c = let y = judged_at (BadQuoted c.args.piece.now) c.in-At.is c.quoted.ensures in
-    (left (ending c.if-end-piece.false y.0.takes), inl (c.first_bad.ensures.bad (whole_bad _ (BadQuoted c.args.piece.now) y c.if-end-piece.false c.if-bad.true)))
+pub returns-in_err-sound : goal.returns-in_err-sound
+returns-in_err-sound c = judged_unsound text_call (Shaped c.args.piece.now) base _ c.in_err-sound.ensures c.from_residual.ensures.1
 
 pub returns : goal.returns
-returns c = let y = judged_at (BadQuoted c.args.piece.now) c.in-At.is c.quoted.ensures in
-    (ending c.if-end-piece.false y.0.takes, whole_good _ (BadQuoted c.args.piece.now) y c.if-end-piece.false c.if-bad.false)
+returns c = fits_judges text_call (Shaped c.args.piece.now) base _ c.in_ok-sound.ensures c.shape_of.ensures

@@ -1,0 +1,2 @@
+-- The laws of what the value calls have in common.
+pub mod Refused
