@@ -21,12 +21,16 @@ use Rattle.lexicon.specs.Values.{Digits, Behind, mark_alone, mark_digits}
 use Rattle.lexicon.proofs.Spaces.{skips_same, landed}
 use Rattle.lexicon.proofs.Groups.{digits_at, digits_forward, digits_short}
 use Rattle.lexicon.proofs.Contents.{behind_mark_lem}
+use Rattle.std.specs.Borrow.{MutBor}
+use Rattle.buffer.specs.declared.Writer.{Writer}
 use Rattle.buffer.specs.Puts.{largest}
+use Rattle.buffer.specs.Appends.{Begins}
 use Rattle.buffer.proofs.Puts.{puts_none}
+use Rattle.buffer.proofs.Appending.{put_in}
 use Rattle.blob_value.specs.declared.mark.Mark.{Mark}
 use Rattle.blob_value.specs.declared.mark.Mark.TheVariants.{BlobBinary, BlobHexadecimal, BlobBase64, BitsBinary, BitsOctal, BitsHexadecimal}
 use Rattle.blob_value.specs.Marks.{mark_of, digits_of, unit_of, bytes_of}
-use Rattle.blob_value.specs.Spread.{Units, Whole, Has, HasUnits, Counts, Measured, Spread}
+use Rattle.blob_value.specs.Spread.{Units, Whole, Has, HasUnits, Counts, Measured, Spread, Spreads}
 use Rattle.blob_value.specs.Calls.{Padded}
 use Rattle.blob_value.proofs.Walks.{clear_of, one_at_least, few_bytes}
 use Rattle.blob_value.proofs.Pads.{end, behind_tells, none_told, one_told, two_told}
@@ -161,5 +165,8 @@ module _ (piece : List ℕ) (mark : Mark) (d : Has (Whole piece mark)) where
               bytes_are = ap (λ (m : ℕ). r * m) f;
             }
 
-    pub write_behind : {t t' : List ℕ} → Spread mark (Units piece mark g) t t' → Spread mark (Whole piece mark) t t'
-    write_behind u = record { digits = u.digits; are = from_mark u.are; bytes = u.bytes; fills = u.fills; end = u.end; puts = u.puts }
+    -- the bytes are in the lent buffer when the writer is dropped: t is then its bytes
+    pub write_behind : {lent : MutBor (List ℕ)} {t : List ℕ} {u v : Writer} → Begins lent u → Spreads mark (Units piece mark g) u v →
+        (lent.ghost_name ≡ v.buffer.ghost_name → t ≡ v.buffer.now) → Spread mark (Whole piece mark) lent.now t
+    write_behind {v = v} b s f =
+        record { digits = s.digits; are = from_mark s.are; bytes = s.bytes; fills = s.fills; end = v.at; puts = put_in b s.appends f }

@@ -4,12 +4,14 @@ use mathlib.Core.List.{List, [], ◌∷◌, ◌++◌, map, foldl, append_assoc, 
 use Prim.Native.Nat.{ℕ, zero, suc, ◌+◌, ◌-◌, ◌*◌, ◌/◌, ◌%◌, ◌^◌, ◌≤◌, ◌<◌}
 use native.Mathlib.Nat.{mod-lt, add-zero, add-suc, pow-succ', mul-le-mul_left, le_antisymm}
 use native.Mathlib.Omega.{arith}
-use lib.ListN.{length, get_or}
+use lib.ListN.{length, get_or, take, drop}
+use Rattle.std.proofs.lemmas.List.{get_or-take, get_or-drop}
 use Rattle.rules.specs.Every.{Every, none, also}
 use Rattle.lexicon.specs.Expansion.{bits_of, expand}
 use Rattle.lexicon.proofs.Expansions.{power_positive, bits_join, low_bits, last_bits}
-use Rattle.buffer.specs.Puts.{largest, Puts}
-use Rattle.buffer.proofs.Puts.{puts_none, puts_same, puts_then}
+use Rattle.buffer.specs.declared.Writer.{Writer}
+use Rattle.buffer.specs.Appends.{Appends}
+use Rattle.buffer.proofs.Appending.{appends_none, appends_same, appends_then}
 use Rattle.lexicon.specs.Values.{read}
 use Rattle.lexicon.proofs.Limits.{read_more}
 use Rattle.blob_value.specs.Marks.{value_of}
@@ -31,40 +33,32 @@ pub parts_small : (w k v : ℕ) → Every (λ b. b < 2 ^ w) (parts w k v)
 parts_small w zero v = none
 parts_small w (suc k) v = also (mod-lt (v / 2 ^ (k * w)) (power_positive w)) (parts_small w k v)
 
--- the first k parts are put
-pub record Spreading (w count v : ℕ) (t : List ℕ) (at k : ℕ) (t' : List ℕ) (n : ℕ) : Type 0 where
-  pub within : k ≤ count
+-- the parts are put but for the last k
+pub record Spreading (w count v : ℕ) (u : Writer) (k : ℕ) (u' : Writer) : Type 0 where
   pub before : List ℕ
-  pub are : before ++ parts w (count - k) v ≡ parts w count v
-  pub puts : Puts t at before t' n
+  pub are : before ++ parts w k v ≡ parts w count v
+  pub appends : Appends u before u'
 
-module _ (w count v : ℕ) (t : List ℕ) (at : ℕ) where
-  pub spread_begins : length t ≤ largest → at ≤ largest → Spreading w count v t at 0 t at
-  spread_begins h l =
-      let e : count - 0 ≡ count = omega arith in
-      record { within = omega arith; before = []; are = ap (λ (j : ℕ). parts w j v) e; puts = puts_none t at h l }
+module _ (w count v : ℕ) (u : Writer) where
+  pub spread_begins : Spreading w count v u count u
+  spread_begins = record { before = []; are = refl; appends = appends_none u }
 
-  pub spread_more : {k b n m : ℕ} {t' u : List ℕ} → Spreading w count v t at k t' n → k < count → b ≡ v / 2 ^ ((count - 1 - k) * w) % 2 ^ w →
-      Puts t' n (b ∷ []) u m → Spreading w count v t at (k + 1) u m
-  spread_more {k} {b} s h e p =
-      let f : suc (count - 1 - k) ≡ count - k = omega (arith, h) in
-      let g : count - (k + 1) ≡ count - 1 - k = omega (arith, h) in
+  pub spread_more : {j k b : ℕ} {x y : Writer} → Spreading w count v u j x → suc k ≡ j → b ≡ v / 2 ^ (k * w) % 2 ^ w →
+      Appends x (b ∷ []) y → Spreading w count v u k y
+  spread_more {k = k} {b} s f e a =
       record {
-        within = omega (arith, h);
         before = s.before ++ (b ∷ []);
         are =
-            append_assoc s.before (b ∷ []) (parts w (count - (k + 1)) v)
-            ∙ ap (λ (j : ℕ). s.before ++ (b ∷ parts w j v)) g
-            ∙ ap (λ (x : ℕ). s.before ++ (x ∷ parts w (count - 1 - k) v)) e
-            ∙ ap (λ (j : ℕ). s.before ++ parts w j v) f
+            append_assoc s.before (b ∷ []) (parts w k v)
+            ∙ ap (λ (x : ℕ). s.before ++ (x ∷ parts w k v)) e
+            ∙ ap (λ (n : ℕ). s.before ++ parts w n v) f
             ∙ s.are;
-        puts = puts_then s.puts p;
+        appends = appends_then s.appends a;
       }
 
-  pub spread_ends : {k n : ℕ} {t' : List ℕ} → Spreading w count v t at k t' n → count ≤ k → Puts t at (parts w count v) t' n
-  spread_ends {k} s h =
-      let e : 0 ≡ count - k = omega (arith, h) in
-      puts_same (sym (append-nil s.before) ∙ ap (λ (j : ℕ). s.before ++ parts w j v) e ∙ s.are) s.puts
+  pub spread_ends : {j : ℕ} {x : Writer} → Spreading w count v u j x → 0 ≡ j → Appends u (parts w count v) x
+  spread_ends s e =
+      appends_same (sym (append-nil s.before) ∙ ap (λ (n : ℕ). s.before ++ parts w n v) e ∙ s.are) s.appends
 
 -- ---- digits as a number
 
@@ -122,21 +116,26 @@ module _ (piece : List ℕ) (i n radix : ℕ) where
     pub product_fits : sum * radix < 0x1000000000000
     product_fits = omega (arith, below, top, product)
 
+    -- the digit of the loop, which goes over those of the unit alone
+    digit_at : {m v : ℕ} → n ≡ m → v ≡ value_of radix (get_or (take m (drop i piece)) k 0) → v ≡ value_of radix (get_or piece (i + k) 0)
+    digit_at {m} f e = e ∙ ap (value_of radix) (get_or-take m (drop i piece) k 0 (omega (arith, f, h)) ∙ get_or-drop i piece k 0)
+
     value_small : {v : ℕ} → v ≡ value_of radix (get_or piece (i + k) 0) → v < 64
     value_small e = omega (arith, e, s.digits_small k h, s.radix_small)
 
-    pub sum_fits : {v : ℕ} → v ≡ value_of radix (get_or piece (i + k) 0) → sum * radix + v < 0x1000000000000
-    sum_fits e = omega (arith, below, top, product, value_small e)
+    pub sum_fits : {m v : ℕ} → n ≡ m → v ≡ value_of radix (get_or (take m (drop i piece)) k 0) → sum * radix + v < 0x1000000000000
+    sum_fits f e = omega (arith, below, top, product, value_small (digit_at f e))
 
-    pub sum_more : {v : ℕ} → v ≡ value_of radix (get_or piece (i + k) 0) → Sum (k + 1) (sum * radix + v)
-    sum_more {v} e =
+    pub sum_more : {m v : ℕ} → n ≡ m → v ≡ value_of radix (get_or (take m (drop i piece)) k 0) → Sum (k + 1) (sum * radix + v)
+    sum_more {v = v} f e =
         let one : suc k ≡ k + 1 = omega arith in
+        let d = digit_at f e in
         record {
           within = omega (arith, h);
-          small = subst (λ (m : ℕ). sum * radix + v < 64 ^ m) one (omega (arith, below, product, value_small e));
+          small = subst (λ (m : ℕ). sum * radix + v < 64 ^ m) one (omega (arith, below, product, value_small d));
           sum_is =
               ap (λ (x : ℕ). x * radix + v) a.sum_is
-              ∙ ap (λ (x : ℕ). foldl (with_digit radix) 0 (read piece i k) * radix + x) e
+              ∙ ap (λ (x : ℕ). foldl (with_digit radix) 0 (read piece i k) * radix + x) d
               ∙ sym (read_more (with_digit radix) piece 0 i k)
               ∙ ap (λ (m : ℕ). foldl (with_digit radix) 0 (read piece i m)) one;
         }

@@ -18,12 +18,13 @@ use Rattle.lexicon.proofs.Groups.{Clear, unit_end, unit_byte, joint_end, digits_
 use Rattle.lexicon.proofs.Numbers.{clear, clear_base64}
 use Rattle.lexicon.proofs.Expansions.{expand_append}
 use Rattle.lexicon.proofs.Sextets.{sextet_small, digit_small}
-use Rattle.buffer.specs.Puts.{largest, Puts}
-use Rattle.buffer.proofs.Puts.{puts_none, puts_same, puts_then}
+use Rattle.buffer.specs.declared.Writer.{Writer}
+use Rattle.buffer.specs.Appends.{Appends}
+use Rattle.buffer.proofs.Appending.{appends_none, appends_same, appends_then}
 use Rattle.blob_value.specs.declared.mark.Mark.{Mark}
 use Rattle.blob_value.specs.declared.mark.Mark.TheVariants.{BlobBinary, BlobHexadecimal, BlobBase64, BitsBinary, BitsOctal, BitsHexadecimal}
 use Rattle.blob_value.specs.Marks.{kind_of, digits_of, unit_of, width_of, size_of, bytes_of, value_of}
-use Rattle.blob_value.specs.Spread.{with_digit, parts, Small, Units, Has, HasUnits, Counts, Spread}
+use Rattle.blob_value.specs.Spread.{with_digit, parts, Small, Units, Has, HasUnits, Counts, Spreads}
 use Rattle.blob_value.proofs.Marks.{value_digit, value_pad, value_sextet}
 use Rattle.blob_value.proofs.Spreads.{parts_small, unit_bits}
 
@@ -133,8 +134,8 @@ module _ (piece : List ℕ) (mark : Mark) where
 
   -- ---- the walk
 
-  module _ (at : ℕ) (t : List ℕ) where
-    pub record Walk (i : ℕ) (t' : List ℕ) (n : ℕ) : Type 0 where
+  module _ (at : ℕ) (u : Writer) where
+    pub record Walk (i : ℕ) (v : Writer) : Type 0 where
       pub whole : List ℕ
       pub whole_are : Row at whole
       pub rest : List ℕ
@@ -143,10 +144,10 @@ module _ (piece : List ℕ) (mark : Mark) where
       pub small : Every (λ b. b < 2 ^ size_of (kind_of mark)) bytes
       pub so_far : expand (size_of (kind_of mark)) bytes ++ expand (width_of mark) (map (value_of (2 ^ width_of mark)) rest) ≡
           expand (width_of mark) (map (value_of (2 ^ width_of mark)) whole)
-      pub puts : Puts t 0 bytes t' n
+      pub appends : Appends u bytes v
 
-    pub walk_begins : Has (Units piece mark at) → length t ≤ largest → Walk at t 0
-    walk_begins h l =
+    pub walk_begins : Has (Units piece mark at) → Walk at u
+    walk_begins h =
         record {
           whole = h.digits;
           whole_are = h.are;
@@ -155,16 +156,16 @@ module _ (piece : List ℕ) (mark : Mark) where
           bytes = [];
           small = none;
           so_far = refl;
-          puts = puts_none t 0 l (omega arith);
+          appends = appends_none u;
         }
 
-    module _ {i : ℕ} {t' : List ℕ} {n : ℕ} (w : Walk i t' n) where
+    module _ {i : ℕ} {v : Writer} (w : Walk i v) where
       pub walk_within : i + unit_of mark ≤ length piece
       walk_within = digits_forward w.rest_are
 
       pub walk_small : {count radix : ℕ} → count ≡ unit_of mark → radix ≡ 2 ^ width_of mark → Small piece i count radix
       walk_small {count} {radix} e f =
-          let u = first_unit w.rest_are in
+          let first = first_unit w.rest_are in
           let o = one_at_least mark in
           record {
             within = omega (arith, e, walk_within);
@@ -173,15 +174,15 @@ module _ (piece : List ℕ) (mark : Mark) where
             digits_small =
                 λ k h.
                 subst (λ (r : ℕ). value_of r (get_or piece (i + k) 0) < r) (sym f)
-                (value_small mark (get_or piece (i + k) 0) (unit_byte (unit_of mark) (digits_of mark) i u.1 k (omega (arith, h, e))).1);
+                (value_small mark (get_or piece (i + k) 0) (unit_byte (unit_of mark) (digits_of mark) i first.1 k (omega (arith, h, e))).1);
           }
 
       -- the unit at i written too
-      more_puts : {sum count size m : ℕ} {u : List ℕ} → sum ≡ foldl (with_digit (2 ^ width_of mark)) 0 (read piece i (unit_of mark)) → count ≡ bytes_of mark →
-          size ≡ size_of (kind_of mark) → Puts t' n (parts size count sum) u m → Puts t 0 (w.bytes ++ bytes_at i) u m
-      more_puts {sum} {count} {size} e f g p =
-          puts_then w.puts
-          (puts_same
+      more_appends : {sum count size : ℕ} {x : Writer} → sum ≡ foldl (with_digit (2 ^ width_of mark)) 0 (read piece i (unit_of mark)) → count ≡ bytes_of mark →
+          size ≡ size_of (kind_of mark) → Appends v (parts size count sum) x → Appends u (w.bytes ++ bytes_at i) x
+      more_appends {sum} {count} {size} e f g p =
+          appends_then w.appends
+          (appends_same
           (ap (λ (x : ℕ). parts size count x) e
           ∙ ap (λ (x : ℕ). parts size x (foldl (with_digit (2 ^ width_of mark)) 0 (read piece i (unit_of mark)))) f
           ∙ ap (λ (x : ℕ). parts x (bytes_of mark) (foldl (with_digit (2 ^ width_of mark)) 0 (read piece i (unit_of mark)))) g) p)
@@ -205,14 +206,14 @@ module _ (piece : List ℕ) (mark : Mark) where
           ∙ expand_append (width_of mark) vs (map (value_of (2 ^ width_of mark)) rest)))
           ∙ w.so_far
 
-      module _ {sum count size m : ℕ} {u : List ℕ} (e : sum ≡ foldl (with_digit (2 ^ width_of mark)) 0 (read piece i (unit_of mark))) (f : count ≡ bytes_of mark)
-          (g : size ≡ size_of (kind_of mark)) (p : Puts t' n (parts size count sum) u m) where
+      module _ {sum count size : ℕ} {x : Writer} (e : sum ≡ foldl (with_digit (2 ^ width_of mark)) 0 (read piece i (unit_of mark))) (f : count ≡ bytes_of mark)
+          (g : size ≡ size_of (kind_of mark)) (p : Appends v (parts size count sum) x) where
         -- the last unit
-        pub walk_ends : i + unit_of mark ≡ length piece → Spread mark (Units piece mark at) t u
+        pub walk_ends : i + unit_of mark ≡ length piece → Spreads mark (Units piece mark at) u x
         walk_ends h = go w.rest_are refl
           where
-            go : {ds : List ℕ} → Row i ds → w.rest ≡ ds → Spread mark (Units piece mark at) t u
-            go (last_unit v) d =
+            go : {ds : List ℕ} → Row i ds → w.rest ≡ ds → Spreads mark (Units piece mark at) u x
+            go (last_unit y) d =
                 record {
                   digits = w.whole;
                   are = w.whole_are;
@@ -220,31 +221,30 @@ module _ (piece : List ℕ) (mark : Mark) where
                   fills =
                       record {
                         small = more_small;
-                        bits_are = sym (append-nil (expand (size_of (kind_of mark)) (w.bytes ++ bytes_at i))) ∙ more_bits v [] (d ∙ sym (append-nil (read piece i (unit_of mark))));
+                        bits_are = sym (append-nil (expand (size_of (kind_of mark)) (w.bytes ++ bytes_at i))) ∙ more_bits y [] (d ∙ sym (append-nil (read piece i (unit_of mark))));
                       };
-                  end = m;
-                  puts = more_puts e f g p;
+                  appends = more_appends e f g p;
                 }
-            go (next_unit v s r) d =
+            go (next_unit y s r) d =
                 let o = one_at_least mark in
-                absurd (omega (arith, h, unit_end (unit_of mark) (digits_of mark) v, forward s, digits_forward r, o.1))
+                absurd (omega (arith, h, unit_end (unit_of mark) (digits_of mark) y, forward s, digits_forward r, o.1))
 
         -- one before it
-        pub walk_next : {k : ℕ} → (i + unit_of mark ≡ length piece → ⊥) → Longest piece (opt joint) (i + unit_of mark) k → Walk k u m
+        pub walk_next : {k : ℕ} → (i + unit_of mark ≡ length piece → ⊥) → Longest piece (opt joint) (i + unit_of mark) k → Walk k x
         walk_next {k} h j = go w.rest_are refl
           where
-            go : {ds : List ℕ} → Row i ds → w.rest ≡ ds → Walk k u m
-            go (last_unit v) d = absurd (h (sym (unit_end (unit_of mark) (digits_of mark) v)))
-            go (next_unit {ds = ds} v s r) d =
+            go : {ds : List ℕ} → Row i ds → w.rest ≡ ds → Walk k x
+            go (last_unit y) d = absurd (h (sym (unit_end (unit_of mark) (digits_of mark) y)))
+            go (next_unit {ds = ds} y s r) d =
                 record {
                   whole = w.whole;
                   whole_are = w.whole_are;
                   rest = ds;
-                  rest_are = next_row v s r j;
+                  rest_are = next_row y s r j;
                   bytes = w.bytes ++ bytes_at i;
                   small = more_small;
-                  so_far = more_bits v ds d;
-                  puts = more_puts e f g p;
+                  so_far = more_bits y ds d;
+                  appends = more_appends e f g p;
                 }
 
 -- ---- how many units there are

@@ -3,7 +3,9 @@ use Rattle.std.specs.Prelude.{◌≡◌, List, [], ◌∷◌, map, ℕ, zero, su
 use Rattle.rules.specs.Every.{Every}
 use Rattle.lexicon.specs.Expansion.{expand}
 use Rattle.lexicon.specs.Values.{Digits, Behind}
+use Rattle.buffer.specs.declared.Writer.{Writer}
 use Rattle.buffer.specs.Puts.{Puts}
+use Rattle.buffer.specs.Appends.{Appends}
 use Rattle.blob_value.specs.declared.mark.Mark.{Mark}
 use Rattle.blob_value.specs.Marks.{mark_of, kind_of, digits_of, unit_of, width_of, size_of, bytes_of, value_of}
 
@@ -62,7 +64,15 @@ module _ (mark : Mark) (Are : List ℕ → Type 0) where
     pub units_are : length digits ≡ units * unit_of mark
     pub bytes_are : n ≡ units * bytes_of mark
 
-  -- and these are put from the start of t
+  -- their bytes are put behind those before
+  pub record Spreads (w w' : Writer) : Type 0 where
+    pub digits : List ℕ
+    pub are : Are digits
+    pub bytes : List ℕ
+    pub fills : Fills mark digits bytes
+    pub appends : Appends w bytes w'
+
+  -- and from the start of t
   pub record Spread (t t' : List ℕ) : Type 0 where
     pub digits : List ℕ
     pub are : Are digits

@@ -1,15 +1,15 @@
-// The digits of a literal, unit by unit, as bytes in a lent buffer. The functions have a `requires` each: their caller has found the
+// The digits of a literal, unit by unit, as bytes. The functions have a `requires` each: their caller has found the
 // literal.
 ghost use Rattle.std.specs.Prelude.{◌≡◌, ◌≤◌};
 ghost use mathlib.Core.List.{foldl};
 ghost use Rattle.lexicon.specs.Values.{read};
-ghost use Rattle.buffer.specs.Puts.{Puts};
+ghost use Rattle.buffer.specs.Appends.{Appends};
 ghost use Rattle.blob_value.specs.Marks.{size_of};
-ghost use Rattle.blob_value.specs.Spread.{with_digit, parts, Small, HasUnits, Counts, Units, Has, Spread};
+ghost use Rattle.blob_value.specs.Spread.{with_digit, parts, Small, HasUnits, Counts, Units, Has, Spreads};
 
 use crate::Kind;
 use crate::mark::{Mark, bytes, digit_value, kind, part, radix, unit};
-use buffer::put;
+use buffer::Writer;
 use space::joint::joint;
 
 // The digits of a unit as one number.
@@ -18,27 +18,20 @@ fn number(piece: &[u8], at: usize, count: usize, radix: u64) -> u64
     ensures { result ≡ foldl (with_digit radix) 0 (read piece.now at count) }
 {
     let mut sum: u64 = 0;
-    let mut k = 0;
-    while k < count {
-        sum = sum * radix + digit_value(radix, piece[at + k]);
-        k += 1;
+    for b in &piece[at..at + count] {
+        sum = sum * radix + digit_value(radix, *b);
     }
     sum
 }
 
-// A number as so many bytes, most significant first, from a place of the buffer on; and the place behind them.
-fn spread(number: u64, count: usize, kind: Kind, buffer: &mut [u8], at: usize) -> usize
+// A number as so many bytes, most significant first.
+fn spread(number: u64, count: usize, kind: Kind, out: &mut Writer)
     requires { count ≤ 8 }
-    ensures { Puts buffer.old at (parts (size_of kind) count number) buffer.new result }
+    ensures { Appends out.old (parts (size_of kind) count number) out.new }
 {
-    let mut k = 0;
-    let mut n = at;
-    while k < count {
-        let behind = count - 1 - k;
-        n = put(buffer, n, part(number, behind, kind));
-        k += 1;
+    for behind in (0..count).rev() {
+        out.put(part(number, behind, kind));
     }
-    n
 }
 
 // How many units of so many digits stand from a place to the end of the piece.
@@ -58,19 +51,17 @@ pub(crate) fn count(piece: &[u8], at: usize, unit: usize) -> usize
     }
 }
 
-// The units from a place to the end of the piece, as bytes from the start of the buffer on.
-pub(crate) fn units(piece: &[u8], at: usize, mark: Mark, buffer: &mut [u8])
+// The units from a place to the end of the piece, as bytes.
+pub(crate) fn units(piece: &[u8], at: usize, mark: Mark, out: &mut Writer)
     requires { Has (Units piece.now mark at) }
-    ensures { Spread mark (Units piece.now mark at) buffer.old buffer.new }
+    ensures { Spreads mark (Units piece.now mark at) out.old out.new }
 {
     let width = unit(mark);
     let radix = radix(mark);
     let filled = bytes(mark);
     let mut i = at;
-    let mut n = 0;
     loop {
-        let sum = number(piece, i, width, radix);
-        n = spread(sum, filled, kind(mark), buffer, n);
+        spread(number(piece, i, width, radix), filled, kind(mark), out);
         i += width;
         if i == piece.len() {
             return;

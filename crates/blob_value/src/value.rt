@@ -15,6 +15,7 @@ ghost use Rattle.blob_value.specs.Calls.{call_of, Sound, Judged, Padded};
 use crate::Kind;
 use crate::mark::{Mark, bytes, unit};
 use crate::spread::{count, units};
+use buffer::Writer;
 use lexicon::{Encoding, Found, Literal};
 use reading::{Answer, TEXT};
 use space::space;
@@ -109,7 +110,8 @@ fn write(piece: &[u8], mark: Mark, buffer: &mut [u8])
         return;
     }
     let start = space(piece, 3);
-    units(piece, start, mark, buffer);
+    let mut out = Writer::new(buffer);
+    units(piece, start, mark, &mut out);
 }
 
 // How many `=` end the literal.

@@ -1,42 +1,49 @@
-// Bytes into a lent buffer, from a place on. A byte that does not fit is counted and not written, so that the same functions measure
-// a value, over an empty part, and write it.
+// Bytes into a lent buffer, one behind the other. A byte that does not fit is counted and not written, so that the same functions
+// measure a value, over an empty part, and write it.
 #![tactic(auto)]
 
-ghost use Rattle.std.specs.Prelude.{◌≡◌, [], ◌∷◌, ◌+◌, min};
-ghost use Rattle.buffer.specs.Puts.{largest, Puts};
+ghost use Rattle.std.specs.Prelude.{[], ◌∷◌, ◌≤◌, length};
+ghost use Rattle.buffer.specs.Puts.{largest};
 
-const LARGEST: usize = 0xFFFF_FFFF_FFFF_FFFF;
-
-// The place behind one. Behind the largest there is none, and counting stops.
-fn next(at: usize) -> usize
-    ensures { result ≡ min largest (at + 1) }
-{
-    if at == LARGEST {
-        return at;
-    }
-    at + 1
+// A lent buffer, and the place behind what is written. It may lie behind the buffer's end.
+#[derive(Drop)]
+pub struct Writer<'a> {
+    pub buffer: &'a mut [u8],
+    pub at: usize,
+    // So it is of every slice and every place. It stands here so that a call that writes nothing needs no premise.
+    pub ghost within: { length buffer.now ≤ largest },
+    pub ghost placed: { at ≤ largest },
 }
 
-// One byte.
-pub fn put(buffer: &mut [u8], at: usize, b: u8) -> usize
-    ensures { Puts buffer.old at (b ∷ []) buffer.new result }
-{
-    if at >= buffer.len() {
-        return next(at);
-    }
-    buffer[at] = b;
-    at + 1
-}
+impl<'a> Writer<'a> {
+    ghost use Rattle.buffer.specs.Appends.{Begins, Appends};
 
-// The bytes of a slice.
-pub fn copy(bytes: &[u8], buffer: &mut [u8], at: usize) -> usize
-    ensures { Puts buffer.old at bytes.now buffer.new result }
-{
-    let mut i = 0;
-    let mut n = at;
-    while i < bytes.len() {
-        n = put(buffer, n, bytes[i]);
-        i += 1;
+    // From the buffer's start on.
+    pub fn new(buffer: &'a mut [u8]) -> Writer<'a>
+        ensures { Begins buffer.entry result }
+    {
+        Writer { buffer, at: 0 }
     }
-    n
+
+    // One byte. Behind the largest place there is none, and counting stops.
+    pub fn put(&mut self, b: u8)
+        ensures { Appends self.old (b ∷ []) self.new }
+    {
+        let at = self.at;
+        if at >= self.buffer.len() {
+            self.at = at.saturating_add(1);
+            return;
+        }
+        self.buffer[at] = b;
+        self.at = at + 1;
+    }
+
+    // The bytes of a slice.
+    pub fn copy(&mut self, bytes: &[u8])
+        ensures { Appends self.old bytes.now self.new }
+    {
+        for b in bytes {
+            self.put(*b);
+        }
+    }
 }

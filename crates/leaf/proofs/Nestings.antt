@@ -14,8 +14,8 @@ use Rattle.lexicon.proofs.Variants.{text_same}
 use Rattle.lexicon.proofs.Determined.{one_answer}
 use Rattle.lexicon.proofs.Pieces.{token_bounds}
 use Rattle.reading.proofs.Rows.{pick}
-use Rattle.buffer.specs.Puts.{largest}
-use Rattle.buffer.specs.Wrote.{Wrote}
+use Rattle.buffer.specs.declared.Writer.{Writer}
+use Rattle.buffer.specs.Appends.{AppendsPart}
 use Rattle.form.proofs.Walk
 use Rattle.form.proofs.Walk.{Spelled, NameToken, Named}
 use Rattle.leaf.proofs.Rows.{Going, going, going_on, going_same, gone}
@@ -38,42 +38,45 @@ module _ (text : List ℕ) where
 
   -- ---- those that are left
 
-  record Left (i j : ℕ) (t : List ℕ) (k : ℕ) (bs t' : List ℕ) (n : ℕ) : Type 0 where
+  record Left (i j : ℕ) (u : Writer) (bs : List ℕ) (v : Writer) : Type 0 where
     rest : List ℕ
-    going : Going t k bs t' n rest
+    going : Going u bs v rest
     named : Named text i j rest
 
-  pub record Naming (first j : ℕ) (t : List ℕ) (k : ℕ) (t' : List ℕ) (n i : ℕ) : Type 0 where
-    left : (bs : List ℕ) → Named text first j bs → Left i j t k bs t' n
-    pub same_length : length t' ≡ length t
+  pub record Naming (first j : ℕ) (u v : Writer) (i : ℕ) : Type 0 where
+    left : (bs : List ℕ) → Named text first j bs → Left i j u bs v
+    pub same_buffer : v.buffer.ghost_name ≡ u.buffer.ghost_name
+    pub same_length : length v.buffer.now ≡ length u.buffer.now
 
-  pub naming : (first j : ℕ) (t : List ℕ) (k : ℕ) → length t ≤ largest → k ≤ largest → Naming first j t k t k first
-  naming first j t k l h =
-      record { left = λ bs x. record { rest = bs; going = going t bs k l h; named = x }; same_length = refl }
+  pub naming : (first j : ℕ) (u : Writer) → Naming first j u u first
+  naming first j u =
+      record { left = λ bs x. record { rest = bs; going = going u bs; named = x }; same_buffer = refl; same_length = refl }
 
-  pub naming_next : {first j k n m i : ℕ} {t t' t'' : List ℕ} {u : Token} → Naming first j t k t' n i → i < j →
-      Comes text i (Next.Token u) → Wrote (NameToken text u) t' n t'' m → Naming first j t k t'' m u.end
-  naming_next {j = j} {k} {n} {m} {i} {t} {t'} {t''} {u} g h c w =
+  pub naming_next : {first j i : ℕ} {u v w : Writer} {t : Token} → Naming first j u v i → i < j → Comes text i (Next.Token t) →
+      AppendsPart (NameToken text t) v w → Naming first j u w t.end
+  naming_next {j = j} {u = u} {v} {w} {t} g h c x =
       record {
-        left = λ bs x. (let l = g.left bs x in go bs l.named h l.going c);
-        same_length = w.same_length ∙ g.same_length;
+        left = λ bs y. (let l = g.left bs y in go bs l.named h l.going c);
+        same_buffer = x.same_buffer ∙ g.same_buffer;
+        same_length = x.same_length ∙ g.same_length;
       }
     where
-      go : {i : ℕ} {rest : List ℕ} (bs : List ℕ) → Named text i j rest → i < j → Going t k bs t' n rest → Comes text i (Next.Token u) →
-          Left u.end j t k bs t'' m
+      go : {i : ℕ} {rest : List ℕ} (bs : List ℕ) → Named text i j rest → i < j → Going u bs v rest → Comes text i (Next.Token t) →
+          Left t.end j u bs w
       go bs Walk.ended h g c = absurd (omega arith)
-      go {i} bs (Walk.further {t = v} {bs = row} {cs = rest} d l x y) h g c =
-          let e : v ≡ u = pick text d c in
+      go {i} bs (Walk.further {t = z} {bs = row} {cs = rest} d l y n) h g c =
+          let e : z ≡ t = pick text d c in
           record {
             rest = rest;
-            going = going_on row g (w.puts row (subst (λ (z : Token). NameToken text z row) e x));
-            named = subst (λ (z : Token). Named text z.end j rest) e y;
+            going = going_on row g (x.appends row (subst (λ (z : Token). NameToken text z row) e y));
+            named = subst (λ (z : Token). Named text z.end j rest) e n;
           }
 
-  pub naming_ends : {first j k n i : ℕ} {t t' : List ℕ} → Naming first j t k t' n i → j ≤ i → Wrote (Named text first j) t k t' n
+  pub naming_ends : {first j i : ℕ} {u v : Writer} → Naming first j u v i → j ≤ i → AppendsPart (Named text first j) u v
   naming_ends {j = j} g h =
       record {
-        puts = λ bs x. (let l = g.left bs x in gone (going_same (none l.named h) l.going));
+        appends = λ bs x. (let l = g.left bs x in gone (going_same (none l.named h) l.going));
+        same_buffer = g.same_buffer;
         same_length = g.same_length;
       }
     where
@@ -82,10 +85,14 @@ module _ (text : List ℕ) where
       none (Walk.further d l x y) h = let b = token_bounds text d in absurd (omega (arith, b.0, b.1, l, h))
 
   -- no token comes, though the end is not reached: this is no Nesting
-  pub naming_stops : {first j k n i : ℕ} {t t' : List ℕ} (r : Next) → Naming first j t k t' n i → i < j → Comes text i r →
-      ((u : Token) → r ≡ Next.Token u → ⊥) → Wrote (Named text first j) t k t' n
+  pub naming_stops : {first j i : ℕ} {u v : Writer} (r : Next) → Naming first j u v i → i < j → Comes text i r →
+      ((t : Token) → r ≡ Next.Token t → ⊥) → AppendsPart (Named text first j) u v
   naming_stops {j = j} r g h c o =
-      record { puts = λ bs x. absurd (stuck (g.left bs x).named h c); same_length = g.same_length }
+      record {
+        appends = λ bs x. absurd (stuck (g.left bs x).named h c);
+        same_buffer = g.same_buffer;
+        same_length = g.same_length;
+      }
     where
       stuck : {i : ℕ} {rest : List ℕ} → Named text i j rest → i < j → Comes text i r → ⊥
       stuck Walk.ended h c = omega arith

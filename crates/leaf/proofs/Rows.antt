@@ -1,27 +1,26 @@
--- A row of bytes of which some are put and the rest is left to put. Assumes nothing.
+-- A row of bytes of which some are written and the rest is left to write. Assumes nothing.
 use mathlib.Core.Path.{◌≡◌, refl, sym, subst, ◌∙◌}
 use mathlib.Core.List.{List, [], ◌++◌, append_assoc, append-nil}
-use Prim.Native.Nat.{ℕ, ◌≤◌}
-use lib.ListN.{length}
-use Rattle.buffer.specs.Puts.{largest, Puts}
-use Rattle.buffer.proofs.Puts.{puts_none, puts_then, puts_same}
+use Prim.Native.Nat.{ℕ}
+use Rattle.buffer.specs.declared.Writer.{Writer}
+use Rattle.buffer.specs.Appends.{Appends}
+use Rattle.buffer.proofs.Appending.{appends_none, appends_then, appends_same}
 
-pub record Going (t : List ℕ) (k : ℕ) (bs t' : List ℕ) (n : ℕ) (rest : List ℕ) : Type 0 where
+pub record Going (u : Writer) (bs : List ℕ) (v : Writer) (rest : List ℕ) : Type 0 where
   pub done : List ℕ
-  pub puts : Puts t k done t' n
+  pub appends : Appends u done v
   pub all : done ++ rest ≡ bs
 
-pub going : (t bs : List ℕ) (k : ℕ) → length t ≤ largest → k ≤ largest → Going t k bs t k bs
-going t bs k l h = record { done = []; puts = puts_none t k l h; all = refl }
+pub going : (u : Writer) (bs : List ℕ) → Going u bs u bs
+going u bs = record { done = []; appends = appends_none u; all = refl }
 
--- the next bytes of the rest are put
-pub going_on : {t u v bs rest : List ℕ} {k n m : ℕ} (xs : List ℕ) → Going t k bs u n (xs ++ rest) → Puts u n xs v m →
-    Going t k bs v m rest
-going_on {rest = rest} xs g p =
-    record { done = g.done ++ xs; puts = puts_then g.puts p; all = append_assoc g.done xs rest ∙ g.all }
+-- the next bytes of the rest are written
+pub going_on : {u v w : Writer} {bs rest : List ℕ} (xs : List ℕ) → Going u bs v (xs ++ rest) → Appends v xs w → Going u bs w rest
+going_on {rest = rest} xs g a =
+    record { done = g.done ++ xs; appends = appends_then g.appends a; all = append_assoc g.done xs rest ∙ g.all }
 
-pub going_same : {t u bs xs ys : List ℕ} {k n : ℕ} → xs ≡ ys → Going t k bs u n xs → Going t k bs u n ys
-going_same {t} {u} {bs} {k = k} {n = n} e g = subst (λ (l : List ℕ). Going t k bs u n l) e g
+pub going_same : {u v : Writer} {bs xs ys : List ℕ} → xs ≡ ys → Going u bs v xs → Going u bs v ys
+going_same {u} {v} {bs} e g = subst (λ (l : List ℕ). Going u bs v l) e g
 
-pub gone : {t u bs : List ℕ} {k n : ℕ} → Going t k bs u n [] → Puts t k bs u n
-gone g = puts_same (sym (append-nil g.done) ∙ g.all) g.puts
+pub gone : {u v : Writer} {bs : List ℕ} → Going u bs v [] → Appends u bs v
+gone g = appends_same (sym (append-nil g.done) ∙ g.all) g.appends

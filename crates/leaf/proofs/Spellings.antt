@@ -6,9 +6,9 @@ use Prim.Native.Nat.{ℕ, ◌-◌, ◌≤◌, ◌<◌}
 use native.Mathlib.Omega.{arith}
 use lib.ListN.{take, drop}
 use Rattle.rules.specs.Plain.{between}
-use Rattle.buffer.specs.Puts.{Puts}
-use Rattle.buffer.specs.Wrote.{Wrote}
-use Rattle.buffer.proofs.Writing.{wrote}
+use Rattle.buffer.specs.declared.Writer.{Writer}
+use Rattle.buffer.specs.Appends.{Appends, AppendsPart}
+use Rattle.buffer.proofs.Writing.{part_of}
 use Rattle.lexicon.specs.declared.Head.{Head}
 use Rattle.lexicon.specs.declared.Form.{Form}
 use Rattle.grammar.specs.Tokens.{Span}
@@ -71,7 +71,7 @@ module _ (text : List ℕ) where
   literal_leaf h bs (Walk.nesting x) = absurd (omega (arith, h))
 
 -- a literal's bytes that are kept are the leaf's: a search finds it, whatever test shows that the node is a literal
-pub bare_leaf : {text lent left : List ℕ} {node : Node} {at n : ℕ} → Puts lent at (bare (take (node.end - node.first) (drop node.first text))) left n →
-    node.kind < 7 → Wrote (LeafBytes text node) lent at left n
+pub bare_leaf : {text : List ℕ} {node : Node} {u v : Writer} → Appends u (bare (take (node.end - node.first) (drop node.first text))) v →
+    node.kind < 7 → AppendsPart (LeafBytes text node) u v
 unfolding between
-bare_leaf {text} p h = wrote (λ bs x. literal_leaf text (omega (arith, h, x.kind_is)) bs x.leaf) p
+bare_leaf {text} a h = part_of (λ bs x. literal_leaf text (omega (arith, h, x.kind_is)) bs x.leaf) a

@@ -1,11 +1,11 @@
 // A literal without dividing space, comments and `_`; inside quotes every byte stays.
 ghost use Rattle.std.specs.Prelude.{◌≡◌};
 ghost use Rattle.rules.specs.Class.{has};
-ghost use Rattle.buffer.specs.Puts.{Puts};
+ghost use Rattle.buffer.specs.Appends.{Appends};
 ghost use Rattle.form.specs.Bare;
 ghost use Rattle.leaf.specs.Bare.{where_of, kept_bytes};
 
-use buffer::put;
+use buffer::Writer;
 
 const GRAVE: u8 = b'`';
 
@@ -53,10 +53,7 @@ fn behind(place: Where, b: u8) -> Where
 fn dropped(b: u8) -> bool
     ensures { result ≡ has Bare.dropped b }
 {
-    match b {
-        0x09 | 0x0A | 0x0D | 0x20 | GRAVE | b'_' => true,
-        _ => false,
-    }
+    matches!(b, 0x09 | 0x0A | 0x0D | 0x20 | GRAVE | b'_')
 }
 
 // Inside quotes every byte is kept, inside a comment none.
@@ -71,27 +68,21 @@ fn kept(place: Where, b: u8) -> bool
 }
 
 // The byte, if it is kept.
-fn put_kept(place: Where, b: u8, buffer: &mut [u8], at: usize) -> usize
-    ensures { Puts buffer.old at (kept_bytes (where_of place) b) buffer.new result }
+fn put_kept(place: Where, b: u8, out: &mut Writer)
+    ensures { Appends out.old (kept_bytes (where_of place) b) out.new }
 {
     if kept(place, b) {
-        return put(buffer, at, b);
+        out.put(b);
     }
-    at
 }
 
 // The literal's bytes that are kept.
-pub(crate) fn bare(literal: &[u8], buffer: &mut [u8], at: usize) -> usize
-    ensures { Puts buffer.old at (Bare.bare literal.now) buffer.new result }
+pub(crate) fn bare(literal: &[u8], out: &mut Writer)
+    ensures { Appends out.old (Bare.bare literal.now) out.new }
 {
     let mut place = Where::Outside;
-    let mut i = 0;
-    let mut n = at;
-    while i < literal.len() {
-        let b = literal[i];
-        n = put_kept(place, b, buffer, n);
-        place = behind(place, b);
-        i += 1;
+    for b in literal {
+        put_kept(place, *b, out);
+        place = behind(place, *b);
     }
-    n
 }

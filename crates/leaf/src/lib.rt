@@ -6,11 +6,12 @@ mod bare;
 mod names;
 mod spelling;
 
-ghost use Rattle.buffer.specs.Wrote.{Wrote};
+ghost use Rattle.buffer.specs.Appends.{AppendsPart};
 ghost use Rattle.leaf.specs.Leaves.{LeafBytes};
 
 use crate::bare::bare;
 use crate::names::names;
+use buffer::Writer;
 
 // Of the kinds without children those below Text are literals, and a Nesting comes behind it.
 const TEXT: u32 = 7;
@@ -26,20 +27,18 @@ pub struct Node {
 
 // A node that is no bracket, if its bytes are of the text.
 #[tactic(auto, using(crate::proofs::Spellings::bare_leaf))]
-pub fn leaf(text: &[u8], node: Node, buffer: &mut [u8], at: usize) -> usize
-    ensures { Wrote (LeafBytes text.now node) buffer.old at buffer.new result }
+pub fn leaf(text: &[u8], node: Node, out: &mut Writer)
+    ensures { AppendsPart (LeafBytes text.now node) out.old out.new }
 {
-    let kind = node.kind;
-    let first = node.first;
-    let end = node.end;
-    if end > text.len() {
-        return at;
-    }
-    if first > end {
-        return at;
+    let Node {
+        kind, first, end, ..
+    } = node;
+    if end > text.len() || first > end {
+        return;
     }
     if kind < TEXT {
-        return bare(&text[first..end], buffer, at);
+        bare(&text[first..end], out);
+    } else {
+        names(text, first, end, out);
     }
-    names(text, first, end, buffer, at)
 }

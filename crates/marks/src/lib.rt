@@ -1,12 +1,12 @@
 // What opens, joins and closes a bracket, by the numbers of kind, role and detail. What is written is told for every number.
-#![tactic(auto)]
+#![tactic(auto, using(buffer::proofs::Appending::appends_nothing))]
 
 ghost use Rattle.std.specs.Prelude.{◌≡◌};
-ghost use Rattle.buffer.specs.Puts.{Puts};
+ghost use Rattle.buffer.specs.Appends.{Appends};
 ghost use Rattle.form.proofs.Walk.{sign_bytes, comma as comma_bytes, last_sign_of};
 ghost use Rattle.marks.specs.ByNumber.{opening_by, closing_by, lead_by, counted_by, last_comma_of, tail_by};
 
-use buffer::{copy, put};
+use buffer::Writer;
 
 // Kinds by their numbers. Those below Pair have no children.
 pub const PAIR: u32 = 9;
@@ -42,73 +42,72 @@ const HIGH: u32 = 8;
 
 const SINGLE: u32 = 9;
 
-pub fn open(kind: u32, buffer: &mut [u8], at: usize) -> usize
-    ensures { Puts buffer.old at (opening_by kind) buffer.new result }
+pub fn open(kind: u32, out: &mut Writer)
+    ensures { Appends out.old (opening_by kind) out.new }
 {
     match kind {
-        PAIR | TUPLE => put(buffer, at, b'('),
-        LOT => put(buffer, at, b'{'),
-        ARRAY => copy(b"(Array:{", buffer, at),
-        SET => copy(b"(Set:{", buffer, at),
-        BAG => copy(b"(Bag:{", buffer, at),
-        _ => put(buffer, at, b'['),
+        PAIR | TUPLE => out.put(b'('),
+        LOT => out.put(b'{'),
+        ARRAY => out.copy(b"(Array:{"),
+        SET => out.copy(b"(Set:{"),
+        BAG => out.copy(b"(Bag:{"),
+        _ => out.put(b'['),
     }
 }
 
-pub fn close(kind: u32, buffer: &mut [u8], at: usize) -> usize
-    ensures { Puts buffer.old at (closing_by kind) buffer.new result }
+pub fn close(kind: u32, out: &mut Writer)
+    ensures { Appends out.old (closing_by kind) out.new }
 {
     match kind {
-        PAIR | TUPLE => put(buffer, at, b')'),
-        LOT => put(buffer, at, b'}'),
-        ARRAY | SET | BAG => copy(b"})", buffer, at),
-        _ => put(buffer, at, b']'),
+        PAIR | TUPLE => out.put(b')'),
+        LOT => out.put(b'}'),
+        ARRAY | SET | BAG => out.copy(b"})"),
+        _ => out.put(b']'),
     }
 }
 
 // The sign of an Interval by its detail; an empty one and a single value have none.
-fn sign(detail: u32, buffer: &mut [u8], at: usize) -> usize
-    ensures { Puts buffer.old at (sign_bytes detail) buffer.new result }
+fn sign(detail: u32, out: &mut Writer)
+    ensures { Appends out.old (sign_bytes detail) out.new }
 {
     match detail {
-        2 => copy(b"<=*<=", buffer, at),
-        3 => copy(b"<=*<", buffer, at),
-        4 => copy(b"<*<=", buffer, at),
-        5 => copy(b"<*<", buffer, at),
-        6 => copy(b"<=*", buffer, at),
-        7 => copy(b"<*", buffer, at),
-        8 => copy(b"*<=", buffer, at),
-        9 => copy(b"*<", buffer, at),
-        10 => put(buffer, at, b'*'),
-        11 => copy(b"..", buffer, at),
-        _ => at,
+        2 => out.copy(b"<=*<="),
+        3 => out.copy(b"<=*<"),
+        4 => out.copy(b"<*<="),
+        5 => out.copy(b"<*<"),
+        6 => out.copy(b"<=*"),
+        7 => out.copy(b"<*"),
+        8 => out.copy(b"*<="),
+        9 => out.copy(b"*<"),
+        10 => out.put(b'*'),
+        11 => out.copy(b".."),
+        _ => {}
     }
 }
 
 // In front of a further member, `before` being the role of the child in front, or no child's.
-fn comma(before: u32, buffer: &mut [u8], at: usize) -> usize
-    ensures { Puts buffer.old at (comma_bytes before) buffer.new result }
+fn comma(before: u32, out: &mut Writer)
+    ensures { Appends out.old (comma_bytes before) out.new }
 {
-    if before == ROOT {
-        return at;
+    if before != ROOT {
+        out.put(b',');
     }
-    put(buffer, at, b',')
 }
 
 // In front of a child of this role, in a bracket with this detail.
-pub fn lead(detail: u32, before: u32, role: u32, buffer: &mut [u8], at: usize) -> usize
-    ensures { Puts buffer.old at (lead_by detail before role) buffer.new result }
+pub fn lead(detail: u32, before: u32, role: u32, out: &mut Writer)
+    ensures { Appends out.old (lead_by detail before role) out.new }
 {
     match role {
-        THAT_AFTER | COUNT => put(buffer, at, b':'),
+        THAT_AFTER | COUNT => out.put(b':'),
         VALUE => if before == NAME {
-            put(buffer, at, b':')
+            out.put(b':')
         } else {
-            comma(before, buffer, at)
+            comma(before, out)
         },
-        HIGH => sign(detail, buffer, at),
-        ROOT | LOW | SINGLE => at,
-        _ => comma(before, buffer, at),
+        HIGH => sign(detail, out),
+        ROOT | LOW | SINGLE => {}
+        _ => comma(before, out),
     }
 }
 
@@ -141,32 +140,32 @@ pub fn counted(done: Attributes, role: u32) -> Attributes
 }
 
 // The comma of a Tuple's single attribute.
-fn last_comma(done: Attributes, buffer: &mut [u8], at: usize) -> usize
-    ensures { Puts buffer.old at (last_comma_of done) buffer.new result }
+fn last_comma(done: Attributes, out: &mut Writer)
+    ensures { Appends out.old (last_comma_of done) out.new }
 {
     match done {
-        Attributes::Name | Attributes::One => put(buffer, at, b','),
-        Attributes::No | Attributes::More => at,
+        Attributes::Name | Attributes::One => out.put(b','),
+        Attributes::No | Attributes::More => {}
     }
 }
 
 // The sign of an Interval without a high bound, which stands last.
-fn last_sign(detail: u32, buffer: &mut [u8], at: usize) -> usize
-    ensures { Puts buffer.old at (last_sign_of detail) buffer.new result }
+fn last_sign(detail: u32, out: &mut Writer)
+    ensures { Appends out.old (last_sign_of detail) out.new }
 {
     match detail {
-        6 | 7 | 10 => sign(detail, buffer, at),
-        _ => at,
+        6 | 7 | 10 => sign(detail, out),
+        _ => {}
     }
 }
 
 // Behind the last child.
-pub fn tail(kind: u32, detail: u32, done: Attributes, buffer: &mut [u8], at: usize) -> usize
-    ensures { Puts buffer.old at (tail_by kind detail done) buffer.new result }
+pub fn tail(kind: u32, detail: u32, done: Attributes, out: &mut Writer)
+    ensures { Appends out.old (tail_by kind detail done) out.new }
 {
     match kind {
-        TUPLE => last_comma(done, buffer, at),
-        INTERVAL => last_sign(detail, buffer, at),
-        _ => at,
+        TUPLE => last_comma(done, out),
+        INTERVAL => last_sign(detail, out),
+        _ => {}
     }
 }

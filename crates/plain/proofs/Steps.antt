@@ -6,9 +6,9 @@ use native.Mathlib.Omega.{arith}
 use lib.ListN.{length, length-append}
 use Rattle.grammar.specs.Nodes
 use Rattle.grammar.specs.Nodes.{Role, role_number, role_word, word_at}
-use Rattle.buffer.specs.Puts.{largest, Puts}
-use Rattle.buffer.specs.Wrote.{Wrote}
-use Rattle.buffer.proofs.Puts.{puts_none, puts_then, puts_same, puts_length}
+use Rattle.buffer.specs.declared.Writer.{Writer}
+use Rattle.buffer.specs.Appends.{Appends, AppendsPart}
+use Rattle.buffer.proofs.Appending.{appends_none, appends_then, appends_same, appends_length}
 use Rattle.grammar.proofs.Branches.{Branches, none, more, flat, flats}
 use Rattle.form.proofs.Walk.{Listed, no_more, child, turned, lead, role_of, one_attribute}
 use Rattle.marks.specs.declared.Attributes.{Attributes}
@@ -55,7 +55,7 @@ behind_alone other =
 module _ (text words : List ℕ) (detail stop : ℕ) where
   -- bs is done as far as the children before the index i, behind one of the role with the number before; the other
   -- children stand from there up to stop. All children are one attribute if these are, behind those that are counted
-  record Rest (all : Branches) (bs t : List ℕ) (k : ℕ) (u : List ℕ) (n before : ℕ) (count : Attributes) (i : ℕ) : Type 0 where
+  record Rest (all : Branches) (bs : List ℕ) (u v : Writer) (before : ℕ) (count : Attributes) (i : ℕ) : Type 0 where
     done : List ℕ
     left : List ℕ
     children : Branches
@@ -64,17 +64,17 @@ module _ (text words : List ℕ) (detail stop : ℕ) where
     listed : Listed text detail before children left
     bytes_are : bs ≡ done ++ left
     stop_is : stop ≡ i + length (flats children parent i)
-    puts : Puts t k done u n
+    appends : Appends u done v
     one_is : one_attribute all ≡ one_behind count children
 
-  module _ (before : ℕ) (count : Attributes) {all : Branches} {bs t u v w : List ℕ} {k n m o i then j held : ℕ} {counted : Attributes} (here : i < stop) (role_is : held ≡ word_at words i role_word)
-      (led : Puts u n (lead_by detail before held) v m) (written : Wrote (ChildBytes text words held i) v m w o)
+  module _ (before : ℕ) (count : Attributes) {all : Branches} {bs : List ℕ} {u v w x : Writer} {i then j held : ℕ} {counted : Attributes} (here : i < stop) (role_is : held ≡ word_at words i role_word)
+      (led : Appends v (lead_by detail before held) w) (written : AppendsPart (ChildBytes text words held i) w x)
       (past : Past words i then) (behind : Behind words held then j) (counted_is : counted ≡ counted_by count held) where
     -- the child's bytes, and the children behind it
     on : (r : Role) (p : ℕ) {taken done ms : List ℕ} {cs : Branches} {place : ℕ} → held ≡ role_number r → ChildBytes text words held i taken →
         j ≡ place → From words cs p place → stop ≡ place + length (flats cs p place) → Listed text detail (role_number r) cs ms →
-        bs ≡ done ++ (lead detail before r ++ taken ++ ms) → Puts t k done u n →
-        one_attribute all ≡ one_behind (counted_by count (role_number r)) cs → Rest all bs t k w o held counted j
+        bs ≡ done ++ (lead detail before r ++ taken ++ ms) → Appends u done v →
+        one_attribute all ≡ one_behind (counted_by count (role_number r)) cs → Rest all bs u x held counted j
     on r p {taken} {done} {ms} {cs} h c is f s l e q y =
         let ld = lead detail before r in
         record {
@@ -86,16 +86,16 @@ module _ (text words : List ℕ) (detail stop : ℕ) where
           listed = subst (λ (z : ℕ). Listed text detail z cs ms) (sym h) l;
           bytes_are = e ∙ sym (append_assoc done (ld ++ taken) ms);
           stop_is = subst (λ (z : ℕ). stop ≡ z + length (flats cs p z)) (sym is) s;
-          puts = puts_then q (puts_then (puts_same (ap (lead_by detail before) h ∙ leads detail before r) led) (written.puts taken c));
+          appends = appends_then q (appends_then (appends_same (ap (lead_by detail before) h ∙ leads detail before r) led) (written.appends taken c));
           one_is = y ∙ sym (ap (λ (z : Attributes). one_behind z cs) (counted_is ∙ ap (counted_by count) h));
         }
 
-    rest_on : Rest all bs t k u n before count i → Rest all bs t k w o held counted j
-    rest_on x =
-        go x.children x.done x.left x.parent x.from x.listed x.bytes_are x.stop_is x.puts x.one_is
+    rest_on : Rest all bs u v before count i → Rest all bs u x held counted j
+    rest_on r =
+        go r.children r.done r.left r.parent r.from r.listed r.bytes_are r.stop_is r.appends r.one_is
       where
         go : (cs : Branches) (done left : List ℕ) (p : ℕ) → From words cs p i → Listed text detail before cs left → bs ≡ done ++ left →
-            stop ≡ i + length (flats cs p i) → Puts t k done u n → one_attribute all ≡ one_behind count cs → Rest all bs t k w o held counted j
+            stop ≡ i + length (flats cs p i) → Appends u done v → one_attribute all ≡ one_behind count cs → Rest all bs u x held counted j
         go none done left p f no_more e s q c = absurd (omega (arith, here, s))
         go (more a cs) done left p f (child other walked l) e s q c =
             let y = from_first a cs p f in
@@ -125,14 +125,15 @@ module _ (text words : List ℕ) (detail stop : ℕ) where
 
   -- ---- the loop
 
-  -- at the index i, the children standing from the index first on, and t, k being the buffer and the place before them
-  pub record Going (first : ℕ) (t : List ℕ) (k : ℕ) (u : List ℕ) (n before : ℕ) (count : Attributes) (i : ℕ) : Type 0 where
-    rest_of : (cs : Branches) (bs : List ℕ) → Children words first stop cs → Listed text detail 0 cs bs → Rest cs bs t k u n before count i
-    pub same_length : length u ≡ length t
+  -- at the index i, the children standing from the index first on, and u being the writer before them
+  pub record Going (first : ℕ) (u v : Writer) (before : ℕ) (count : Attributes) (i : ℕ) : Type 0 where
+    rest_of : (cs : Branches) (bs : List ℕ) → Children words first stop cs → Listed text detail 0 cs bs → Rest cs bs u v before count i
+    pub same_buffer : v.buffer.ghost_name ≡ u.buffer.ghost_name
+    pub same_length : length v.buffer.now ≡ length u.buffer.now
     pub onward : first ≤ i
 
-  pub going_starts : (first : ℕ) (t : List ℕ) (k : ℕ) → length t ≤ largest → k ≤ largest → Going first t k t k 0 Attributes.No first
-  going_starts first t k l h =
+  pub going_starts : (first : ℕ) (u : Writer) → Going first u u 0 Attributes.No first
+  going_starts first u =
       record {
         rest_of = λ cs bs x listed.
             record {
@@ -144,35 +145,37 @@ module _ (text words : List ℕ) (detail stop : ℕ) where
               listed = listed;
               bytes_are = refl;
               stop_is = x.stop_is;
-              puts = puts_none t k l h;
+              appends = appends_none u;
               one_is = refl;
             };
+        same_buffer = refl;
         same_length = refl;
         onward = omega arith;
       }
 
-  pub going_on : {first : ℕ} {t u v w : List ℕ} {k n m o before i then j held : ℕ} {count counted : Attributes} → i < stop → held ≡ word_at words i role_word →
-      Puts u n (lead_by detail before held) v m → Wrote (ChildBytes text words held i) v m w o → Past words i then →
-      Behind words held then j → counted ≡ counted_by count held → Going first t k u n before count i → Going first t k w o held counted j
-  going_on here role_is led written past behind counted_is x =
+  pub going_on : {first : ℕ} {u v w x : Writer} {before i then j held : ℕ} {count counted : Attributes} → i < stop → held ≡ word_at words i role_word →
+      Appends v (lead_by detail before held) w → AppendsPart (ChildBytes text words held i) w x → Past words i then →
+      Behind words held then j → counted ≡ counted_by count held → Going first u v before count i → Going first u x held counted j
+  going_on here role_is led written past behind counted_is g =
       record {
-        rest_of = λ cs bs c l. rest_on _ _ here role_is led written past behind counted_is (x.rest_of cs bs c l);
-        same_length = written.same_length ∙ puts_length led ∙ x.same_length;
-        onward = omega (arith, past.not_before, behind.not_before, x.onward);
+        rest_of = λ cs bs c l. rest_on _ _ here role_is led written past behind counted_is (g.rest_of cs bs c l);
+        same_buffer = written.same_buffer ∙ led.same_buffer ∙ g.same_buffer;
+        same_length = written.same_length ∙ appends_length led ∙ g.same_length;
+        onward = omega (arith, past.not_before, behind.not_before, g.onward);
       }
 
   -- behind the last child all of them are done, and counted
-  pub going_ends : {first : ℕ} {t u : List ℕ} {k n before i : ℕ} {count : Attributes} → stop ≤ i → Going first t k u n before count i →
+  pub going_ends : {first : ℕ} {u v : Writer} {before i : ℕ} {count : Attributes} → stop ≤ i → Going first u v before count i →
       (cs : Branches) (bs : List ℕ) → Children words first stop cs → Listed text detail 0 cs bs →
-      Puts t k bs u n × (one_attribute cs ≡ one_behind count none)
-  going_ends {t = t} {u} {k} {n} {before} {i} {count} ended x cs bs c l = all (x.rest_of cs bs c l)
+      Appends u bs v × (one_attribute cs ≡ one_behind count none)
+  going_ends {u = u} {v} {before} {i} {count} ended g cs bs c l = all (g.rest_of cs bs c l)
     where
-      all : Rest cs bs t k u n before count i → Puts t k bs u n × (one_attribute cs ≡ one_behind count none)
-      all r = go r.children r.done r.left r.parent r.listed r.bytes_are r.stop_is r.puts r.one_is
+      all : Rest cs bs u v before count i → Appends u bs v × (one_attribute cs ≡ one_behind count none)
+      all r = go r.children r.done r.left r.parent r.listed r.bytes_are r.stop_is r.appends r.one_is
         where
           go : (ds : Branches) (done left : List ℕ) (p : ℕ) → Listed text detail before ds left → bs ≡ done ++ left →
-              stop ≡ i + length (flats ds p i) → Puts t k done u n → one_attribute cs ≡ one_behind count ds →
-              Puts t k bs u n × (one_attribute cs ≡ one_behind count none)
-          go none done left p no_more e s q y = (puts_same (sym (e ∙ append-nil done)) q, y)
+              stop ≡ i + length (flats ds p i) → Appends u done v → one_attribute cs ≡ one_behind count ds →
+              Appends u bs v × (one_attribute cs ≡ one_behind count none)
+          go none done left p no_more e s q y = (appends_same (sym (e ∙ append-nil done)) q, y)
           go (more a ds) done left p z e s q y =
               absurd (omega (arith, ended, s, some_node a p i, length-append (flat a p i) (flats ds p (i + length (flat a p i)))))

@@ -8,13 +8,30 @@ mod value;
 
 ghost use Rattle.reading.specs.Sizes.{base, old_rules};
 ghost use Rattle.form.specs.Writes.{Writes, Converts};
+ghost use Rattle.plain.specs.Nodes.{NodeBytes};
 ghost use Rattle.plain.specs.Calls.{Filled, Fitted};
+ghost use Rattle.buffer.specs.Wrote.{Wrote};
 
-use crate::value::write_node;
+use crate::node::Nodes;
+use crate::value::Source;
+use buffer::Writer;
 use grammar::NODE_WORDS;
 use reading::{Answer, TABLE};
 use tabled::judge;
 use tree::read::read_old;
+
+// The plain form of the nodes, from the buffer's start on, and how many bytes it has.
+fn put_plain(text: &[u8], nodes: &[u32], buffer: &mut [u8]) -> usize
+    ensures { Wrote (NodeBytes text.now nodes.now 0) buffer.old 0 buffer.new result }
+{
+    let mut out = Writer::new(buffer);
+    let source = Source {
+        text,
+        nodes: Nodes { words: nodes },
+    };
+    source.write_node(0, &mut out);
+    out.at
+}
 
 // The plain form of the nodes, into a buffer that has room for it.
 fn fill(text: &[u8], nodes: &[u32], buffer: &mut [u8]) -> Answer
@@ -23,7 +40,7 @@ fn fill(text: &[u8], nodes: &[u32], buffer: &mut [u8]) -> Answer
     Answer {
         number: 0,
         place: text.len(),
-        count: write_node(text, nodes, 0, buffer, 0),
+        count: put_plain(text, nodes, buffer),
     }
 }
 
@@ -35,7 +52,7 @@ fn fit(text: &[u8], nodes: &[u32], buffer: &mut [u8]) -> Answer
     if buffer.len() / 2 >= text.len() {
         return fill(text, nodes, buffer);
     }
-    let needed = write_node(text, nodes, 0, &mut buffer[..0], 0);
+    let needed = put_plain(text, nodes, &mut buffer[..0]);
     if buffer.len() < needed {
         return Answer {
             number: 8,

@@ -1,4 +1,4 @@
-// Nodes of a table, by index.
+// The nodes of a table, by index.
 ghost use Rattle.std.specs.Prelude.{◌≡◌, ◌/◌, ◌<◌, length};
 ghost use Rattle.grammar.specs.Nodes.{node_words, role_word, word_at};
 ghost use Rattle.plain.specs.Nodes.{Inside, Tells, Past};
@@ -6,53 +6,55 @@ ghost use Rattle.plain.specs.Nodes.{Inside, Tells, Past};
 use grammar::{DETAIL, END, FIRST, KIND, NODE_WORDS, ROLE, SKIP};
 use leaf::Node;
 
-pub(crate) fn count(nodes: &[u32]) -> usize
-    ensures { result ≡ length nodes.now / node_words }
-{
-    nodes.len() / NODE_WORDS
+// A table of nodes, by its words.
+#[derive(Clone, Copy)]
+pub(crate) struct Nodes<'a> {
+    pub(crate) words: &'a [u32],
 }
 
-fn word(nodes: &[u32], index: usize, k: usize) -> u32
-    requires { Inside nodes.now index × (k < node_words) }
-    ensures { result ≡ word_at nodes.now index k }
-{
-    nodes[index * NODE_WORDS + k]
-}
+impl Nodes<'_> {
+    pub(crate) fn count(&self) -> usize
+        ensures { result ≡ length self.now.words.now / node_words }
+    {
+        self.words.len() / NODE_WORDS
+    }
 
-pub(crate) fn node_at(nodes: &[u32], index: usize) -> Node
-    requires { Inside nodes.now index }
-    ensures { Tells nodes.now index result }
-{
-    Node {
-        kind: word(nodes, index, KIND),
-        first: word(nodes, index, FIRST) as usize,
-        end: word(nodes, index, END) as usize,
-        detail: word(nodes, index, DETAIL),
+    fn word(&self, index: usize, k: usize) -> u32
+        requires { Inside self.now.words.now index × (k < node_words) }
+        ensures { result ≡ word_at self.now.words.now index k }
+    {
+        self.words[index * NODE_WORDS + k]
     }
-}
 
-pub(crate) fn role(nodes: &[u32], index: usize) -> u32
-    requires { Inside nodes.now index }
-    ensures { result ≡ word_at nodes.now index role_word }
-{
-    word(nodes, index, ROLE)
-}
+    pub(crate) fn node_at(&self, index: usize) -> Node
+        requires { Inside self.now.words.now index }
+        ensures { Tells self.now.words.now index result }
+    {
+        Node {
+            kind: self.word(index, KIND),
+            first: self.word(index, FIRST) as usize,
+            end: self.word(index, END) as usize,
+            detail: self.word(index, DETAIL),
+        }
+    }
 
-// The index just past the node's last descendant, as its word tells: in any table it is behind the node, and at most the count of nodes.
-// Where no node is at the index, it is the index itself.
-pub(crate) fn past(nodes: &[u32], index: usize) -> usize
-    ensures { Past nodes.now index result }
-{
-    let all = count(nodes);
-    if index >= all {
-        return index;
+    pub(crate) fn role(&self, index: usize) -> u32
+        requires { Inside self.now.words.now index }
+        ensures { result ≡ word_at self.now.words.now index role_word }
+    {
+        self.word(index, ROLE)
     }
-    let told = word(nodes, index, SKIP) as usize;
-    if told <= index {
-        return index + 1;
+
+    // The index just past the node's last descendant, as its word tells: in any table it is behind the node, and at most the count of
+    // nodes. Where no node is at the index, it is the index itself.
+    pub(crate) fn past(&self, index: usize) -> usize
+        ensures { Past self.now.words.now index result }
+    {
+        let all = self.count();
+        if index >= all {
+            return index;
+        }
+        let told = self.word(index, SKIP) as usize;
+        told.clamp(index + 1, all)
     }
-    if told > all {
-        return all;
-    }
-    told
 }

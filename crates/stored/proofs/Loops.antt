@@ -6,11 +6,15 @@ use native.Mathlib.Decide.{dec_le}
 use native.Mathlib.Omega.{arith}
 use lib.ListN.{length, get_or, take}
 use lib.Seq.{ext_get_or}
+use Rattle.std.proofs.lemmas.List.{take_all}
 use Rattle.grammar.specs.Tree.{Value}
 use Rattle.files.specs.File.{file}
 use Rattle.files.proofs.Bytes.{file_length}
+use Rattle.buffer.specs.declared.Writer.{Writer}
 use Rattle.buffer.specs.Puts.{Puts}
-use Rattle.buffer.proofs.Puts.{puts_same, puts_next, puts_all, puts_ends}
+use Rattle.buffer.specs.Appends.{Appends}
+use Rattle.buffer.proofs.Puts.{puts_same, puts_ends}
+use Rattle.buffer.proofs.Appending.{appends_same, appends_next}
 use Rattle.stored.specs.Holds.{Holds}
 
 module _ {t : List ℕ} {nodes size : ℕ} {text : List ℕ} {v : Value} (held : Holds t nodes size text v) where
@@ -20,18 +24,17 @@ module _ {t : List ℕ} {nodes size : ℕ} {text : List ℕ} {v : Value} (held :
 
   -- ---- put
 
-  pub put_more : {lent left left' : List ℕ} {at b n : ℕ} → at < 9 + 12 * nodes → nodes ≤ 1024 → b ≡ get_or (file text v) at 0 →
-      Puts lent 0 (take at (file text v)) left at → Puts left at (b ∷ []) left' n → Puts lent 0 (take n (file text v)) left' n
-  put_more {lent} {left} {left'} {at} {b} {n} h small e p q =
-      let m : n ≡ at + 1 = omega (arith, puts_ends q (omega (arith, h, small))) in
-      subst (λ (k : ℕ). Puts lent 0 (take k (file text v)) left' n) (sym m)
-      (puts_next (file text v) at (omega (arith, h, told_length)) p (puts_same (ap (λ (x : ℕ). x ∷ []) e) q))
+  pub put_more : {u w x : Writer} (at : ℕ) {b : ℕ} → at < 9 + 12 * nodes → b ≡ get_or (file text v) at 0 → Appends u (take at (file text v)) w →
+      Appends w (b ∷ []) x → Appends u (take (at + 1) (file text v)) x
+  put_more at h e p q = appends_next (file text v) at (omega (arith, h, told_length)) p (appends_same (ap (λ (x : ℕ). x ∷ []) e) q)
 
-  pub put_all : {lent left : List ℕ} {at : ℕ} → at ≡ 9 + 12 * nodes → Puts lent 0 (take at (file text v)) left at →
+  -- the place behind them is not past the largest
+  pub put_all : {lent left : List ℕ} {at n : ℕ} → at ≡ 9 + 12 * nodes → nodes ≤ 1024 → Puts lent 0 (take at (file text v)) left n →
       Puts lent 0 (file text v) left (length (file text v))
-  put_all {lent} {left} {at} e p =
-      let m : at ≡ length (file text v) = omega (arith, e, told_length) in
-      subst (λ (k : ℕ). Puts lent 0 (file text v) left k) m (puts_all (file text v) at m p)
+  put_all {lent} {left} {at} {n} e small p =
+      let q = puts_same (take_all at (file text v) (omega (arith, e, told_length))) p in
+      let m : n ≡ length (file text v) = omega (arith, puts_ends q (omega (arith, told_length, small))) in
+      subst (λ (k : ℕ). Puts lent 0 (file text v) left k) m q
 
   -- ---- compared
 

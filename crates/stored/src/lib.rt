@@ -16,6 +16,7 @@ ghost use Rattle.files.specs.Checks.{Unmarked, OtherVersion, Stored, Checks};
 ghost use Rattle.stored.specs.Holds.{Whenever};
 
 use crate::byte::{MARK, VERSION, byte_at, byte_of};
+use buffer::Writer;
 use reading::{Answer, TABLE};
 use tree::read::{read, read_old};
 
@@ -39,9 +40,9 @@ fn fill(table: &[u32], nodes: usize, size: usize, buffer: &mut [u8])
     ensures { Whenever table.now nodes size (λ text v. Puts buffer.old 0 (file_of text v) buffer.new (length (file_of text v))) }
 {
     let needed = file_bytes(nodes);
-    let mut at = 0;
-    while at < needed {
-        at = buffer::put(buffer, at, byte_at(table, nodes, size, at));
+    let mut out = Writer::new(buffer);
+    for at in 0..needed {
+        out.put(byte_at(table, nodes, size, at));
     }
 }
 

@@ -1,9 +1,9 @@
 -- The number of a code point literal. Assumes nothing.
 use mathlib.Core.Path.{◌≡◌, sym, ap, ◌∙◌}
 use mathlib.Core.List.{List, foldl}
-use Prim.Native.Nat.{ℕ, suc, ◌+◌, ◌-◌, ◌≤◌, ◌<◌, min}
+use Prim.Native.Nat.{ℕ, ◌+◌, ◌-◌, ◌≤◌, ◌<◌, min}
 use native.Mathlib.Omega.{arith}
-use lib.ListN.{length, get_or}
+use lib.ListN.{length, take, drop}
 use Rattle.rules.specs.Rule.{lit, Takes, both}
 use Rattle.rules.proofs.Matches.{forward, inside}
 use Rattle.lexicon.specs.declared.Base.{Base}
@@ -14,11 +14,12 @@ use Rattle.lexicon.specs.Literals.{code_of_base, code_point_of}
 use Rattle.lexicon.specs.Limited.{limit, limited}
 use Rattle.lexicon.specs.Values.{read, CodeOf}
 use Rattle.lexicon.proofs.Bases.{size_radix, some_base}
-use Rattle.lexicon.proofs.Limits.{limited_value, read_more}
+use Rattle.lexicon.proofs.Limits.{limited_value}
 use Rattle.lexicon.specs.Parts.{Marked}
 use Rattle.string.specs.Parts.{number_at}
 use Rattle.lexicon.proofs.Marks.{begins, mark_long, first_digit}
 use Rattle.text_value.specs.Parts.{CodeIs}
+use Rattle.text_value.proofs.Copies.{part_read}
 
 module _ (piece : List ℕ) where
   -- ---- the mark
@@ -37,37 +38,14 @@ module _ (piece : List ℕ) where
 
   -- ---- the digits
 
-  pub record Counted (n : ℕ) (i j v : ℕ) : Type 0 where
-    pub ahead : i ≤ j
-    pub sum : v ≡ foldl (limited n) 0 (read piece i (j - i))
-
-  pub counted_none : (n i : ℕ) → Counted n i i 0
-  counted_none n i =
-      let e : 0 ≡ i - i = omega arith in
-      record { ahead = omega arith; sum = ap (λ (k : ℕ). foldl (limited n) 0 (read piece i k)) e }
-
-  pub counted_more : {n i j v w : ℕ} → Counted n i j v → w ≡ limited n v (get_or piece j 0) → Counted n i (j + 1) w
-  counted_more {n} {i} {j} c f =
-      let h = c.ahead in
-      let e : suc (j - i) ≡ j + 1 - i = omega arith in
-      let p : j ≡ i + (j - i) = omega arith in
-      record {
-        ahead = omega arith;
-        sum =
-            f
-            ∙ ap (λ (x : ℕ). limited n x (get_or piece j 0)) c.sum
-            ∙ ap (λ (k : ℕ). limited n (foldl (limited n) 0 (read piece i (j - i))) (get_or piece k 0)) p
-            ∙ sym (read_more (limited n) piece 0 i (j - i))
-            ∙ ap (λ (k : ℕ). foldl (limited n) 0 (read piece i k)) e;
-      }
-
-  pub counted_all : {n i j k v : ℕ} (b : Base) {s : Set} → n ≡ size s → s ≡ digit_set_of b → Counted n i j v → j ≡ k →
-      v ≡ min limit (number_at piece b i k)
-  counted_all {n} {i} {j} b p q c e =
-      c.sum
+  -- the sum of the bytes between two places, each taken for a digit
+  pub number_is : {n i j v : ℕ} (b : Base) {s : Set} → n ≡ size s → s ≡ digit_set_of b → i ≤ j → j ≤ length piece →
+      v ≡ foldl (limited n) 0 (take (j - i) (drop i piece)) → v ≡ min limit (number_at piece b i j)
+  number_is {n} {i} {j} b p q h l e =
+      e
+      ∙ ap (foldl (limited n) 0) (part_read piece i (j - i) (omega (arith, h, l)))
       ∙ ap (λ (x : ℕ). foldl (limited x) 0 (read piece i (j - i))) (p ∙ ap size q ∙ size_radix b)
       ∙ limited_value (radix b) 0 (read piece i (j - i))
-      ∙ ap (λ (x : ℕ). min limit (number_at piece b i x)) e
 
   -- ---- its value
 

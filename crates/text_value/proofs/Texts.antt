@@ -6,6 +6,7 @@ use mathlib.Core.List.{List, ◌++◌}
 use Prim.Native.Nat.{ℕ, ◌≤◌, ◌<◌, min}
 use native.Mathlib.Omega.{arith}
 use lib.ListN.{length}
+use Rattle.std.specs.Borrow.{MutBor}
 use Rattle.rules.specs.Test.{Says}
 use Rattle.rules.specs.Rule.{Rule, Takes, left, right, Longest, Fails}
 use Rattle.rules.proofs.Tests.{refuted}
@@ -27,14 +28,17 @@ use Rattle.values.specs.Bytes.{no_room, accepted}
 use Rattle.values.specs.Text.{text_literal, BadText, TextBytes, TextAnswers}
 use Rattle.lexicon.specs.Encode.{encode, encoded}
 use Rattle.text_value.specs.Parts.{CodeIs, HasQuoted, WroteQuoted}
-use Rattle.text_value.specs.Shapes.{Shaped, Judged, WroteText}
+use Rattle.text_value.specs.Shapes.{Shaped, Judged, AppendsText, WroteText}
 use Rattle.values.proofs.Shapes.{no_word, no_code, word_code, quoted_good, word_good, code_good}
 use Rattle.values.proofs.Spelled.{quoted_same}
 use Rattle.values.proofs.Characters.{quoted_bytes_lem, word_same}
 use Rattle.values.proofs.Values.{code_of, quoted_of}
 use Rattle.values.proofs.Texts.{quoted_known, code_known, text_same, text_short}
+use Rattle.buffer.specs.declared.Writer.{Writer}
 use Rattle.buffer.specs.Puts.{largest, Puts}
-use Rattle.buffer.proofs.Puts.{puts_same, puts_ends, puts_start, puts_empty}
+use Rattle.buffer.specs.Appends.{Begins, Appends}
+use Rattle.buffer.proofs.Puts.{puts_ends, puts_start, puts_empty}
+use Rattle.buffer.proofs.Appending.{appends_same, put_in}
 use Rattle.text_value.proofs.Copies.{whole_read}
 use Rattle.text_value.proofs.Walks.{append_none}
 
@@ -98,15 +102,14 @@ module _ (piece : List ℕ) where
         let q = quoted_of piece x.0 in
         record { bytes = encoded q.0; is = quoted_bytes_lem piece q.1 (quoted_known piece q.1 x.1) refl }
 
-    pub wrote_quoted : {t t' : List ℕ} {n : ℕ} → WroteQuoted piece t t' n → WroteText piece t t' n
+    pub wrote_quoted : {u v : Writer} → WroteQuoted piece u v → AppendsText piece u v
     unfolding has_quoted
     wrote_quoted w =
         let q = quoted_of piece x.0 in
-        record { characters = q.0; is = quotes q.1; puts = puts_same (quoted_same piece w.is has_quoted.is refl) w.puts }
+        record { characters = q.0; is = quotes q.1; appends = appends_same (quoted_same piece w.is has_quoted.is refl) w.appends }
 
-  pub wrote_word : Shaped piece Shape.TheVariants.Word → {t t' : List ℕ} {n : ℕ} → Puts t 0 piece t' n →
-      WroteText piece t t' n
-  wrote_word x p = record { characters = _; is = bare x; puts = puts_same (whole_read piece ∙ sym (word_same piece x).0) p }
+  pub wrote_word : Shaped piece Shape.TheVariants.Word → {u v : Writer} → Appends u piece v → AppendsText piece u v
+  wrote_word x a = record { characters = _; is = bare x; appends = appends_same (whole_read piece ∙ sym (word_same piece x).0) a }
 
   module _ (x : Shaped piece Shape.TheVariants.CodePoint) {r : ℕ} (c : CodeIs piece 0 (length piece) r) where
     code_value : (r ≡ (code_of piece x.0).0) × (r < 0x110000)
@@ -119,10 +122,15 @@ module _ (piece : List ℕ) where
     pub code_fits : r < 0x110000
     code_fits = code_value.1
 
-    pub wrote_code : {t t' : List ℕ} {n : ℕ} → Puts t 0 (encode r) t' n → WroteText piece t t' n
-    wrote_code p =
+    pub wrote_code : {u v : Writer} → Appends u (encode r) v → AppendsText piece u v
+    wrote_code a =
         let v = code_of piece x.0 in
-        record { characters = _; is = coded v.1; puts = puts_same (ap encode code_value.0 ∙ sym (append_none (encode v.0))) p }
+        record { characters = _; is = coded v.1; appends = appends_same (ap encode code_value.0 ∙ sym (append_none (encode v.0))) a }
+
+  -- all of them, from the start of the buffer: t is its bytes when the writer is dropped
+  pub text_in : {lent : MutBor (List ℕ)} {t : List ℕ} {u v : Writer} → Begins lent u → AppendsText piece u v →
+      (lent.ghost_name ≡ v.buffer.ghost_name → t ≡ v.buffer.now) → WroteText piece lent.now t v.at
+  text_in b a f = record { characters = a.characters; is = a.is; puts = put_in b a.appends f }
 
   -- ---- the answer
 

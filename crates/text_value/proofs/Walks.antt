@@ -30,8 +30,9 @@ use Rattle.values.specs.QuotedBytes as Bytes
 use Rattle.values.proofs.Shapes.{code_takes}
 use Rattle.values.proofs.Spelled.{letter_angle, other_backslash, clash, item_same, item_quote, item_short}
 use Rattle.values.proofs.Spelled.{segment_begins, segment_same, segment_short, no_further_lem}
-use Rattle.buffer.specs.Puts.{largest, Puts}
-use Rattle.buffer.proofs.Puts.{puts_then, puts_none, puts_same}
+use Rattle.buffer.specs.declared.Writer.{Writer}
+use Rattle.buffer.specs.Appends.{Appends}
+use Rattle.buffer.proofs.Appending.{appends_none, appends_same, appends_then}
 use Rattle.text_value.proofs.Copies.{part_read}
 
 -- ---- letters
@@ -86,8 +87,8 @@ module _ (piece : List ℕ) where
           go (inl h) e = omega arith
           go (inr h) e = omega arith
 
-      pub angled_wrote : {t t' : List ℕ} {k n : ℕ} → Puts t k (encode r) t' n → Wrote (Angled piece) i (e + 1) t k t' n
-      angled_wrote p =
+      pub angled_wrote : {u v : Writer} → Appends u (encode r) v → Wrote (Angled piece) i (e + 1) u v
+      angled_wrote a =
           record {
             bytes = encode r;
             is =
@@ -100,7 +101,7 @@ module _ (piece : List ℕ) where
                   behind = ap (λ (x : ℕ). x + 1) angled_end;
                   bytes_are = ap encode angled_number;
                 };
-            puts = p;
+            appends = a;
           }
 
   pub angled_none : {i : ℕ} → Stands (Angled piece) i → Fails piece code_point_of i → ⊥
@@ -138,13 +139,13 @@ module _ (piece : List ℕ) where
         go (inl l) = n.no_letter l.0 l.1
         go (inr x) = n.no_angle (just_is 0x3C _ x.0.1)
 
-    pub letter_wrote : {c : ℕ} → Letter (get_or piece (i + 1) 0) c → {t t' : List ℕ} {k n : ℕ} → Puts t k (c ∷ []) t' n →
-        Wrote (Item piece) i (i + 2) t k t' n
-    letter_wrote l p = record { bytes = _; is = letter a escape_within l refl refl; puts = p }
+    pub letter_wrote : {c : ℕ} → Letter (get_or piece (i + 1) 0) c → {u v : Writer} → Appends u (c ∷ []) v →
+        Wrote (Item piece) i (i + 2) u v
+    letter_wrote l p = record { bytes = _; is = letter a escape_within l refl refl; appends = p }
 
-    pub number_wrote : get_or piece (i + 1) 0 ≡ 0x3C → {j : ℕ} {t t' : List ℕ} {k n : ℕ} → Wrote (Angled piece) (i + 2) j t k t' n →
-        Wrote (Item piece) i j t k t' n
-    number_wrote e w = record { bytes = w.bytes; is = number a (escape_within, is_just 0x3C _ e) w.is; puts = w.puts }
+    pub number_wrote : get_or piece (i + 1) 0 ≡ 0x3C → {j : ℕ} {u v : Writer} → Wrote (Angled piece) (i + 2) j u v →
+        Wrote (Item piece) i j u v
+    number_wrote e w = record { bytes = w.bytes; is = number a (escape_within, is_just 0x3C _ e) w.is; appends = w.appends }
 
   -- ---- the next quote
 
@@ -157,8 +158,8 @@ module _ (piece : List ℕ) where
 
   -- ---- a walk over the rest of an escaped segment: what is written, and what is left
 
-  module _ (at : ℕ) (lent : List ℕ) (count : ℕ) where
-    pub record Walk (t : List ℕ) (i n : ℕ) : Type 0 where
+  module _ (at : ℕ) (u : Writer) where
+    pub record Walk (v : Writer) (i : ℕ) : Type 0 where
       pub end : ℕ
       pub whole : List ℕ
       pub whole_is : Unescapes piece at end whole
@@ -166,10 +167,10 @@ module _ (piece : List ℕ) where
       pub rest_is : Unescapes piece i end rest
       pub done : List ℕ
       pub so_far : done ++ rest ≡ whole
-      pub puts : Puts lent count done t n
+      pub appends : Appends u done v
 
-    pub walk_begins : Stands (Unescapes piece) at → length lent ≤ largest → count ≤ largest → Walk lent at count
-    walk_begins s l h =
+    pub walk_begins : Stands (Unescapes piece) at → Walk u at
+    walk_begins s =
         record {
           end = s.end;
           whole = s.bytes;
@@ -178,10 +179,10 @@ module _ (piece : List ℕ) where
           rest_is = s.is;
           done = [];
           so_far = refl;
-          puts = puts_none lent count l h;
+          appends = appends_none u;
         }
 
-    module _ {t : List ℕ} {i n : ℕ} (w : Walk t i n) where
+    module _ {v : Writer} {i : ℕ} (w : Walk v i) where
       pub walk_within : i < length piece
       walk_within = go w.rest_is
         where
@@ -196,47 +197,47 @@ module _ (piece : List ℕ) where
           go (closed a e) = absurd (n a)
           go (Bytes.next x u) = record { end = _; bytes = _; is = x }
 
-      pub walk_byte : (At piece quote i → ⊥) → (At piece backslash i → ⊥) → {t' : List ℕ} {m : ℕ} →
-          Puts t n (get_or piece i 0 ∷ []) t' m → Wrote (Item piece) i (i + 1) t n t' m
-      walk_byte q b p = record { bytes = _; is = go (walk_item q).is; puts = p }
+      pub walk_byte : (At piece quote i → ⊥) → (At piece backslash i → ⊥) → {x : Writer} →
+          Appends v (get_or piece i 0 ∷ []) x → Wrote (Item piece) i (i + 1) v x
+      walk_byte q b p = record { bytes = _; is = go (walk_item q).is; appends = p }
         where
           go : {j : ℕ} {bs : List ℕ} → Item piece i j bs → Item piece i (i + 1) (get_or piece i 0 ∷ [])
           go (itself a e p) = itself a refl refl
           go (letter a h l e p) = absurd (b a)
           go (number a g c) = absurd (b a)
 
-      pub walk_next : (At piece quote i → ⊥) → {j m : ℕ} {t' : List ℕ} → Wrote (Item piece) i j t n t' m → Walk t' j m
-      walk_next q {j} {m} {t'} x = go w.rest_is w.so_far
+      pub walk_next : (At piece quote i → ⊥) → {j : ℕ} {x : Writer} → Wrote (Item piece) i j v x → Walk x j
+      walk_next q {j} {x} y = go w.rest_is w.so_far
         where
-          go : {rest : List ℕ} → Unescapes piece i w.end rest → w.done ++ rest ≡ w.whole → Walk t' j m
+          go : {rest : List ℕ} → Unescapes piece i w.end rest → w.done ++ rest ≡ w.whole → Walk x j
           go (closed a e) s = absurd (q a)
-          go (Bytes.next {bs = bs} {cs = cs} y u) s =
-              let z = item_same piece x.is y in
+          go (Bytes.next {bs = bs} {cs = cs} z r) s =
+              let same = item_same piece y.is z in
               record {
                 end = w.end;
                 whole = w.whole;
                 whole_is = w.whole_is;
                 rest = cs;
-                rest_is = subst (λ (k : ℕ). Unescapes piece k w.end cs) (sym z.0) u;
-                done = w.done ++ x.bytes;
+                rest_is = subst (λ (k : ℕ). Unescapes piece k w.end cs) (sym same.0) r;
+                done = w.done ++ y.bytes;
                 so_far =
-                    append_assoc w.done x.bytes cs
-                    ∙ ap (λ (l : List ℕ). w.done ++ (l ++ cs)) z.1
+                    append_assoc w.done y.bytes cs
+                    ∙ ap (λ (l : List ℕ). w.done ++ (l ++ cs)) same.1
                     ∙ s;
-                puts = puts_then w.puts x.puts;
+                appends = appends_then w.appends y.appends;
               }
 
-      pub walk_ends : At piece quote i → Wrote (Unescapes piece) at (i + 1) lent count t n
+      pub walk_ends : At piece quote i → Wrote (Unescapes piece) at (i + 1) u v
       walk_ends q = go w.rest_is w.so_far
         where
-          go : {rest : List ℕ} → Unescapes piece i w.end rest → w.done ++ rest ≡ w.whole → Wrote (Unescapes piece) at (i + 1) lent count t n
+          go : {rest : List ℕ} → Unescapes piece i w.end rest → w.done ++ rest ≡ w.whole → Wrote (Unescapes piece) at (i + 1) u v
           go (closed a e) s =
               record {
                 bytes = w.whole;
                 is = subst (λ (k : ℕ). Unescapes piece at k w.whole) e w.whole_is;
-                puts = puts_same (sym (append_none w.done) ∙ s) w.puts;
+                appends = appends_same (sym (append_none w.done) ∙ s) w.appends;
               }
-          go (Bytes.next y u) s = absurd (item_quote piece q y)
+          go (Bytes.next y r) s = absurd (item_quote piece q y)
 
   -- ---- characters that are themselves
 
@@ -247,7 +248,7 @@ module _ (piece : List ℕ) where
     pub copies_within : (i ≤ e) × (e < length piece)
     copies_within = (forward l.takes, omega (arith, copies_end, s.is.close.0))
 
-    pub copies_wrote : {t t' : List ℕ} {k n : ℕ} → Puts t k (take (e - i) (drop i piece)) t' n → Wrote (Copies piece) i (e + 1) t k t' n
+    pub copies_wrote : {u v : Writer} → Appends u (take (e - i) (drop i piece)) v → Wrote (Copies piece) i (e + 1) u v
     copies_wrote p =
         record {
           bytes = read piece i (e - i);
@@ -259,7 +260,7 @@ module _ (piece : List ℕ) where
                 behind = ap (λ (x : ℕ). x + 1) copies_end;
                 bytes_are = ap (λ (x : ℕ). read piece i (x - i)) copies_end;
               };
-          puts = puts_same (part_read piece i (e - i) (omega (arith, copies_within))) p;
+          appends = appends_same (part_read piece i (e - i) (omega (arith, copies_within))) p;
         }
 
   -- ---- a segment
@@ -282,28 +283,28 @@ module _ (piece : List ℕ) where
         go (plain q m c) = record { end = _; bytes = _; is = c }
         go (escaped q b u) = absurd (n b)
 
-    pub escaped_wrote : At piece backslash (i + 1) → {j k n : ℕ} {t t' : List ℕ} → Wrote (Unescapes piece) (i + 2) j t k t' n →
-        Wrote (SegmentBytes piece) i j t k t' n
-    escaped_wrote a w = record { bytes = w.bytes; is = escaped opening a w.is; puts = w.puts }
+    pub escaped_wrote : At piece backslash (i + 1) → {j : ℕ} {u v : Writer} → Wrote (Unescapes piece) (i + 2) j u v →
+        Wrote (SegmentBytes piece) i j u v
+    escaped_wrote a w = record { bytes = w.bytes; is = escaped opening a w.is; appends = w.appends }
 
-    pub plain_wrote : (At piece backslash (i + 1) → ⊥) → {j k n : ℕ} {t t' : List ℕ} → Wrote (Copies piece) (i + 1) j t k t' n →
-        Wrote (SegmentBytes piece) i j t k t' n
-    plain_wrote n w = record { bytes = w.bytes; is = plain opening n w.is; puts = w.puts }
+    pub plain_wrote : (At piece backslash (i + 1) → ⊥) → {j : ℕ} {u v : Writer} → Wrote (Copies piece) (i + 1) j u v →
+        Wrote (SegmentBytes piece) i j u v
+    plain_wrote n w = record { bytes = w.bytes; is = plain opening n w.is; appends = w.appends }
 
   -- ---- a walk over the segments
 
-  module _ (lent : List ℕ) where
-    pub record Walks (t : List ℕ) (i n : ℕ) : Type 0 where
+  module _ (u : Writer) where
+    pub record Walks (v : Writer) (i : ℕ) : Type 0 where
       pub whole : List ℕ
       pub whole_is : QuotedBytes piece 0 whole
       pub rest : List ℕ
       pub rest_is : QuotedBytes piece i rest
       pub done : List ℕ
       pub so_far : done ++ rest ≡ whole
-      pub puts : Puts lent 0 done t n
+      pub appends : Appends u done v
 
-    pub walks_begin : HasQuoted piece → length lent ≤ largest → Walks lent 0 0
-    walks_begin h l =
+    pub walks_begin : HasQuoted piece → Walks u 0
+    walks_begin h =
         record {
           whole = h.bytes;
           whole_is = h.is;
@@ -311,10 +312,10 @@ module _ (piece : List ℕ) where
           rest_is = h.is;
           done = [];
           so_far = refl;
-          puts = puts_none lent 0 l (omega arith);
+          appends = appends_none u;
         }
 
-    module _ {t : List ℕ} {i n : ℕ} (w : Walks t i n) where
+    module _ {v : Writer} {i : ℕ} (w : Walks v i) where
       pub walks_segment : Stands (SegmentBytes piece) i
       walks_segment = go w.rest_is
         where
@@ -322,36 +323,36 @@ module _ (piece : List ℕ) where
           go (last s e) = record { end = _; bytes = _; is = s }
           go (Bytes.next s p q) = record { end = _; bytes = _; is = s }
 
-      module _ {j m : ℕ} {t' : List ℕ} (x : Wrote (SegmentBytes piece) i j t n t' m) where
+      module _ {j : ℕ} {x : Writer} (y : Wrote (SegmentBytes piece) i j v x) where
         pub walks_less : {k : ℕ} → Skips piece j k → (i < k) × (i < length piece)
-        walks_less s = let y = segment_short piece x.is in (omega (arith, y.2, forward s.takes), (opening walks_segment).0)
+        walks_less s = let z = segment_short piece y.is in (omega (arith, z.2, forward s.takes), (opening walks_segment).0)
 
-        pub walks_end : j ≡ length piece → WroteQuoted piece lent t' m
+        pub walks_end : j ≡ length piece → WroteQuoted piece u x
         walks_end e = go w.rest_is w.so_far
           where
-            go : {rest : List ℕ} → QuotedBytes piece i rest → w.done ++ rest ≡ w.whole → WroteQuoted piece lent t' m
+            go : {rest : List ℕ} → QuotedBytes piece i rest → w.done ++ rest ≡ w.whole → WroteQuoted piece u x
             go (last s f) p =
                 record {
                   bytes = w.whole;
                   is = w.whole_is;
-                  puts = puts_same (ap (λ (l : List ℕ). w.done ++ l) (segment_same piece x.is s).1 ∙ p) (puts_then w.puts x.puts);
+                  appends = appends_same (ap (λ (l : List ℕ). w.done ++ l) (segment_same piece y.is s).1 ∙ p) (appends_then w.appends y.appends);
                 }
-            go (Bytes.next s u q) p = absurd (no_further_lem piece (sym (segment_same piece x.is s).0 ∙ e) u q)
+            go (Bytes.next s g q) p = absurd (no_further_lem piece (sym (segment_same piece y.is s).0 ∙ e) g q)
 
-        pub walks_next : {k : ℕ} → (j ≡ length piece → ⊥) → Skips piece j k → Walks t' k m
-        walks_next {k} n u = go w.rest_is w.so_far
+        pub walks_next : {k : ℕ} → (j ≡ length piece → ⊥) → Skips piece j k → Walks x k
+        walks_next {k} n g = go w.rest_is w.so_far
           where
-            go : {rest : List ℕ} → QuotedBytes piece i rest → w.done ++ rest ≡ w.whole → Walks t' k m
-            go (last s f) p = absurd (n ((segment_same piece x.is s).0 ∙ f))
-            go (Bytes.next {k = l} {cs = cs} s v q) p =
-                let z = segment_same piece x.is s in
-                let h = skips_same v (subst (λ (y : ℕ). Skips piece y k) z.0 u) in
+            go : {rest : List ℕ} → QuotedBytes piece i rest → w.done ++ rest ≡ w.whole → Walks x k
+            go (last s f) p = absurd (n ((segment_same piece y.is s).0 ∙ f))
+            go (Bytes.next {k = l} {cs = cs} s h q) p =
+                let z = segment_same piece y.is s in
+                let e = skips_same h (subst (λ (m : ℕ). Skips piece m k) z.0 g) in
                 record {
                   whole = w.whole;
                   whole_is = w.whole_is;
                   rest = cs;
-                  rest_is = subst (λ (y : ℕ). QuotedBytes piece y cs) h q;
-                  done = w.done ++ x.bytes;
-                  so_far = append_assoc w.done x.bytes cs ∙ ap (λ (y : List ℕ). w.done ++ (y ++ cs)) z.1 ∙ p;
-                  puts = puts_then w.puts x.puts;
+                  rest_is = subst (λ (m : ℕ). QuotedBytes piece m cs) e q;
+                  done = w.done ++ y.bytes;
+                  so_far = append_assoc w.done y.bytes cs ∙ ap (λ (m : List ℕ). w.done ++ (m ++ cs)) z.1 ∙ p;
+                  appends = appends_then w.appends y.appends;
                 }

@@ -2,7 +2,8 @@
 use Rattle.std.specs.Prelude.{◌≡◌, List, ℕ, min}
 use Rattle.lexicon.specs.Values.{CodeOf}
 use Rattle.lexicon.specs.Limited.{limit}
-use Rattle.buffer.specs.Puts.{Puts}
+use Rattle.buffer.specs.declared.Writer.{Writer}
+use Rattle.buffer.specs.Appends.{Appends}
 use Rattle.values.specs.QuotedBytes.{QuotedBytes}
 
 module _ (piece : List ℕ) where
@@ -18,10 +19,10 @@ module _ (piece : List ℕ) where
     pub bytes : List ℕ
     pub is : QuotedBytes piece 0 bytes
 
-  pub record WroteQuoted (t t' : List ℕ) (n : ℕ) : Type 0 where
+  pub record WroteQuoted (w w' : Writer) : Type 0 where
     pub bytes : List ℕ
     pub is : QuotedBytes piece 0 bytes
-    pub puts : Puts t 0 bytes t' n
+    pub appends : Appends w bytes w'
 
 module _ (Part : ℕ → ℕ → List ℕ → Type 0) where
   -- a part of the literal stands at i
@@ -31,7 +32,7 @@ module _ (Part : ℕ → ℕ → List ℕ → Type 0) where
     pub is : Part i end bytes
 
   -- it ends at j, and its bytes are written
-  pub record Wrote (i j : ℕ) (t : List ℕ) (k : ℕ) (t' : List ℕ) (n : ℕ) : Type 0 where
+  pub record Wrote (i j : ℕ) (w w' : Writer) : Type 0 where
     pub bytes : List ℕ
     pub is : Part i j bytes
-    pub puts : Puts t k bytes t' n
+    pub appends : Appends w bytes w'

@@ -11,7 +11,9 @@ use Rattle.text_value.specs.declared.value.Verdict.{Verdict}
 use Rattle.values.specs.Exactly.{Exactly}
 use Rattle.values.specs.Text.{text_literal, BadText}
 use Rattle.lexicon.specs.Encode.{encoded}
+use Rattle.buffer.specs.declared.Writer.{Writer}
 use Rattle.buffer.specs.Puts.{Puts}
+use Rattle.buffer.specs.Appends.{Appends}
 
 module _ (piece : List ℕ) where
   -- the piece is a Text of the shape, and its value is not bad
@@ -24,6 +26,12 @@ module _ (piece : List ℕ) where
   Judged Verdict.TheVariants.Other = Exactly text_literal piece → ⊥
   Judged (Verdict.TheVariants.Bad place) = Exactly text_literal piece × BadText piece 0 (length piece) place
   Judged (Verdict.TheVariants.Good shape) = Shaped shape
+
+  -- its characters are written behind those before
+  pub record AppendsText (w w' : Writer) : Type 0 where
+    pub characters : List ℕ
+    pub is : TextOf piece 0 (length piece) characters
+    pub appends : Appends w (encoded characters) w'
 
   -- its characters are written from the start of t
   pub record WroteText (t t' : List ℕ) (n : ℕ) : Type 0 where

@@ -1,36 +1,36 @@
-// Code points as bytes into a lent buffer, from a place on.
+// Code points as bytes.
 ghost use Rattle.std.specs.Prelude.{[], ◌∷◌, ◌<◌};
 ghost use Rattle.lexicon.specs.Encode.{tail_of, encode as encode_of};
-ghost use Rattle.buffer.specs.Puts.{Puts};
+ghost use Rattle.buffer.specs.Appends.{Appends};
 
-use buffer::put;
+use buffer::Writer;
 
 // A continuation byte: the last six bits.
-fn tail(code: u32, buffer: &mut [u8], at: usize) -> usize
-    ensures { Puts buffer.old at (tail_of code ∷ []) buffer.new result }
+fn tail(code: u32, out: &mut Writer)
+    ensures { Appends out.old (tail_of code ∷ []) out.new }
 {
-    put(buffer, at, (0x80 + code % 64) as u8)
+    out.put((0x80 + code % 64) as u8);
 }
 
 // A code point, in one to four bytes. Its caller has found it to be one.
-pub(crate) fn encode(code: u32, buffer: &mut [u8], at: usize) -> usize
+pub(crate) fn encode(code: u32, out: &mut Writer)
     requires { code < 0x110000 }
-    ensures { Puts buffer.old at (encode_of code) buffer.new result }
+    ensures { Appends out.old (encode_of code) out.new }
 {
     if code < 0x80 {
-        return put(buffer, at, code as u8);
+        return out.put(code as u8);
     }
     if code < 0x800 {
-        let second = put(buffer, at, (0xC0 + code / 64) as u8);
-        return tail(code, buffer, second);
+        out.put((0xC0 + code / 64) as u8);
+        return tail(code, out);
     }
     if code < 0x1_0000 {
-        let second = put(buffer, at, (0xE0 + code / 4096) as u8);
-        let third = tail(code / 64, buffer, second);
-        return tail(code, buffer, third);
+        out.put((0xE0 + code / 4096) as u8);
+        tail(code / 64, out);
+        return tail(code, out);
     }
-    let second = put(buffer, at, (0xF0 + code / 262144) as u8);
-    let third = tail(code / 4096, buffer, second);
-    let fourth = tail(code / 64, buffer, third);
-    tail(code, buffer, fourth)
+    out.put((0xF0 + code / 262144) as u8);
+    tail(code / 4096, out);
+    tail(code / 64, out);
+    tail(code, out);
 }

@@ -41,10 +41,8 @@ fn number(piece: &[u8], from: usize, to: usize, base: Base) -> u32
 {
     let n = radix(digit_set(base));
     let mut sum = 0;
-    let mut i = from;
-    while i < to {
-        sum = limited(sum, n, piece[i]);
-        i += 1;
+    for b in &piece[from..to] {
+        sum = limited(sum, n, *b);
     }
     sum
 }
@@ -54,8 +52,6 @@ pub(crate) fn code(piece: &[u8], at: usize, end: usize) -> u32
     requires { Takes piece.now code_point_of at end }
     ensures { CodeIs piece.now at end result }
 {
-    let marked = mark(piece, at);
-    let start = marked.start;
-    let base = marked.base;
+    let Marked { base, start } = mark(piece, at);
     number(piece, start, end, base)
 }

@@ -6,7 +6,7 @@ ghost use Rattle.text_value.specs.Letters.{Means};
 
 use crate::bytes::encode;
 use crate::code::code;
-use buffer::{copy, put};
+use buffer::Writer;
 use lexicon::Literal;
 use space::space;
 use text::byte::stands;
@@ -17,13 +17,6 @@ enum Meaning {
     Character(u8),
     Angle,
     Nothing,
-}
-
-// The place behind what was read, and the place behind the last byte written or counted.
-#[derive(Drop)]
-struct Step {
-    end: usize,
-    count: usize,
 }
 
 fn behind_backslash(b: u8) -> Meaning
@@ -41,61 +34,48 @@ fn behind_backslash(b: u8) -> Meaning
     }
 }
 
-// A code point by its number, and the closing angle.
-fn angled(piece: &[u8], at: usize, buffer: &mut [u8], count: usize) -> Step
+// A code point by its number, and the closing angle; the place behind it.
+fn angled(piece: &[u8], at: usize, out: &mut Writer) -> usize
     requires { Stands (Angled piece.now) at }
-    ensures { Wrote (Angled piece.now) at result.end buffer.old count buffer.new result.count }
+    ensures { Wrote (Angled piece.now) at result out.old out.new }
 {
     let Literal::At { end, bad } = string::code_point::code_point(piece, at) else {
-        return Step { end: at, count };
+        return at;
     };
-    let next = encode(code(piece, at, end), buffer, count);
-    Step {
-        end: end + 1,
-        count: next,
-    }
+    encode(code(piece, at, end), out);
+    end + 1
 }
 
 // A backslash, and a letter or a code point by its number.
-fn escape(piece: &[u8], at: usize, buffer: &mut [u8], count: usize) -> Step
+fn escape(piece: &[u8], at: usize, out: &mut Writer) -> usize
     requires { Stands (Item piece.now) at × At piece.now backslash at }
-    ensures { Wrote (Item piece.now) at result.end buffer.old count buffer.new result.count }
+    ensures { Wrote (Item piece.now) at result out.old out.new }
 {
-    let meaning = behind_backslash(piece[at + 1]);
-    match meaning {
+    match behind_backslash(piece[at + 1]) {
         Meaning::Character(b) => {
-            let next = put(buffer, count, b);
-            Step {
-                end: at + 2,
-                count: next,
-            }
+            out.put(b);
+            at + 2
         }
-        Meaning::Angle => angled(piece, at + 2, buffer, count),
-        Meaning::Nothing => Step { end: at, count },
+        Meaning::Angle => angled(piece, at + 2, out),
+        Meaning::Nothing => at,
     }
 }
 
 // Characters and escapes, through the closing quote.
-fn escaped(piece: &[u8], at: usize, buffer: &mut [u8], count: usize) -> Step
+fn escaped(piece: &[u8], at: usize, out: &mut Writer) -> usize
     requires { Stands (Unescapes piece.now) at }
-    ensures { Wrote (Unescapes piece.now) at result.end buffer.old count buffer.new result.count }
+    ensures { Wrote (Unescapes piece.now) at result out.old out.new }
 {
     let mut i = at;
-    let mut n = count;
     while !stands(piece, i, b'"') {
         if stands(piece, i, b'\\') {
-            let step = escape(piece, i, buffer, n);
-            i = step.end;
-            n = step.count;
+            i = escape(piece, i, out);
             continue;
         }
-        n = put(buffer, n, piece[i]);
+        out.put(piece[i]);
         i += 1;
     }
-    Step {
-        end: i + 1,
-        count: n,
-    }
+    i + 1
 }
 
 // The place of the next quote.
@@ -113,42 +93,36 @@ fn closing(piece: &[u8], at: usize) -> usize
 }
 
 // Characters, each of them itself, through the closing quote.
-fn plain(piece: &[u8], at: usize, buffer: &mut [u8], count: usize) -> Step
+fn plain(piece: &[u8], at: usize, out: &mut Writer) -> usize
     requires { Stands (Copies piece.now) at }
-    ensures { Wrote (Copies piece.now) at result.end buffer.old count buffer.new result.count }
+    ensures { Wrote (Copies piece.now) at result out.old out.new }
 {
     let end = closing(piece, at);
-    let next = copy(&piece[at..end], buffer, count);
-    Step {
-        end: end + 1,
-        count: next,
-    }
+    out.copy(&piece[at..end]);
+    end + 1
 }
 
 // A segment. It is an escaped one only if a backslash stands first in it.
-fn segment(piece: &[u8], at: usize, buffer: &mut [u8], count: usize) -> Step
+fn segment(piece: &[u8], at: usize, out: &mut Writer) -> usize
     requires { Stands (SegmentBytes piece.now) at }
-    ensures { Wrote (SegmentBytes piece.now) at result.end buffer.old count buffer.new result.count }
+    ensures { Wrote (SegmentBytes piece.now) at result out.old out.new }
 {
     if stands(piece, at + 1, b'\\') {
-        return escaped(piece, at + 2, buffer, count);
+        return escaped(piece, at + 2, out);
     }
-    plain(piece, at + 1, buffer, count)
+    plain(piece, at + 1, out)
 }
 
 // All the segments.
-pub(crate) fn quoted(piece: &[u8], buffer: &mut [u8]) -> usize
+pub(crate) fn quoted(piece: &[u8], out: &mut Writer)
     requires { HasQuoted piece.now }
-    ensures { WroteQuoted piece.now buffer.old buffer.new result }
+    ensures { WroteQuoted piece.now out.old out.new }
 {
     let mut i = 0;
-    let mut n = 0;
     loop {
-        let step = segment(piece, i, buffer, n);
-        n = step.count;
-        let end = step.end;
+        let end = segment(piece, i, out);
         if end == piece.len() {
-            return n;
+            return;
         }
         i = space(piece, end);
     }

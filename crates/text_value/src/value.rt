@@ -7,12 +7,12 @@ ghost use Rattle.lexicon.specs.Utf8.{WellFormed};
 ghost use Rattle.reading.specs.Answers.{answer};
 ghost use Rattle.reading.specs.Sizes.{base as rules};
 ghost use Rattle.values.specs.Text.{TextAnswers};
-ghost use Rattle.text_value.specs.Shapes.{Shaped, Judged, WroteText};
+ghost use Rattle.text_value.specs.Shapes.{Shaped, Judged, AppendsText, WroteText};
 
 use crate::bytes::encode;
 use crate::code::code;
 use crate::quoted::quoted;
-use buffer::copy;
+use buffer::Writer;
 use lexicon::{Encoding, Found, Literal};
 use reading::{Answer, TEXT};
 use string::quoted::first_bad;
@@ -93,16 +93,26 @@ fn judge(piece: &[u8]) -> Verdict
     Verdict::Good(Shape::Quoted)
 }
 
+// The characters of the piece.
+fn characters(piece: &[u8], shape: Shape, out: &mut Writer)
+    requires { Shaped piece.now shape }
+    ensures { AppendsText piece.now out.old out.new }
+{
+    match shape {
+        Shape::Quoted => quoted(piece, out),
+        Shape::Word => out.copy(piece),
+        Shape::CodePoint => encode(code(piece, 0, piece.len()), out),
+    }
+}
+
 // The characters of the piece from the start of the buffer, and how many bytes they are.
 fn write(piece: &[u8], shape: Shape, buffer: &mut [u8]) -> usize
     requires { Shaped piece.now shape }
     ensures { WroteText piece.now buffer.old buffer.new result }
 {
-    match shape {
-        Shape::Quoted => quoted(piece, buffer),
-        Shape::Word => copy(piece, buffer, 0),
-        Shape::CodePoint => encode(code(piece, 0, piece.len()), buffer, 0),
-    }
+    let mut out = Writer::new(buffer);
+    characters(piece, shape, &mut out);
+    out.at
 }
 
 // The characters if they fit. They are measured first, over an empty part of the buffer, so that nothing is written where they don't.

@@ -1,5 +1,6 @@
 -- `blob_value::value::write` meets its contract. Assumes nothing.
 use native.Mathlib.Omega.{arith}
+use borrow.Author.Rules.{rules}
 use Rattle.blob_value.proofs.Pieces.{write_alone, units_there, write_behind}
 use Rattle.blob_value.proofs.value.write.Goals as goal
 
@@ -10,4 +11,4 @@ pub units-requires : goal.units-requires
 units-requires c = units_there _ c.args.mark c.requires c.space-start.ensures c.if-piece-eq3.false
 
 pub returns : goal.returns
-returns c = write_behind _ c.args.mark c.requires c.space-start.ensures c.units.ensures
+returns c = write_behind _ c.args.mark c.requires c.space-start.ensures c.new-out.ensures c.units.ensures (search rules)

@@ -4,7 +4,7 @@ use Rattle.leaf.proofs.Nestings.{Naming}
 use Rattle.leaf.proofs.names.names.Given as goal
 
 abbrev pub invariant-loop-i : goal.invariant-loop-i
-invariant-loop-i l = Naming l.text l.first l.end l.initial.buffer l.at l.buffer l.n l.i
+invariant-loop-i l = Naming l.text l.first l.end l.initial.out l.out l.i
 
 abbrev pub decreases-loop-i : goal.decreases-loop-i
 decreases-loop-i l = l.end - l.i

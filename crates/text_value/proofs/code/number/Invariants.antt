@@ -1,10 +1,9 @@
 -- `text_value::code::number` meets its contract. Assumes nothing.
-use Prim.Native.Nat.{◌-◌, ◌≤◌}
-use Rattle.text_value.proofs.Codes.{Counted}
+use mathlib.Core.Path.{◌≡◌}
+use mathlib.Core.List.{foldl}
+use lib.ListN.{take}
+use Rattle.lexicon.specs.Limited.{limited}
 use Rattle.text_value.proofs.code.number.Given as goal
 
-abbrev pub invariant-loop-i : goal.invariant-loop-i
-invariant-loop-i l = Counted l.piece l.n l.from l.i l.sum × (l.i ≤ l.to)
-
-abbrev pub decreases-loop-i : goal.decreases-loop-i
-decreases-loop-i l = l.to - l.i
+abbrev pub invariant-loop-b : goal.invariant-loop-b
+invariant-loop-b l = l.sum ≡ foldl (limited l.n) 0 (take l.b-index l.b-items)

@@ -2,7 +2,6 @@
 use native.Mathlib.Omega.{arith}
 use Rattle.lexicon.specs.Bad.{BadCode}
 use Rattle.lexicon.proofs.Answers.{judged_at, judged_none}
-use Rattle.buffer.proofs.Puts.{puts_length}
 use Rattle.text_value.proofs.Walks.{angled_none, angled_within, angled_fits, angled_wrote}
 use Rattle.text_value.proofs.quoted.angled.Goals as goal
 
@@ -12,15 +11,12 @@ returns-in_default c = absurd (angled_none _ c.requires (judged_none (BadCode c.
 pub code-requires : goal.code-requires
 code-requires c = (judged_at (BadCode c.args.piece.now) c.in-At.is c.code_point.ensures).0.takes
 
-pub encode-next-requires : goal.encode-next-requires
-encode-next-requires c = let l = (judged_at (BadCode c.args.piece.now) c.in-At.is c.code_point.ensures).0 in
+pub encode-requires : goal.encode-requires
+encode-requires c = let l = (judged_at (BadCode c.args.piece.now) c.in-At.is c.code_point.ensures).0 in
     angled_fits _ c.requires l c.code.ensures
 
 pub overflow_add-result : goal.overflow_add-result
 overflow_add-result c = omega (arith, angled_within _ c.requires (judged_at (BadCode c.args.piece.now) c.in-At.is c.code_point.ensures).0)
 
-pub shape_of-buffer : goal.shape_of-buffer
-shape_of-buffer c = puts_length c.encode-next.ensures
-
 pub returns : goal.returns
-returns c = angled_wrote _ c.requires (judged_at (BadCode c.args.piece.now) c.in-At.is c.code_point.ensures).0 c.code.ensures c.encode-next.ensures
+returns c = angled_wrote _ c.requires (judged_at (BadCode c.args.piece.now) c.in-At.is c.code_point.ensures).0 c.code.ensures c.encode.ensures

@@ -16,13 +16,13 @@ pub overflow_add-at-in-Angle : goal.overflow_add-at-in-Angle
 overflow_add-at-in-Angle c = omega (arith, escape_within _ c.requires.0 c.requires.1)
 
 pub angled-requires : goal.angled-requires
-angled-requires c = escape_angled _ c.requires.0 c.requires.1 (means _ c.in-Angle.is c.behind_backslash-meaning.ensures)
+angled-requires c = escape_angled _ c.requires.0 c.requires.1 (means _ c.in-Angle.is c.behind_backslash.ensures)
 
 pub returns-in-Character : goal.returns-in-Character
-returns-in-Character c = letter_wrote _ c.requires.0 c.requires.1 (means _ c.in-Character.is c.behind_backslash-meaning.ensures) c.put-next.ensures
+returns-in-Character c = letter_wrote _ c.requires.0 c.requires.1 (means _ c.in-Character.is c.behind_backslash.ensures) c.put.ensures
 
 pub returns-in-Angle : goal.returns-in-Angle
-returns-in-Angle c = number_wrote _ c.requires.0 c.requires.1 (means _ c.in-Angle.is c.behind_backslash-meaning.ensures) c.angled.ensures
+returns-in-Angle c = number_wrote _ c.requires.0 c.requires.1 (means _ c.in-Angle.is c.behind_backslash.ensures) c.angled.ensures
 
 pub returns-in-Nothing : goal.returns-in-Nothing
-returns-in-Nothing c = absurd (escape_none _ c.requires.0 c.requires.1 (means _ c.in-Nothing.is c.behind_backslash-meaning.ensures))
+returns-in-Nothing c = absurd (escape_none _ c.requires.0 c.requires.1 (means _ c.in-Nothing.is c.behind_backslash.ensures))

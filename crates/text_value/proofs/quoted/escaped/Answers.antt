@@ -2,41 +2,37 @@
 use native.Mathlib.Omega.{arith}
 use Rattle.rules.proofs.Tests.{there, not_there}
 use Rattle.values.proofs.Spelled.{item_short}
-use Rattle.buffer.proofs.Puts.{puts_length}
 use Rattle.text_value.proofs.Walks.{walk_begins, walk_within, walk_item, walk_byte, walk_next, walk_ends}
 use Rattle.text_value.proofs.quoted.escaped.Goals as goal
 
-pub loop-buffer-init : goal.loop-buffer-init
-loop-buffer-init c = walk_begins _ _ _ _ c.requires (omega arith) (omega arith)
+pub loop-out-init : goal.loop-out-init
+loop-out-init c = walk_begins _ _ _ c.requires
 
-pub escape-step-requires : goal.escape-step-requires
-escape-step-requires c = let q = not_there c.stands.ensures c.loop-buffer-test.true in
-    (walk_item _ _ _ _ c.loop-buffer.invariant q, there c.stands-in-loop-buffer.ensures c.if-stands.true)
+pub escape-i-requires : goal.escape-i-requires
+escape-i-requires c = let q = not_there c.stands.ensures c.loop-out-test.true in
+    (walk_item _ _ _ c.loop-out.invariant q, there c.stands-in-loop-out.ensures c.if-stands.true)
 
-pub loop-buffer-smaller-then-stands : goal.loop-buffer-smaller-then-stands
-loop-buffer-smaller-then-stands c = omega (arith, walk_within _ _ _ _ c.loop-buffer.invariant, (item_short _ c.escape-step.ensures.is).2)
+pub loop-out-smaller-then-stands : goal.loop-out-smaller-then-stands
+loop-out-smaller-then-stands c = omega (arith, walk_within _ _ _ c.loop-out.invariant, (item_short _ c.escape-i.ensures.is).2)
 
-pub loop-buffer-preserved-then-stands : goal.loop-buffer-preserved-then-stands
-loop-buffer-preserved-then-stands c = walk_next _ _ _ _ c.loop-buffer.invariant (not_there c.stands.ensures c.loop-buffer-test.true) c.escape-step.ensures
+pub loop-out-preserved-then-stands : goal.loop-out-preserved-then-stands
+loop-out-preserved-then-stands c = walk_next _ _ _ c.loop-out.invariant (not_there c.stands.ensures c.loop-out-test.true) c.escape-i.ensures
 
 pub bounds-piece-i : goal.bounds-piece-i
-bounds-piece-i c = walk_within _ _ _ _ c.loop-buffer.invariant
+bounds-piece-i c = walk_within _ _ _ c.loop-out.invariant
 
 pub overflow_add-i : goal.overflow_add-i
-overflow_add-i c = omega (arith, walk_within _ _ _ _ c.loop-buffer.invariant)
+overflow_add-i c = omega (arith, walk_within _ _ _ c.loop-out.invariant)
 
-pub loop-buffer-smaller : goal.loop-buffer-smaller
-loop-buffer-smaller c = omega (arith, walk_within _ _ _ _ c.loop-buffer.invariant)
+pub loop-out-smaller : goal.loop-out-smaller
+loop-out-smaller c = omega (arith, walk_within _ _ _ c.loop-out.invariant)
 
-pub loop-buffer-preserved : goal.loop-buffer-preserved
-loop-buffer-preserved c = let q = not_there c.stands.ensures c.loop-buffer-test.true in
-    walk_next _ _ _ _ c.loop-buffer.invariant q (walk_byte _ _ _ _ c.loop-buffer.invariant q (not_there c.stands-in-loop-buffer.ensures c.if-stands.false) c.put-n.ensures)
+pub loop-out-preserved : goal.loop-out-preserved
+loop-out-preserved c = let q = not_there c.stands.ensures c.loop-out-test.true in
+    walk_next _ _ _ c.loop-out.invariant q (walk_byte _ _ _ c.loop-out.invariant q (not_there c.stands-in-loop-out.ensures c.if-stands.false) c.put.ensures)
 
 pub overflow_add-result : goal.overflow_add-result
-overflow_add-result c = omega (arith, walk_within _ _ _ _ c.loop-buffer.invariant)
-
-pub shape_of-buffer : goal.shape_of-buffer
-shape_of-buffer c = puts_length c.loop-buffer.invariant.puts
+overflow_add-result c = omega (arith, walk_within _ _ _ c.loop-out.invariant)
 
 pub returns : goal.returns
-returns c = walk_ends _ _ _ _ c.loop-buffer.invariant (there c.stands.ensures c.loop-buffer-test.false)
+returns c = walk_ends _ _ _ c.loop-out.invariant (there c.stands.ensures c.loop-out-test.false)

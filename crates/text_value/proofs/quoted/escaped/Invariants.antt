@@ -4,8 +4,8 @@ use lib.ListN.{length}
 use Rattle.text_value.proofs.Walks.{Walk}
 use Rattle.text_value.proofs.quoted.escaped.Given as goal
 
-abbrev pub invariant-loop-buffer : goal.invariant-loop-buffer
-invariant-loop-buffer l = Walk l.piece l.at l.initial.buffer l.count l.buffer l.i l.n
+abbrev pub invariant-loop-out : goal.invariant-loop-out
+invariant-loop-out l = Walk l.piece l.at l.initial.out l.out l.i
 
-abbrev pub decreases-loop-buffer : goal.decreases-loop-buffer
-decreases-loop-buffer l = length l.piece - l.i
+abbrev pub decreases-loop-out : goal.decreases-loop-out
+decreases-loop-out l = length l.piece - l.i

@@ -1,6 +1,5 @@
 -- `text_value::quoted::plain` meets its contract. Assumes nothing.
 use native.Mathlib.Omega.{arith}
-use Rattle.buffer.proofs.Puts.{puts_length}
 use Rattle.text_value.proofs.Walks.{copies_within, copies_wrote}
 use Rattle.text_value.proofs.quoted.plain.Goals as goal
 
@@ -16,8 +15,5 @@ slice_bounds-copy-count c = (copies_within _ c.requires c.closing-end.ensures).0
 pub overflow_add-result : goal.overflow_add-result
 overflow_add-result c = omega (arith, (copies_within _ c.requires c.closing-end.ensures).1)
 
-pub shape_of-buffer : goal.shape_of-buffer
-shape_of-buffer c = puts_length c.copy-next.ensures
-
 pub returns : goal.returns
-returns c = copies_wrote _ c.requires c.closing-end.ensures c.copy-next.ensures
+returns c = copies_wrote _ c.requires c.closing-end.ensures c.copy.ensures

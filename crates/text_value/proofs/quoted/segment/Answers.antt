@@ -1,7 +1,6 @@
 -- `text_value::quoted::segment` meets its contract. Assumes nothing.
 use native.Mathlib.Omega.{arith}
 use Rattle.rules.proofs.Tests.{there, not_there}
-use Rattle.buffer.proofs.Puts.{puts_length}
 use Rattle.text_value.proofs.Walks.{opening, escaped_stands, plain_stands, escaped_wrote, plain_wrote}
 use Rattle.text_value.proofs.quoted.segment.Goals as goal
 
@@ -14,9 +13,6 @@ overflow_add-at-then-stands c = omega (arith, (there c.stands.ensures c.if-stand
 pub escaped-requires : goal.escaped-requires
 escaped-requires c = escaped_stands _ c.requires (there c.stands.ensures c.if-stands.true)
 
-pub shape_of-buffer-then-stands : goal.shape_of-buffer-then-stands
-shape_of-buffer-then-stands c = puts_length c.escaped.ensures.puts
-
 pub returns-then-stands : goal.returns-then-stands
 returns-then-stands c = escaped_wrote _ c.requires (there c.stands.ensures c.if-stands.true) c.escaped.ensures
 
@@ -25,9 +21,6 @@ overflow_add-at-2 c = omega (arith, (opening _ c.requires).0)
 
 pub plain-requires : goal.plain-requires
 plain-requires c = plain_stands _ c.requires (not_there c.stands.ensures c.if-stands.false)
-
-pub shape_of-buffer : goal.shape_of-buffer
-shape_of-buffer c = puts_length c.plain.ensures.puts
 
 pub returns : goal.returns
 returns c = plain_wrote _ c.requires (not_there c.stands.ensures c.if-stands.false) c.plain.ensures

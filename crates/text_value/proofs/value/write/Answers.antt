@@ -1,31 +1,7 @@
 -- `text_value::value::write` meets its contract. Assumes nothing.
-use Rattle.buffer.proofs.Puts.{puts_length}
-use Rattle.text_value.proofs.Texts.{shaped_as, has_quoted, wrote_quoted, wrote_word, code_fits, wrote_code}
+use borrow.Author.Rules.{rules}
+use Rattle.text_value.proofs.Texts.{text_in}
 use Rattle.text_value.proofs.value.write.Goals as goal
 
-pub quoted-requires : goal.quoted-requires
-quoted-requires c = has_quoted _ (shaped_as _ c.in-Quoted.is c.requires)
-
-pub code-requires : goal.code-requires
-code-requires c = (shaped_as _ c.in-CodePoint.is c.requires).0
-
-pub encode-requires : goal.encode-requires
-encode-requires c = code_fits _ (shaped_as _ c.in-CodePoint.is c.requires) c.code.ensures
-
-pub shape_of-buffer-in-Quoted : goal.shape_of-buffer-in-Quoted
-shape_of-buffer-in-Quoted c = puts_length c.quoted.ensures.puts
-
-pub returns-in-Quoted : goal.returns-in-Quoted
-returns-in-Quoted c = wrote_quoted _ (shaped_as _ c.in-Quoted.is c.requires) c.quoted.ensures
-
-pub shape_of-buffer-in-Word : goal.shape_of-buffer-in-Word
-shape_of-buffer-in-Word c = puts_length c.copy.ensures
-
-pub returns-in-Word : goal.returns-in-Word
-returns-in-Word c = wrote_word _ (shaped_as _ c.in-Word.is c.requires) c.copy.ensures
-
-pub shape_of-buffer-in-CodePoint : goal.shape_of-buffer-in-CodePoint
-shape_of-buffer-in-CodePoint c = puts_length c.encode.ensures
-
-pub returns-in-CodePoint : goal.returns-in-CodePoint
-returns-in-CodePoint c = wrote_code _ (shaped_as _ c.in-CodePoint.is c.requires) c.code.ensures c.encode.ensures
+pub returns : goal.returns
+returns c = text_in _ c.new-out.ensures c.characters.ensures (search rules)

@@ -3,16 +3,17 @@
 use Prim.Native.Nat.{◌+◌, ◌*◌, ◌-◌}
 use Rattle.plain.proofs.Steps.{Going}
 use Rattle.plain.proofs.Written.{left_from}
-use Rattle.plain.proofs.value.+child_write_node.Given as goal
+use Rattle.plain.proofs.value.Source.+child_write_node.Given as goal
 
 abbrev pub decreases-child : goal.decreases-child
-decreases-child l = 2 * left_from l.nodes.now l.index + 1
+decreases-child l = 2 * left_from l.self.now.nodes.words.now l.index + 1
 
 abbrev pub decreases-write_node : goal.decreases-write_node
-decreases-write_node l = 2 * left_from l.nodes.now l.index
+decreases-write_node l = 2 * left_from l.self.now.nodes.words.now l.index
 
 abbrev pub invariant-write_node-loop-i : goal.invariant-write_node-loop-i
-invariant-write_node-loop-i l = Going l.text l.nodes l.detail l.stop l.first l.initial.buffer l.initial.n l.buffer l.n l.before l.done l.i
+invariant-write_node-loop-i l =
+    Going l.self.text.now l.self.nodes.words.now l.detail l.stop l.first l.initial.out l.out l.before l.done l.i
 
 abbrev pub decreases-write_node-loop-i : goal.decreases-write_node-loop-i
 decreases-write_node-loop-i l = l.stop - l.i
