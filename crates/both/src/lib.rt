@@ -25,6 +25,7 @@ pub fn read_both(text: &[u8], first: &mut [u32], second: &mut [u32]) -> Readings
 }
 
 // The same by the old rules, by which the texts of stored files are read.
+// A function of its own: one over both would take a reader, and promise what the reader's bound promises, which is no plainer.
 pub fn read_both_old(text: &[u8], first: &mut [u32], second: &mut [u32]) -> Readings
     ensures { Demands old_rules text.now first.old second.old result.old first.new result.new second.new }
 {

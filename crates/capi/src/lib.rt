@@ -1,6 +1,7 @@
 // The library for C: lent memory is a pointer and a length, and no two lent parts overlap.
 #![tactic(auto)]
 
+ghost use Rattle.std.specs.Prelude.{◌≡◌};
 ghost use Rattle.reading.specs.Sizes.{base, old_rules};
 ghost use Rattle.reading.specs.Answers.{answer, Answers};
 ghost use Rattle.values.specs.Utf8.{Utf8Answers};
@@ -13,7 +14,17 @@ ghost use Rattle.files.specs.Writes.{Writes};
 ghost use Rattle.files.specs.Checks.{Checks};
 ghost use Rattle.form.specs.Writes as Plain;
 
-use lexicon::Encoding;
+use lexicon::NotUtf8;
+use reading::Answer;
+
+// How every call but that of an Integer ends: place and count where the caller wants them, and the number.
+fn told(reading: Answer, place: &mut usize, count: &mut usize) -> u32
+    ensures { reading ≡ answer result place.new count.new }
+{
+    *place = reading.place;
+    *count = reading.count;
+    reading.number
+}
 
 // uint32_t muon_read(uint32_t level, const void *text, size_t text_len, uint32_t *table, size_t table_len, size_t *place, size_t *count);
 // The answer's number is returned, its place and count are written, and the nodes stand in the table.
@@ -27,10 +38,7 @@ pub extern "C" fn muon_read(
 ) -> u32
     ensures { Answers base text.now table.old level (answer result place.new count.new) table.new }
 {
-    let answer = tree::read::read(level, text, table);
-    *place = answer.place;
-    *count = answer.count;
-    answer.number
+    told(tree::read::read(level, text, table), place, count)
 }
 
 // uint32_t muon_utf8(const void *text, size_t text_len, size_t *place, size_t *steps);
@@ -41,14 +49,13 @@ pub extern "C" fn muon_utf8(text: &[u8], place: &mut usize, steps: &mut usize) -
 {
     let tested = utf8::tested(text);
     *steps = tested.steps;
-    let encoding = tested.encoding;
-    match encoding {
-        Encoding::WellFormed => {
+    match tested.encoding {
+        Ok(()) => {
             *place = text.len();
             0
         }
-        Encoding::BadAt(bad) => {
-            *place = bad;
+        Err(NotUtf8 { at }) => {
+            *place = at;
             3
         }
     }
@@ -77,8 +84,7 @@ pub extern "C" fn muon_integer(
     ensures { IntegerAnswers base piece.now (record { number = result; place = place.new; count = count.new; value = value.new }) }
 {
     let read = integer_value::integer::integer(piece);
-    let integer = read.value;
-    *value = integer;
+    *value = read.value;
     *place = read.place;
     *count = read.count;
     read.number
@@ -95,10 +101,7 @@ pub extern "C" fn muon_text(
 ) -> u32
     ensures { TextAnswers base piece.now buffer.old (answer result place.new count.new) buffer.new }
 {
-    let read = text_value::value::text(piece, buffer);
-    *place = read.place;
-    *count = read.count;
-    read.number
+    told(text_value::value::text(piece, buffer), place, count)
 }
 
 // uint32_t muon_blob(const void *piece, size_t piece_len, void *buffer, size_t buffer_len, size_t *place, size_t *count);
@@ -112,10 +115,7 @@ pub extern "C" fn muon_blob(
 ) -> u32
     ensures { BlobAnswers base piece.now buffer.old (answer result place.new count.new) buffer.new }
 {
-    let read = blob_value::value::blob(piece, buffer);
-    *place = read.place;
-    *count = read.count;
-    read.number
+    told(blob_value::value::blob(piece, buffer), place, count)
 }
 
 // uint32_t muon_bits(const void *piece, size_t piece_len, void *buffer, size_t buffer_len, size_t *place, size_t *count);
@@ -129,10 +129,7 @@ pub extern "C" fn muon_bits(
 ) -> u32
     ensures { BitsAnswers base piece.now buffer.old (answer result place.new count.new) buffer.new }
 {
-    let read = blob_value::value::bits(piece, buffer);
-    *place = read.place;
-    *count = read.count;
-    read.number
+    told(blob_value::value::bits(piece, buffer), place, count)
 }
 
 // uint32_t muon_file_write(const void *text, size_t text_len, void *buffer, size_t buffer_len, size_t *place, size_t *count);
@@ -146,10 +143,7 @@ pub extern "C" fn muon_file_write(
 ) -> u32
     ensures { Writes base text.now buffer.old (answer result place.new count.new) buffer.new }
 {
-    let written = stored::write(text, buffer);
-    *place = written.place;
-    *count = written.count;
-    written.number
+    told(stored::write(text, buffer), place, count)
 }
 
 // uint32_t muon_file_check(const void *text, size_t text_len, const void *file, size_t file_len, size_t *place, size_t *count);
@@ -163,10 +157,7 @@ pub extern "C" fn muon_file_check(
 ) -> u32
     ensures { Checks old_rules text.now file.now (answer result place.new count.new) }
 {
-    let checked = stored::check(text, file);
-    *place = checked.place;
-    *count = checked.count;
-    checked.number
+    told(stored::check(text, file), place, count)
 }
 
 // uint32_t muon_plain(uint32_t level, const void *text, size_t text_len, const uint32_t *table, size_t table_len, void *buffer, size_t buffer_len, size_t *place, size_t *count);
@@ -182,10 +173,7 @@ pub extern "C" fn muon_plain(
 ) -> u32
     ensures { Plain.Writes base text.now table.now buffer.old level (answer result place.new count.new) buffer.new }
 {
-    let rewritten = plain::write(level, text, table, buffer);
-    *place = rewritten.place;
-    *count = rewritten.count;
-    rewritten.number
+    told(plain::write(level, text, table, buffer), place, count)
 }
 
 // uint32_t muon_convert(uint32_t level, const void *text, size_t text_len, void *buffer, size_t buffer_len, size_t *place, size_t *count);
@@ -200,8 +188,5 @@ pub extern "C" fn muon_convert(
 ) -> u32
     ensures { Plain.Converts old_rules text.now buffer.old level (answer result place.new count.new) buffer.new }
 {
-    let converted = plain::convert(level, text, buffer);
-    *place = converted.place;
-    *count = converted.count;
-    converted.number
+    told(plain::convert(level, text, buffer), place, count)
 }

@@ -1,5 +1,4 @@
 -- Laws of the listing.
 pub mod Digits
-pub mod Pieces
 pub mod Lines
 pub mod Examples

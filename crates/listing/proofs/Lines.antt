@@ -2,36 +2,31 @@
 use mathlib.Core.Path.{◌≡◌, refl, sym, ap, ◌∙◌, subst}
 use mathlib.Core.List.{List, [], ◌∷◌, ◌++◌, append_assoc}
 use mathlib.Core.Option.{Option}
-use Prim.Native.Nat.{ℕ, zero, suc, ◌+◌, ◌-◌, ◌*◌, ◌^◌, ◌≤◌, ◌<◌}
+use Prim.Native.Nat.{ℕ, zero, suc, ◌+◌, ◌*◌, ◌^◌, ◌≤◌, ◌<◌}
 use native.Mathlib.Numerals.{add-one}
 use native.Mathlib.Omega.{arith}
-use lib.ListN.{length, get_or, length-append}
-use Rattle.rules.proofs.Over.{over_start}
+use lib.ListN.{length, get_or, take, drop, length-append}
+use lib.Seq.{get_or-take, get_or-drop}
 use Rattle.grammar.specs.Tree.{Value}
 use Rattle.grammar.specs.Nodes.{node_words, word_at}
 use Rattle.reading.specs.declared.Answer.{Answer}
 use Rattle.reading.specs.Sizes.{base, room}
 use Rattle.reading.specs.Answers.{Reading, Answers, no_level, too_long, not_utf8, faulty, no_room, accepted}
+use Rattle.buffer.specs.declared.Writer.{Writer}
+use Rattle.buffer.specs.Puts.{Puts}
+use Rattle.buffer.specs.Appends.{Appends}
+use Rattle.buffer.proofs.Puts.{puts_ends, puts_length, puts_start}
+use Rattle.buffer.proofs.Appending.{appends_same, appends_then}
 use Rattle.listing.specs.Listing.{decimal, space, newline, head_line, node_line, longest_line, node_lines, listed, listing}
-use Rattle.listing.specs.Written.{Wrote, Listed}
+use Rattle.listing.specs.Written.{Listed}
 use Rattle.listing.proofs.Digits.{decimal_short}
-use Rattle.listing.proofs.Pieces.{wrote_none, wrote_then}
 
 word_short : (n : ℕ) → n < 2 ^ 32 → length (decimal n) ≤ 10
-word_short n h = decimal_short 9 n (omega arith)
+word_short n h = decimal_short 10 n (omega arith) (omega arith) (omega arith)
 
-pub head_short : (a b m n : ℕ) → m < 2 ^ 64 → n < 2 ^ 64 → length (head_line a b m n) ≤ 45
-head_short a b m n hm hn = simp length-append (omega (arith, decimal_short 19 m (omega arith), decimal_short 19 n (omega arith)))
-
--- a number read from the table, with what stands before it
-pub word_of : {o o' : List ℕ} {k r : ℕ} (before : List ℕ) (w x : ℕ) → w ≡ x → w < 2 ^ 32 → Wrote o k (before ++ decimal w) o' r →
-    Wrote o k (before ++ decimal x) o' r × (length (decimal x) ≤ 10)
-word_of {o} {o'} {k} {r} before w x e h v = (subst (λ (n : ℕ). Wrote o k (before ++ decimal n) o' r) e v, word_short x (omega arith))
-
--- a node's first word
-pub kind_of_lem : {o o' : List ℕ} {k r : ℕ} (t : List ℕ) (n w : ℕ) → w ≡ get_or t (n * node_words) 0 → w < 2 ^ 32 → Wrote o k (decimal w) o' r →
-    Wrote o k (decimal (word_at t n 0)) o' r × (length (decimal (word_at t n 0)) ≤ 10)
-kind_of_lem t n w e h v = word_of [] w _ (e ∙ ap (λ (m : ℕ). get_or t m 0) (omega arith)) h v
+head_short : (a b m n : ℕ) → m < 2 ^ 64 → n < 2 ^ 64 → length (head_line a b m n) ≤ 45
+head_short a b m n hm hn =
+    simp length-append (omega (arith, decimal_short 20 m (omega arith) (omega arith) hm, decimal_short 20 n (omega arith) (omega arith) hn))
 
 -- so many words behind a node's first, each behind one space
 unfoldable pub cells : (ℕ → ℕ) → ℕ → List ℕ
@@ -39,70 +34,59 @@ cells word zero = []
 cells word (suc k) = cells word k ++ (space ∷ decimal (word (suc k)))
 
 module _ (word : ℕ → ℕ) where
-  cells_next : (k : ℕ) → 1 ≤ k → cells word (k + 1 - 1) ≡ cells word (k - 1) ++ (space ∷ decimal (word k))
+  cells_next : (k : ℕ) → cells word (k + 1) ≡ cells word k ++ (space ∷ decimal (word (k + 1)))
   unfolding cells
-  cells_next zero h = absurd (omega arith)
-  cells_next (suc k) h =
-      let a : suc k + 1 - 1 ≡ suc k = omega arith in
-      let b : k ≡ suc k - 1 = omega arith in
-      ap (cells word) a ∙ ap (λ (j : ℕ). cells word j ++ (space ∷ decimal (word (suc k)))) b
+  cells_next k = rw add-one refl
 
-  cells_all : decimal (word 0) ++ (cells word (node_words - 1) ++ (newline ∷ [])) ≡ node_line word
+  cells_all : decimal (word 0) ++ (cells word 6 ++ (newline ∷ [])) ≡ node_line word
   unfolding cells
   cells_all =
       let earlier : (k : ℕ) (l : List ℕ) → cells word (suc k) ++ l ≡ cells word k ++ ((space ∷ decimal (word (suc k))) ++ l) =
       λ k l. append_assoc (cells word k) (space ∷ decimal (word (suc k))) l in
       ap (λ (l : List ℕ). decimal (word 0) ++ l) (earlier 5 _ ∙ earlier 4 _ ∙ earlier 3 _ ∙ earlier 2 _ ∙ earlier 1 _ ∙ earlier 0 _)
 
-  pub cells_none : {o : List ℕ} {k : ℕ} → k ≤ length o → Wrote o k (cells word 0) o k
+  pub cells_none : {w : Writer} → Appends w [] w → Appends w (cells word 0) w
   unfolding cells
-  cells_none h = wrote_none h
+  cells_none a = a
 
-  pub cells_no_length : length (cells word 0) ≤ 0
-  unfolding cells
-  cells_no_length = omega arith
-
-  -- one more
-  pub cells_more : {o m o' : List ℕ} {i j r : ℕ} (k : ℕ) → 1 ≤ k →
-      Wrote o i (cells word (k - 1)) m j → Wrote m j (space ∷ decimal (word k)) o' r → Wrote o i (cells word (k + 1 - 1)) o' r
-  cells_more {o} {m} {o'} {i} {j} {r} k h v w = subst (λ (l : List ℕ). Wrote o i l o' r) (sym (cells_next k h)) (wrote_then _ _ v w)
-
-  pub cells_longer : (k : ℕ) → 1 ≤ k → length (cells word (k - 1)) ≤ 11 * (k - 1) → length (decimal (word k)) ≤ 10 →
-      length (cells word (k + 1 - 1)) ≤ 11 * (k + 1 - 1)
-  cells_longer k h a b = omega (arith, ap length (cells_next k h) ∙ length-append (cells word (k - 1)) (space ∷ decimal (word k)))
+  pub cells_more : {u v w : Writer} (k : ℕ) {x : ℕ} → x ≡ word (k + 1) → Appends u (cells word k) v → Appends v (space ∷ decimal x) w →
+      Appends u (cells word (k + 1)) w
+  cells_more k e a b = appends_same (sym (cells_next k)) (appends_then a (appends_same (ap (λ (n : ℕ). space ∷ decimal n) e) b))
 
   -- the whole line
-  pub line_whole : {o m m' o' : List ℕ} {i j j' r : ℕ} (k : ℕ) → k ≡ node_words → Wrote o i (decimal (word 0)) m j × (length (decimal (word 0)) ≤ 10) →
-      Wrote m j (cells word (k - 1)) m' j' → length (cells word (k - 1)) ≤ 11 * (k - 1) → Wrote m' j' (newline ∷ []) o' r →
-      Wrote o i (node_line word) o' r × (length (node_line word) ≤ longest_line)
-  line_whole {o} {m} {m'} {o'} {i} {j} {j'} {r} k e (v, h) w g end =
-      let rest = cells word (k - 1) ++ (newline ∷ []) in
-      let all : decimal (word 0) ++ rest ≡ node_line word = ap (λ (n : ℕ). decimal (word 0) ++ (cells word (n - 1) ++ (newline ∷ []))) e ∙ cells_all in (
-        subst (λ (l : List ℕ). Wrote o i l o' r) all (wrote_then _ _ v (wrote_then _ _ w end)),
-        omega (arith, sym (ap length all) ∙ length-append (decimal (word 0)) rest, length-append (cells word (k - 1)) (newline ∷ [])),
-      )
+  pub line_whole : {u v w x : Writer} (k : ℕ) → k ≡ 6 → Appends u (decimal (word 0)) v → Appends v (cells word k) w →
+      Appends w (newline ∷ []) x → Appends u (node_line word) x
+  line_whole k e first others end =
+      appends_same (ap (λ (n : ℕ). decimal (word 0) ++ (cells word n ++ (newline ∷ []))) e ∙ cells_all)
+      (appends_then first (appends_then others end))
 
-module _ (t : List ℕ) (n : ℕ) where
-  abbrev this : List ℕ
-  this = node_line (λ k. word_at t n k)
+  pub line_short : ((k : ℕ) → word k < 2 ^ 32) → length (node_line word) ≤ longest_line
+  line_short h =
+      let s : (k : ℕ) → length (decimal (word k)) ≤ 10 = λ k. word_short (word k) (h k) in
+      simp length-append (omega (arith, s 0, s 1, s 2, s 3, s 4, s 5, s 6))
 
-  more : node_lines t (n + 1) ≡ node_lines t n ++ this
+module _ (t : List ℕ) where
+  -- a word of the node's, behind its first
+  pub word_behind : (n k : ℕ) {a m : ℕ} → a ≡ n * node_words + 1 → k < m → get_or (take m (drop a t)) k 0 ≡ word_at t n (k + 1)
+  word_behind n k {a} {m} e h = get_or-take m (drop a t) k 0 h ∙ get_or-drop a t k 0 ∙ ap (λ (j : ℕ). get_or t j 0) (omega (arith, e))
+
+  nodes_next : (n : ℕ) → node_lines t (n + 1) ≡ node_lines t n ++ node_line (λ k. word_at t n k)
   unfolding node_lines
-  more = ap (λ (m : ℕ). node_lines t m) (add-one n)
+  nodes_next n = ap (λ (m : ℕ). node_lines t m) (add-one n)
 
-  pub nodes_more : {o m o' : List ℕ} {k j r : ℕ} → Wrote o k (node_lines t n) m j → Wrote m j this o' r → Wrote o k (node_lines t (n + 1)) o' r
-  nodes_more {o} {m} {o'} {k} {j} {r} v w = subst (λ (l : List ℕ). Wrote o k l o' r) (sym more) (wrote_then _ _ v w)
+  pub nodes_none : {w : Writer} → Appends w [] w → Appends w (node_lines t 0) w
+  unfolding node_lines
+  nodes_none a = a
 
-  pub nodes_longer : length (node_lines t n) ≤ longest_line * n → length this ≤ longest_line → length (node_lines t (n + 1)) ≤ longest_line * (n + 1)
-  nodes_longer h g = omega (arith, ap length more ∙ length-append (node_lines t n) this)
+  pub nodes_more : {u v w : Writer} (n : ℕ) → Appends u (node_lines t n) v → Appends v (node_line (λ k. word_at t n k)) w →
+      Appends u (node_lines t (n + 1)) w
+  nodes_more n a b = appends_same (sym (nodes_next n)) (appends_then a b)
 
-pub nodes_none : {o : List ℕ} {k : ℕ} (t : List ℕ) → k ≤ length o → Wrote o k (node_lines t 0) o k
-unfolding node_lines
-nodes_none t h = wrote_none h
-
-pub nodes_no_length : (t : List ℕ) → length (node_lines t 0) ≤ longest_line * 0
-unfolding node_lines
-nodes_no_length t = omega arith
+  pub nodes_short : ((k : ℕ) → get_or t k 0 < 2 ^ 32) → (n : ℕ) → length (node_lines t n) ≤ longest_line * n
+  unfolding node_lines
+  nodes_short h zero = omega arith
+  nodes_short h (suc n) =
+      omega (arith, nodes_short h n, line_short (λ k. word_at t n k) (λ k. h (n * node_words + k)), length-append (node_lines t n) (node_line (λ k. word_at t n k)))
 
 -- by the answer's number
 pub listing_refused : (level : ℕ) (a : Answer) (t : List ℕ) → (a.number ≡ 0 → ⊥) → listing level a t ≡ head_line 110 111 a.number a.place
@@ -130,35 +114,39 @@ counted x e = within_room x.reading e
 
 -- a listing that fits stands whole
 whole : {o o' : List ℕ} {r level : ℕ} {text t t' : List ℕ} (a : Answer) → Answers base text t level a t' →
-    Wrote o 0 (listing level a t') o' r → length (listing level a t') ≤ length o → Listed level text t t' o o' r
-whole {o} {o'} {r} {level} {text} {t} {t'} a answers w h =
-    let n : r ≡ length (listing level a t') = omega (arith, w.place) in
-    record { answer = a; answers = answers; count = n; bytes_are = w.bytes_are ∙ over_start o (listing level a t') r n (omega arith); within = w.within }
+    Puts o 0 (listing level a t') o' r → length (listing level a t') ≤ length o → Listed level text t t' o o' r
+whole {o} {o'} {r} {level} {text} {t} {t'} a answers p h =
+    let n : r ≡ length (listing level a t') = omega (arith, puts_ends p (omega (arith, h, p.within))) in
+    record {
+      answer = a;
+      answers = answers;
+      count = n;
+      bytes_are = subst (λ (k : ℕ). o' ≡ listing level a t' ++ drop k o) (sym n) (puts_start p h);
+      within = omega (arith, n, h, puts_length p);
+    }
 
 module _ {text t t' o o' : List ℕ} {level r : ℕ} (a : Answer) (answers : Answers base text t level a t') (longest : 45 + base.nodes * longest_line ≡ length o) where
   -- the line of a refusal
-  pub list_refused : (w : ℕ) → w ≡ a.number → (a.number ≡ 0 → ⊥) → w < 2 ^ 32 → a.place < 2 ^ 64 →
-      Wrote o 0 (head_line 110 111 w a.place) o' r → Listed level text t t' o o' r
-  list_refused w e h g f v =
-      whole a answers (subst (λ (l : List ℕ). Wrote o 0 l o' r) (sym is) (subst (λ (n : ℕ). Wrote o 0 (head_line 110 111 n a.place) o' r) e v))
-      (omega (arith, ap length is, head_short 110 111 a.number a.place (omega arith) f))
+  pub list_refused : (a.number ≡ 0 → ⊥) → a.number < 2 ^ 64 → a.place < 2 ^ 64 → Puts o 0 (head_line 110 111 a.number a.place) o' r →
+      Listed level text t t' o o' r
+  list_refused h g f p =
+      whole a answers (subst (λ (l : List ℕ). Puts o 0 l o' r) (sym is) p)
+      (omega (arith, ap length is, head_short 110 111 a.number a.place g f))
     where
       is : listing level a t' ≡ head_line 110 111 a.number a.place
       is = listing_refused level a t' h
 
   -- the first line, and the nodes'
-  pub list_accepted : {m : List ℕ} {j : ℕ} (w : ℕ) → w ≡ level → a.number ≡ 0 → w < 2 ^ 32 → a.count < 2 ^ 64 →
-      Wrote o 0 (head_line 111 107 w a.count) m j → Wrote m j (node_lines t' a.count) o' r →
-      length (node_lines t' a.count) ≤ longest_line * a.count → Listed level text t t' o o' r
-  list_accepted {m} {j} w e h g f v u l =
-      whole a answers
-      (subst (λ (l : List ℕ). Wrote o 0 l o' r) (sym is) (wrote_then _ _ (subst (λ (n : ℕ). Wrote o 0 (head_line 111 107 n a.count) m j) e v) u))
+  pub list_accepted : a.number ≡ 0 → level < 2 ^ 64 → a.count < 2 ^ 64 → length (node_lines t' a.count) ≤ longest_line * a.count →
+      Puts o 0 (head_line 111 107 level a.count ++ node_lines t' a.count) o' r → Listed level text t t' o o' r
+  list_accepted h g f l p =
+      whole a answers (subst (λ (l : List ℕ). Puts o 0 l o' r) (sym is) p)
       (omega (
         arith,
         counted answers h,
         l,
         ap length is ∙ length-append (head_line 111 107 level a.count) (node_lines t' a.count),
-        head_short 111 107 level a.count (omega arith) f,
+        head_short 111 107 level a.count g f,
       ))
     where
       is : listing level a t' ≡ head_line 111 107 level a.count ++ node_lines t' a.count

@@ -1,7 +1,7 @@
 -- What was read lies within the buffer. Assumes nothing.
-use Rattle.std.specs.Prelude.{List, ℕ, ◌≤◌, length}
-use Rattle.muon.specs.declared.Input.{Input}
+use Rattle.std.specs.Prelude.{List, ℕ, ◌≤◌, length, Result, Ok, Err}
 
-abbrev pub Within : List ℕ → Input → Type 0
-Within buffer (Input.Bytes n) = n ≤ length buffer
-Within buffer (Input.Failed e) = Unit {0}
+-- of an error nothing is said
+abbrev pub Within : {E : Type 0} → List ℕ → Result ℕ E → Type 0
+Within buffer (Ok n) = n ≤ length buffer
+Within buffer (Err e) = Unit {0}

@@ -12,36 +12,18 @@ const LEVEL: u32 = 2;
 // The longest text and one byte more: a full buffer is a text too long.
 const INPUT: usize = TEXT + 1;
 
-// What standard input gave: that many bytes, or an error.
-#[derive(Drop)]
-enum Input {
-    Bytes(usize),
-    Failed(io::Error),
-}
-
-// One read into the buffer: no bytes at the end of the input.
-fn read_some(source: &mut impl Read, buffer: &mut [u8]) -> Input
-    ensures { Within buffer.new result }
-{
-    match source.read(buffer) {
-        Ok(n) => Input::Bytes(n),
-        Err(error) => Input::Failed(error),
-    }
-}
-
-// Reads until the input ends or the buffer is full, in whatever pieces it comes.
-fn read_all(source: &mut impl Read, buffer: &mut [u8]) -> Input
+// Reads until the input ends or the buffer is full, in whatever pieces it comes: how many bytes that were.
+fn read_all(source: &mut impl Read, buffer: &mut [u8]) -> io::Result<usize>
     ensures { Within buffer.new result }
 {
     let mut n = 0;
     while n < buffer.len() {
-        match read_some(source, &mut buffer[n..]) {
-            Input::Bytes(0) => return Input::Bytes(n),
-            Input::Bytes(more) => n += more,
-            Input::Failed(error) => return Input::Failed(error),
+        match source.read(&mut buffer[n..])? {
+            0 => return Ok(n),
+            more => n += more,
         }
     }
-    Input::Bytes(n)
+    Ok(n)
 }
 
 fn answer(rt: &impl Print, text: &[u8]) -> io::Result<()> {
@@ -53,8 +35,6 @@ fn answer(rt: &impl Print, text: &[u8]) -> io::Result<()> {
 
 fn main(rt: HostRuntime) -> io::Result<()> {
     let mut text = [0; INPUT];
-    match read_all(&mut rt.stdin(), &mut text) {
-        Input::Bytes(n) => answer(&rt, &text[..n]),
-        Input::Failed(error) => Err(error),
-    }
+    let n = read_all(&mut rt.stdin(), &mut text)?;
+    answer(&rt, &text[..n])
 }

@@ -4,19 +4,18 @@ use mathlib.Core.List.{List}
 use Prim.Native.Nat.{ℕ, min, ◌+◌, ◌<◌}
 use native.Mathlib.Omega.{arith}
 use lib.ListN.{length, get_or}
+use Rattle.std.specs.Prelude.{Option, Some, None, unwrap_or}
 use Rattle.rules.specs.Rule.{byte, Fails}
 use Rattle.rules.proofs.Classes.{is_just, just_is}
 use Rattle.rules.proofs.Matches.{byte_at}
+use Rattle.lexicon.specs.Found.{Finds}
 use Rattle.lexicon.specs.Utf8.{sequence}
-use Rattle.values.specs.Position.{Lines, next, same, Character, single, Characters, more, Before, Position, stands}
+use Rattle.values.specs.Position.{Lines, next, same, Character, encoded, single, Characters, more, Before, Position, stands}
 
 module _ {text : List ℕ} where
   placed : {i j l m b c : ℕ} → i ≡ j → l ≡ m → b ≡ c → Lines text i l b → Lines text j m c
   placed {i} {j} {l} {m} {b} {c} e f g x =
       subst (λ (y : ℕ). Lines text j m y) g (subst (λ (y : ℕ). Lines text j y b) f (subst (λ (y : ℕ). Lines text y l b) e x))
-
-  pub line_at : {i j l b : ℕ} → i ≡ j → Lines text i l b → Lines text j l b
-  line_at e x = placed e refl refl x
 
   -- behind a byte 0A the next line begins
   pub line_feed_lem : {i l m b c : ℕ} → Lines text i l b → i < length text → get_or text i 0 ≡ 0x0A → m ≡ l + 1 → c ≡ i + 1 → Lines text (i + 1) m c
@@ -27,8 +26,16 @@ module _ {text : List ℕ} where
   line_goes_on x h n e f =
       placed (omega arith) (sym e) (sym f) (same x h (record { none = λ t. n (just_is 0x0A _ (byte_at t).1) }))
 
-  pub single_byte : {i : ℕ} → i < length text → Fails text sequence i → Character text i (i + 1)
+  single_byte : {i : ℕ} → i < length text → Fails text sequence i → Character text i (i + 1)
   single_byte {i} h f = subst (Character text i) (omega arith) (single h f)
+
+  -- the character at a place, by what the search for a sequence there answers
+  pub character_at : {i j : ℕ} (f : Option ℕ) → i < length text → Finds text sequence i f → j ≡ unwrap_or f (i + 1) → Character text i j
+  character_at {i} {j} f h s e = subst (Character text i) (sym e) (go f s)
+    where
+      go : (f : Option ℕ) → Finds text sequence i f → Character text i (unwrap_or f (i + 1))
+      go (Some k) l = encoded l.takes
+      go None n = single_byte h n
 
   pub one_further : {b i j n : ℕ} → Characters text b i n → Character text i j → Characters text b j (n + 1)
   one_further {b} {j = j} x c = subst (Characters text b j) (omega arith) (more x c)

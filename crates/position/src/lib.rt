@@ -1,10 +1,9 @@
 // Line and column of a place in a text, for those who are told of a refusal.
 #![tactic(auto)]
 
-ghost use Rattle.std.specs.Prelude.{◌≡◌, min, ◌≤◌, ◌<◌, length};
+ghost use Rattle.std.specs.Prelude.{◌≤◌, ◌<◌, length};
 ghost use Rattle.values.specs.Position.{Lines, Character, Before, Position as Stands};
 
-use lexicon::Found;
 use utf8::sequence;
 
 // Both are counted from 1.
@@ -24,29 +23,17 @@ struct Line {
 // What ends a line.
 const FEED: u8 = 0x0A;
 
-// A place beyond the text is its end.
-fn in_text(text: &[u8], place: usize) -> usize
-    ensures { result ≡ min place (length text.now) }
-{
-    if place < text.len() {
-        return place;
-    }
-    text.len()
-}
-
 fn line_of(text: &[u8], end: usize) -> Line
     requires { end ≤ length text.now }
     ensures { Lines text.now end result.number result.begin }
 {
     let mut number = 1;
     let mut begin = 0;
-    let mut i = 0;
-    while i < end {
-        if text[i] == FEED {
+    for (i, b) in text[..end].iter().enumerate() {
+        if *b == FEED {
             number += 1;
             begin = i + 1;
         }
-        i += 1;
     }
     Line { number, begin }
 }
@@ -61,13 +48,10 @@ fn behind(text: &[u8], at: usize) -> usize
     if text[at] < 0x80 {
         return at + 1;
     }
-    let Found::At(end) = sequence(text, at) else {
-        return at + 1;
-    };
-    end
+    sequence(text, at).unwrap_or(at + 1)
 }
 
-// The characters from `begin` on that end before the place or at it.
+// The characters from `begin` on that end before the place or at it. A character may have several bytes, so no range gives the places.
 fn before(text: &[u8], begin: usize, place: usize) -> usize
     requires { (begin ≤ place) × (place ≤ length text.now) }
     ensures { Before text.now begin place result }
@@ -88,7 +72,8 @@ fn before(text: &[u8], begin: usize, place: usize) -> usize
 pub fn line_column(text: &[u8], place: usize) -> Position
     ensures { Stands text.now place result.line result.column }
 {
-    let end = in_text(text, place);
+    // A place beyond the text is its end.
+    let end = place.min(text.len());
     let line = line_of(text, end);
     let count = before(text, line.begin, end);
     Position {

@@ -11,18 +11,6 @@ use Rattle.files.specs.File.{number, mark, version, row, file}
 use Rattle.files.proofs.Bytes.{six_length, byte_at, six_at}
 use Rattle.stored.specs.Holds.{Holds}
 
--- ---- of a number
-
-pub high_byte : (n at : ℕ) → at ≡ 0 → n / 256 % 256 ≡ get_or (number 2 n) at 0
-high_byte n at e = ap (λ (k : ℕ). get_or (number 2 n) k 0) (sym e)
-
-pub low_byte : (n at : ℕ) → (at ≡ 0 → ⊥) → at < 2 → n % 256 ≡ get_or (number 2 n) at 0
-low_byte n zero h l = absurd (h refl)
-low_byte n (suc zero) h l = omega arith
-low_byte n (suc (suc at)) h l = absurd (omega arith)
-
--- ---- of a file
-
 module _ {t : List ℕ} {nodes size : ℕ} {text : List ℕ} {v : Value} (held : Holds t nodes size text v) where
   -- the number at an index, one of the first three or a word
   pub front_at : (k : ℕ) → k < 3 → get_or (version ∷ nodes ∷ size ∷ []) k 0 ≡ get_or (row text v) k 0

@@ -2,7 +2,7 @@
 use mathlib.Core.Path.{◌≡◌, sym, ap, subst, ◌∙◌}
 use mathlib.Core.List.{List}
 use mathlib.Core.Option.{Option}
-use Prim.Native.Nat.{ℕ, ◌*◌, ◌≤◌, min}
+use Prim.Native.Nat.{ℕ, ◌*◌, min}
 use native.Mathlib.Omega.{arith}
 use lib.ListN.{length, take}
 use Rattle.grammar.specs.Tree.{Value}
@@ -14,7 +14,7 @@ use Rattle.reading.specs.Tabled.{Holds, Judged, Judges, refused, other_table, sh
 use Rattle.reading.proofs.Found as Found
 use Rattle.reading.proofs.Found.{Found, found}
 
-module _ (text words lent left : List ℕ) (number : ℕ) (as_long : length lent ≡ min (base.nodes * node_words) (length words)) {a : Answer} (x : Answers base text lent number a left) where
+module _ {text lent left : List ℕ} {number : ℕ} {a : Answer} (words : List ℕ) (as_long : length lent ≡ min (base.nodes * node_words) (length words)) (x : Answers base text lent number a left) where
   same_room : room base (length lent) ≡ room base (length words)
   same_room = omega (arith, as_long)
 
@@ -28,15 +28,6 @@ module _ (text words lent left : List ℕ) (number : ℕ) (as_long : length lent
     f : Found base text lent left number a
     f = found base text lent left number x e
 
-    pub enough : a.count * node_words ≤ length left
-    enough = omega (arith, f.within)
-
-    pub enough_lent : a.count * node_words ≤ length words
-    enough_lent = omega (arith, f.few, as_long)
-
-    pub few : a.count ≤ 1024
-    few = omega (arith, f.few)
-
     words_are : (l : List ℕ) → take (a.count * node_words) l ≡ take (node_words * length (table f.tree)) l
     words_are l =
         let e : a.count * node_words ≡ node_words * length (table f.tree) = omega (arith, f.count_is) in
@@ -45,7 +36,8 @@ module _ (text words lent left : List ℕ) (number : ℕ) (as_long : length lent
     pub is_shown : take (a.count * node_words) left ≡ take (a.count * node_words) words → Judges base text words number a
     is_shown s = record { tree = _; tabled = shown (with_room f.read) (sym (words_are words) ∙ sym s ∙ words_are left ∙ f.holds) }
 
-    pub is_other : (take (a.count * node_words) left ≡ take (a.count * node_words) words → ⊥) → Judges base text words number (answer 14 0 0)
-    is_other n =
+    pub is_other : {b : Answer} → b ≡ answer 14 0 0 → (take (a.count * node_words) left ≡ take (a.count * node_words) words → ⊥) →
+        Judges base text words number b
+    is_other is n =
         let other : Holds words f.tree → ⊥ = λ h. n (words_are left ∙ f.holds ∙ sym h ∙ sym (words_are words)) in
-        record { tree = _; tabled = other_table (with_room f.read) other }
+        subst (Judges base text words number) (sym is) (record { tree = _; tabled = other_table (with_room f.read) other })

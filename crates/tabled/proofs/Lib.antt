@@ -1,3 +1,2 @@
 -- The laws behind judging a text with its table.
-pub mod Words
 pub mod Judged

@@ -2,40 +2,14 @@
 // A function with a `requires` is this crate's own. `judge`, the public one, has none.
 #![tactic(auto)]
 
-ghost use Rattle.std.specs.Prelude.{◌≡◌, ◌*◌, ◌≤◌, min, length, take};
-ghost use Rattle.rules.specs.Test.{Says};
+ghost use Rattle.std.specs.Prelude.{◌≡◌, ◌*◌, min, length};
 ghost use Rattle.grammar.specs.Nodes.{node_words};
 ghost use Rattle.reading.specs.Sizes.{base};
 ghost use Rattle.reading.specs.Tabled.{Judges};
 
 use grammar::NODE_WORDS;
-use reading::{Answer, TABLE};
+use reading::{Answer, Refusal, Refused, TABLE};
 use tree::read::read;
-
-// As many words of a table as a reading makes use of.
-fn usable(words: usize) -> usize
-    ensures { result ≡ min (base.nodes * node_words) words }
-{
-    if words < TABLE {
-        return words;
-    }
-    TABLE
-}
-
-// Whether two tables begin with the same words.
-fn same(own: &[u32], table: &[u32], words: usize) -> bool
-    requires { (words ≤ length own.now) × (words ≤ length table.now) }
-    ensures { Says result (take words own.now ≡ take words table.now) }
-{
-    let mut i = 0;
-    while i < words {
-        if own[i] != table[i] {
-            return false;
-        }
-        i += 1;
-    }
-    true
-}
 
 // Reads into a table of its own, with as much room, and compares.
 fn compared(level: u32, text: &[u8], table: &[u32], own: &mut [u32]) -> Answer
@@ -46,14 +20,14 @@ fn compared(level: u32, text: &[u8], table: &[u32], own: &mut [u32]) -> Answer
     if answer.number != 0 {
         return answer;
     }
-    if same(own, table, answer.count * NODE_WORDS) {
+    let words = answer.count * NODE_WORDS;
+    if own[..words] == table[..words] {
         return answer;
     }
-    Answer {
-        number: 14,
+    Answer::from(Refused {
+        refusal: Refusal::NotTheFile,
         place: 0,
-        count: 0,
-    }
+    })
 }
 
 // Judges a text with its table: a refusal of the reading, room judged by the table; 14 for a table whose first words are not what the
@@ -62,6 +36,6 @@ pub fn judge(level: u32, text: &[u8], table: &[u32]) -> Answer
     ensures { Judges base text.now table.now level result }
 {
     let mut own = [0; TABLE];
-    let words = usable(table.len());
+    let words = table.len().min(TABLE);
     compared(level, text, table, &mut own[..words])
 }

@@ -2,7 +2,6 @@
 #![tactic(auto)]
 
 ghost use Rattle.std.specs.Prelude.{◌≡◌};
-ghost use Rattle.lexicon.specs.Bytes.{bit};
 ghost use Rattle.lexicon.specs.Front.{Front};
 ghost use Rattle.token_c.specs.Numbers.{star_number_of, sign_number_of, head_number_of, form_number_of, kind_number_of, detail_number_of, words_of, TokenWords};
 
@@ -16,31 +15,21 @@ pub extern "C" fn muon_front(text: &[u8]) -> usize
     space::front::front(text)
 }
 
-fn bit_of(b: bool) -> u64
-    ensures { result ≡ bit b }
-{
-    if b { 1 } else { 0 }
-}
+// The conversions are functions, and no `From`: neither the enums nor `u64` are this crate's.
 
 fn star_number(low: Bound, high: Bound) -> u64
     ensures { result ≡ star_number_of low high }
 {
-    match low {
-        Bound::LessEqual => match high {
-            Bound::LessEqual => 12,
-            Bound::Less => 13,
-            Bound::Open => 16,
-        },
-        Bound::Less => match high {
-            Bound::LessEqual => 14,
-            Bound::Less => 15,
-            Bound::Open => 17,
-        },
-        Bound::Open => match high {
-            Bound::LessEqual => 18,
-            Bound::Less => 19,
-            Bound::Open => 20,
-        },
+    match (low, high) {
+        (Bound::LessEqual, Bound::LessEqual) => 12,
+        (Bound::LessEqual, Bound::Less) => 13,
+        (Bound::Less, Bound::LessEqual) => 14,
+        (Bound::Less, Bound::Less) => 15,
+        (Bound::LessEqual, Bound::Open) => 16,
+        (Bound::Less, Bound::Open) => 17,
+        (Bound::Open, Bound::LessEqual) => 18,
+        (Bound::Open, Bound::Less) => 19,
+        (Bound::Open, Bound::Open) => 20,
     }
 }
 
@@ -65,21 +54,7 @@ fn sign_number(sign: Sign) -> u64
 fn head_number(head: Head) -> u64
     ensures { result ≡ head_number_of head }
 {
-    match head {
-        Head::Array => 4,
-        Head::Set => 5,
-        Head::Bag => 6,
-        Head::Mix => 7,
-        Head::IntervalSet => 8,
-        Head::IntervalBag => 9,
-        Head::TupleArray => 10,
-        Head::Relation => 11,
-        Head::TupleBag => 12,
-        Head::Article => 13,
-        Head::Excuse => 14,
-        Head::Heading => 15,
-        Head::Renaming => 16,
-    }
+    4 + head as u64
 }
 
 fn form_number(form: Form) -> u64
@@ -99,15 +74,13 @@ fn kind_number(kind: Kind) -> u64
     match kind {
         Kind::Ignorance => 1,
         Kind::Boolean(_) => 2,
-        Kind::Integer { signed: _ } => 3,
+        Kind::Integer { .. } => 3,
         Kind::Fraction => 4,
         Kind::Bits => 5,
         Kind::Blob => 6,
         Kind::Text(_) => 7,
         Kind::Later => 8,
-        Kind::Symbol(_) => 9,
-        Kind::Colon => 9,
-        Kind::TwoColons => 9,
+        Kind::Symbol(_) | Kind::Colon | Kind::TwoColons => 9,
     }
 }
 
@@ -115,14 +88,10 @@ fn detail_number(kind: Kind) -> u64
     ensures { result ≡ detail_number_of kind }
 {
     match kind {
-        Kind::Ignorance => 0,
-        Kind::Boolean(value) => bit_of(value),
-        Kind::Integer { signed } => bit_of(signed),
-        Kind::Fraction => 0,
-        Kind::Bits => 0,
-        Kind::Blob => 0,
+        Kind::Ignorance | Kind::Fraction | Kind::Bits | Kind::Blob | Kind::Later => 0,
+        Kind::Boolean(value) => u64::from(value),
+        Kind::Integer { signed } => u64::from(signed),
         Kind::Text(form) => form_number(form),
-        Kind::Later => 0,
         Kind::Symbol(sign) => sign_number(sign),
         Kind::Colon => 10,
         Kind::TwoColons => 11,
@@ -134,19 +103,13 @@ fn words(answer: Next) -> [u64; 5]
     ensures { result ≡ words_of answer }
 {
     match answer {
-        Next::Token(t) => {
-            let kind = t.kind;
-            let first = t.first;
-            let end = t.end;
-            let bad = t.bad;
-            [
-                kind_number(kind),
-                first as u64,
-                end as u64,
-                detail_number(kind),
-                bit_of(bad),
-            ]
-        }
+        Next::Token(token) => [
+            kind_number(token.kind),
+            token.first as u64,
+            token.end as u64,
+            detail_number(token.kind),
+            u64::from(token.bad),
+        ],
         Next::End(place) => [0, place as u64, place as u64, 0, 0],
         Next::NoToken(place) => [10, place as u64, place as u64, 0, 0],
     }
@@ -157,6 +120,5 @@ fn words(answer: Next) -> [u64; 5]
 pub extern "C" fn muon_token(text: &[u8], at: usize, out: &mut [u64; 5])
     ensures { TokenWords text.now at out.new }
 {
-    let answer = token::next::next(text, at);
-    *out = words(answer);
+    *out = words(token::next::next(text, at));
 }

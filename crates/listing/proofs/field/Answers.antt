@@ -1,6 +1,6 @@
 -- `listing::field` meets its contract. Assumes nothing.
-use Rattle.listing.proofs.Pieces.{wrote_then}
+use Rattle.buffer.proofs.Appending.{appends_then}
 use Rattle.listing.proofs.field.Goals as goal
 
 pub returns : goal.returns
-returns c = wrote_then _ _ c.put-then.ensures c.number.ensures
+returns c = appends_then c.put.ensures c.number.ensures

@@ -1,23 +1,25 @@
 -- `listing::node` meets its contract. Assumes nothing.
+use mathlib.Core.Path.{◌≡◌, ap, ◌∙◌}
+use Prim.Native.Nat.{ℕ}
 use native.Mathlib.Omega.{arith}
-use Rattle.listing.proofs.Lines.{kind_of_lem, cells_none, cells_no_length, cells_more, cells_longer, line_whole}
-use borrow.Author.Rules.{rules}
+use lib.ListN.{get_or, length-take, length-drop}
+use Rattle.grammar.specs.Nodes.{word_at}
+use Rattle.buffer.proofs.Appending.{appends_none, appends_same}
+use Rattle.listing.specs.Listing.{decimal}
+use Rattle.listing.proofs.Lines.{cells_none, cells_more, line_whole, word_behind}
 use Rattle.listing.proofs.node.Goals as goal
 
 pub loop-word-init : goal.loop-word-init
-loop-word-init c = (cells_none _ c.number-then.ensures.within, cells_no_length _, search rules, search rules, search rules)
+loop-word-init c = cells_none _ (appends_none _)
 
 pub loop-word-preserved : goal.loop-word-preserved
-loop-word-preserved c = let l = c.loop-word in
-    let inv = l.invariant in (
-      cells_more _ l.word inv.2 inv.0 c.cell-then.ensures.wrote,
-      cells_longer _ l.word inv.2 inv.1 c.cell-then.ensures.index_len_bound,
-      search rules,
-      search rules,
-      search rules,
-    )
+loop-word-preserved c =
+    let k = c.loop-word.word-index in
+    cells_more _ k (c.from-in-loop-word.ensures ∙ word_behind c.args.table.now c.args.index k (omega arith) (omega (arith, length-take {A = ℕ})))
+    c.loop-word.invariant c.field.ensures
 
 pub returns : goal.returns
-returns c = let kind = kind_of_lem c.args.table.now c.args.index _ c.wide-kind.ensures.value c.wide-kind.ensures.upper_bound c.number-then.ensures in
-    let p = line_whole _ c.loop-word.word (omega arith) kind c.loop-word.invariant.0 c.loop-word.invariant.1 c.put.ensures in
-    record { wrote = p.0; k_len_bound = p.1 }
+returns c =
+    let first : c.from.result ≡ word_at c.args.table.now c.args.index 0 = c.from.ensures ∙ ap (λ (j : ℕ). get_or c.args.table.now j 0) (omega arith) in
+    line_whole _ c.loop-word.word-index (omega (arith, length-take {A = ℕ}, length-drop {A = ℕ})) (appends_same (ap decimal first) c.number.ensures)
+    c.loop-word.invariant c.put.ensures

@@ -5,10 +5,10 @@ use Rattle.position.proofs.Steps.{told}
 use Rattle.position.proofs.line_column.Goals as goal
 
 pub before-count-requires : goal.before-count-requires
-before-count-requires c = (begins_before _ c.line_of-line.ensures, omega (arith, c.in_text-end.ensures))
+before-count-requires c = (begins_before _ c.line_of-line.ensures, omega arith)
 
 pub overflow_add-result : goal.overflow_add-result
-overflow_add-result c = omega (arith, count_small _ c.before-count.ensures.characters, c.before-count.ensures.within, c.in_text-end.ensures)
+overflow_add-result c = omega (arith, count_small _ c.before-count.ensures.characters, c.before-count.ensures.within)
 
 pub returns : goal.returns
-returns c = told c.in_text-end.ensures c.line_of-line.ensures c.before-count.ensures
+returns c = told (omega arith) c.line_of-line.ensures c.before-count.ensures

@@ -1,37 +1,27 @@
--- `position::line_of` meets its contract: the invariant is the line of `i`. What is left before the end is the measure. Assumes nothing.
+-- `position::line_of` meets its contract. Assumes nothing.
+use mathlib.Core.Path.{sym, ◌∙◌}
 use native.Mathlib.Omega.{arith}
+use lib.Seq.{get_or-take, length-take-le}
 use Rattle.values.specs.Position.{first}
 use Rattle.values.proofs.Position.{line_small}
-use Rattle.position.proofs.Steps.{line_feed_lem, line_goes_on, line_at}
+use Rattle.position.proofs.Steps.{line_feed_lem, line_goes_on}
 use Rattle.position.proofs.line_of.Goals as goal
-use Rattle.position.proofs.line_of.Goals.{then-text-i-eq-FEED, else-text-i-eq-FEED}
+use Rattle.position.proofs.line_of.Goals.{then-b-eq-FEED, else-b-eq-FEED}
 
 pub loop-i-init : goal.loop-i-init
-loop-i-init c = (omega arith, first)
-
-pub bounds-text-i : goal.bounds-text-i
-bounds-text-i c = omega arith
+loop-i-init c = first
 
 pub overflow_add-number : goal.overflow_add-number
-overflow_add-number c = omega (arith, line_small _ c.loop-i.invariant.1, c.loop-i.invariant.0)
-
-pub overflow_add-begin : goal.overflow_add-begin
-overflow_add-begin c = omega arith
-
-pub overflow_add-i : goal.overflow_add-i
-overflow_add-i c = omega arith
-
-pub loop-i-smaller : goal.loop-i-smaller
-loop-i-smaller c = omega arith
+overflow_add-number c =
+    let n = length-take-le c.args.end c.args.text.now c.requires in
+    record { fits = omega (arith, n, line_small _ c.loop-i.invariant) }
 
 pub loop-i-preserved : goal.loop-i-preserved
-loop-i-preserved c = let x = c.loop-i.invariant.1 in (
-  omega arith,
-  elim c.if-text-i-eq-FEED.branch [
-    | then-text-i-eq-FEED w ↦ line_feed_lem x (omega arith) w.if-text-i-eq-FEED.true w.number-is w.begin-is
-    | else-text-i-eq-FEED w ↦ line_goes_on x (omega arith) w.if-text-i-eq-FEED.false w.number-is w.begin-is
-  ],
-)
-
-pub returns : goal.returns
-returns c = line_at (omega (arith, c.loop-i.invariant.0)) c.loop-i.invariant.1
+loop-i-preserved c =
+    let x = c.loop-i.invariant in
+    let n = length-take-le c.args.end c.args.text.now c.requires in
+    let same = get_or-take c.args.end c.args.text.now c.loop-i.i 0 (omega (arith, n)) in
+    elim c.if-b-eq-FEED.branch [
+      | then-b-eq-FEED w ↦ line_feed_lem x (omega (arith, n)) (sym same ∙ w.if-b-eq-FEED.true) w.number-is w.begin-is
+      | else-b-eq-FEED w ↦ line_goes_on x (omega (arith, n)) (λ e. w.if-b-eq-FEED.false (same ∙ e)) w.number-is w.begin-is
+    ]

@@ -1,8 +1,7 @@
 -- `stored::check` meets its contract. Assumes nothing.
 use Rattle.rules.proofs.Tests.{refuted}
-use Rattle.files.specs.Checks.{accepted}
 use Rattle.stored.proofs.Heads.{long_enough}
-use Rattle.stored.proofs.Calls.{twelve, thirteen, fourteen}
+use Rattle.stored.proofs.Calls.{twelve, thirteen, fourteen, checked}
 use Rattle.stored.proofs.check.Goals as goal
 
 pub returns-then-unmarked : goal.returns-then-unmarked
@@ -19,4 +18,4 @@ returns-then-not-stored c = fourteen c.refused-then-not-stored.ensures (refuted 
     (refuted c.stored.ensures c.if-not-stored.true)
 
 pub returns : goal.returns
-returns c = accepted (c.stored.ensures.true_holds c.if-not-stored.false)
+returns c = checked c.accepted.ensures (c.stored.ensures.true_holds c.if-not-stored.false)

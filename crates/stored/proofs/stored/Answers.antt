@@ -9,12 +9,12 @@ use Rattle.stored.proofs.stored.Goals as goal
 pub returns-then-answer-ne0 : goal.returns-then-answer-ne0
 returns-then-answer-ne0 c = says_no (no_file (read_refused old_rules _ _ refl c.reading-answer.ensures c.if-answer-ne0.true))
 
-pub same-requires : goal.same-requires
-same-requires c =
+pub invariant_of-written : goal.invariant_of-written
+invariant_of-written c =
     let found = read_accepted old_rules _ _ refl c.reading-answer.ensures c.if-answer-ne0.false in
-    (found.few, found.within)
+    record { few = found.few; held = found.within }
 
 pub returns : goal.returns
 returns c =
     let found = read_accepted old_rules _ _ refl c.reading-answer.ensures c.if-answer-ne0.false in
-    says_stored found (c.same.ensures _ found.tree found.held)
+    says_stored found (c.is.ensures _ found.tree found.held)
