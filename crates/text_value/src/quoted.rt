@@ -35,6 +35,7 @@ fn behind_backslash(b: u8) -> Meaning
 }
 
 // A code point by its number, and the closing angle; the place behind it.
+#[inline(always)]
 fn angled(piece: &[u8], at: usize, out: &mut Writer) -> usize
     requires { Stands (Angled piece.now) at }
     ensures { Wrote (Angled piece.now) at result out.old out.new }
@@ -47,6 +48,7 @@ fn angled(piece: &[u8], at: usize, out: &mut Writer) -> usize
 }
 
 // A backslash, and a letter or a code point by its number.
+#[inline(always)]
 fn escape(piece: &[u8], at: usize, out: &mut Writer) -> usize
     requires { Stands (Item piece.now) at × At piece.now backslash at }
     ensures { Wrote (Item piece.now) at result out.old out.new }
@@ -62,6 +64,7 @@ fn escape(piece: &[u8], at: usize, out: &mut Writer) -> usize
 }
 
 // Characters and escapes, through the closing quote.
+#[inline(always)]
 fn escaped(piece: &[u8], at: usize, out: &mut Writer) -> usize
     requires { Stands (Unescapes piece.now) at }
     ensures { Wrote (Unescapes piece.now) at result out.old out.new }
@@ -93,6 +96,7 @@ fn closing(piece: &[u8], at: usize) -> usize
 }
 
 // Characters, each of them itself, through the closing quote.
+#[inline(always)]
 fn plain(piece: &[u8], at: usize, out: &mut Writer) -> usize
     requires { Stands (Copies piece.now) at }
     ensures { Wrote (Copies piece.now) at result out.old out.new }
@@ -103,6 +107,7 @@ fn plain(piece: &[u8], at: usize, out: &mut Writer) -> usize
 }
 
 // A segment. It is an escaped one only if a backslash stands first in it.
+#[inline(always)]
 fn segment(piece: &[u8], at: usize, out: &mut Writer) -> usize
     requires { Stands (SegmentBytes piece.now) at }
     ensures { Wrote (SegmentBytes piece.now) at result out.old out.new }
@@ -114,6 +119,7 @@ fn segment(piece: &[u8], at: usize, out: &mut Writer) -> usize
 }
 
 // All the segments.
+#[inline(always)]
 pub(crate) fn quoted(piece: &[u8], out: &mut Writer)
     requires { HasQuoted piece.now }
     ensures { WroteQuoted piece.now out.old out.new }
