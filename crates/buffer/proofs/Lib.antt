@@ -1,4 +1,5 @@
 -- The laws of bytes put into a buffer.
 pub mod Puts
+pub mod Copied
 pub mod Appending
 pub mod Writing

@@ -50,16 +50,12 @@ puts_then {t} {u} {v} {k} {n} {m} {xs} {bs} p q =
       within = p.within;
     }
 
--- the bytes of a slice, one more, and all
+-- the bytes of a slice, one more
 pub puts_next : (bytes : List ℕ) (i : ℕ) → i < length bytes → {t u v : List ℕ} {k n m : ℕ} → Puts t k (take i bytes) u n →
     Puts u n (get_or bytes i 0 ∷ []) v m → Puts t k (take (i + 1) bytes) v m
 puts_next bytes i h p q =
     let e : suc i ≡ i + 1 = omega arith in
     puts_same (sym (take-suc bytes i 0 h) ∙ ap (λ (j : ℕ). take j bytes) e) (puts_then p q)
-
-pub puts_all : (bytes : List ℕ) (i : ℕ) → i ≡ length bytes → {t t' : List ℕ} {k n : ℕ} → Puts t k (take i bytes) t' n →
-    Puts t k bytes t' n
-puts_all bytes i e p = puts_same (ap (λ (j : ℕ). take j bytes) e ∙ take-length bytes) p
 
 -- the place is that behind them all, where there is one
 pub puts_ends : {t t' bs : List ℕ} {k n : ℕ} → Puts t k bs t' n → k + length bs ≤ largest → n ≡ k + length bs

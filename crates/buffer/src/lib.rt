@@ -1,5 +1,6 @@
 // Bytes into a lent buffer, one behind the other. A byte that does not fit is counted and not written, so that the same functions
 // measure a value, over an empty part, and write it.
+// Both writers are always inlined: of a writer that lies in memory each byte would read place and buffer again.
 #![tactic(auto)]
 
 ghost use Rattle.std.specs.Prelude.{[], ◌∷◌, ◌≤◌, length};
@@ -26,6 +27,7 @@ impl<'a> Writer<'a> {
     }
 
     // One byte. Behind the largest place there is none, and counting stops.
+    #[inline(always)]
     pub fn put(&mut self, b: u8)
         ensures { Appends self.old (b ∷ []) self.new }
     {
@@ -39,11 +41,15 @@ impl<'a> Writer<'a> {
     }
 
     // The bytes of a slice.
+    #[inline(always)]
     pub fn copy(&mut self, bytes: &[u8])
         ensures { Appends self.old bytes.now self.new }
     {
-        for b in bytes {
-            self.put(*b);
+        let at = self.at;
+        self.at = at.saturating_add(bytes.len());
+        if at < self.buffer.len() {
+            let n = bytes.len().min(self.buffer.len() - at);
+            self.buffer[at..at + n].copy_from_slice(&bytes[..n]);
         }
     }
 }

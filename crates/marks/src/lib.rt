@@ -8,7 +8,8 @@ ghost use Rattle.marks.specs.ByNumber.{opening_by, closing_by, lead_by, counted_
 
 use buffer::Writer;
 
-// Kinds by their numbers. Those below Pair have no children.
+// Kinds by their numbers, as a lent table has them: the functions promise something of every number, so that an enum would need another
+// variant for the rest and be no plainer. Those below Pair have no children.
 pub const PAIR: u32 = 9;
 
 const TUPLE: u32 = 10;

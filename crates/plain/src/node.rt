@@ -1,10 +1,11 @@
 // The nodes of a table, by index.
 ghost use Rattle.std.specs.Prelude.{◌≡◌, ◌/◌, ◌<◌, length};
 ghost use Rattle.grammar.specs.Nodes.{node_words, role_word, word_at};
-ghost use Rattle.plain.specs.Nodes.{Inside, Tells, Past};
+ghost use Rattle.plain.specs.Nodes.{Inside, Tells, Past, Behind};
 
 use grammar::{DETAIL, END, FIRST, KIND, NODE_WORDS, ROLE, SKIP};
 use leaf::Node;
+use marks::THAT_BEFORE;
 
 // A table of nodes, by its words.
 #[derive(Clone, Copy)]
@@ -56,5 +57,15 @@ impl Nodes<'_> {
         }
         let told = self.word(index, SKIP) as usize;
         told.clamp(index + 1, all)
+    }
+
+    // The index behind a child that ends at `then`: behind the this too where the that stands before it.
+    pub(crate) fn behind(&self, role: u32, then: usize) -> usize
+        ensures { Behind self.now.words.now role then result }
+    {
+        if role == THAT_BEFORE {
+            return self.past(then);
+        }
+        then
     }
 }

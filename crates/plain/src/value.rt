@@ -1,6 +1,6 @@
 // A node holds children and a child holds nodes: the two writers call each other, each time for later nodes.
-ghost use Rattle.plain.specs.Nodes.{NodeBytes, ChildBytes, Behind};
 ghost use Rattle.buffer.specs.Appends.{AppendsPart};
+ghost use Rattle.plain.specs.Nodes.{NodeBytes, ChildBytes};
 
 use crate::node::Nodes;
 use buffer::Writer;
@@ -15,23 +15,13 @@ pub(crate) struct Source<'a> {
 }
 
 impl Source<'_> {
-    // The index behind a child that ends at `then`: behind the this too where the that stands before it.
-    fn behind(&self, role: u32, then: usize) -> usize
-        ensures { Behind self.now.nodes.words.now role then result }
-    {
-        if role == THAT_BEFORE {
-            return self.nodes.past(then);
-        }
-        then
-    }
-
     // The plain form of the branch at the index.
     // (Measure: twice the words from the node on. Loop: stop - i falls.)
     #[cycle(child_write_node)]
     pub(crate) fn write_node(&self, index: usize, out: &mut Writer)
         ensures { AppendsPart (NodeBytes self.now.text.now self.now.nodes.words.now index) out.old out.new }
     {
-        let nodes = &self.nodes;
+        let nodes = self.nodes;
         if index >= nodes.count() {
             return;
         }
@@ -53,7 +43,7 @@ impl Source<'_> {
             self.child(role, i, out);
             done = counted(done, role);
             before = role;
-            i = self.behind(role, nodes.past(i));
+            i = nodes.behind(role, nodes.past(i));
         }
         tail(kind, detail, done, out);
         close(kind, out);

@@ -6,6 +6,7 @@ ghost use Rattle.buffer.specs.Appends.{Appends};
 use buffer::Writer;
 
 // A continuation byte: the last six bits.
+#[inline(always)]
 fn tail(code: u32, out: &mut Writer)
     ensures { Appends out.old (tail_of code ∷ []) out.new }
 {
@@ -13,6 +14,7 @@ fn tail(code: u32, out: &mut Writer)
 }
 
 // A code point, in one to four bytes. Its caller has found it to be one.
+#[inline(always)]
 pub(crate) fn encode(code: u32, out: &mut Writer)
     requires { code < 0x110000 }
     ensures { Appends out.old (encode_of code) out.new }

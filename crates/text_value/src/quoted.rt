@@ -11,6 +11,7 @@ use space::space;
 use text::byte::stands;
 
 // A code point by its number, and the closing angle; the place behind it.
+#[inline(always)]
 fn angled(piece: &[u8], at: usize, out: &mut Writer) -> usize
     requires { Stands (Angled piece.now) at }
     ensures { Wrote (Angled piece.now) at result out.old out.new }
@@ -23,6 +24,7 @@ fn angled(piece: &[u8], at: usize, out: &mut Writer) -> usize
 }
 
 // A backslash, and a letter or a code point by its number.
+#[inline(always)]
 fn escape(piece: &[u8], at: usize, out: &mut Writer) -> usize
     requires { Stands (Item piece.now) at × At piece.now backslash at }
     ensures { Wrote (Item piece.now) at result out.old out.new }
@@ -42,6 +44,7 @@ fn escape(piece: &[u8], at: usize, out: &mut Writer) -> usize
 }
 
 // Characters and escapes, through the closing quote.
+#[inline(always)]
 fn escaped(piece: &[u8], at: usize, out: &mut Writer) -> usize
     requires { Stands (Unescapes piece.now) at }
     ensures { Wrote (Unescapes piece.now) at result out.old out.new }
@@ -73,6 +76,7 @@ fn closing(piece: &[u8], at: usize) -> usize
 }
 
 // Characters, each of them itself, through the closing quote.
+#[inline(always)]
 fn plain(piece: &[u8], at: usize, out: &mut Writer) -> usize
     requires { Stands (Copies piece.now) at }
     ensures { Wrote (Copies piece.now) at result out.old out.new }
@@ -83,6 +87,7 @@ fn plain(piece: &[u8], at: usize, out: &mut Writer) -> usize
 }
 
 // A segment. It is an escaped one only if a backslash stands first in it.
+#[inline(always)]
 fn segment(piece: &[u8], at: usize, out: &mut Writer) -> usize
     requires { Stands (SegmentBytes piece.now) at }
     ensures { Wrote (SegmentBytes piece.now) at result out.old out.new }
@@ -94,6 +99,7 @@ fn segment(piece: &[u8], at: usize, out: &mut Writer) -> usize
 }
 
 // All the segments.
+#[inline(always)]
 pub(crate) fn quoted(piece: &[u8], out: &mut Writer)
     requires { HasQuoted piece.now }
     ensures { WroteQuoted piece.now out.old out.new }

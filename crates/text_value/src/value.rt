@@ -87,7 +87,8 @@ fn judge(piece: &[u8]) -> Result<Shape, Refused>
     shape_of(piece)
 }
 
-// The characters of the piece.
+// The characters of the piece. What writes them is always inlined, so that the writer of `write` stays in registers.
+#[inline(always)]
 fn characters(piece: &[u8], shape: Shape, out: &mut Writer)
     requires { Shaped piece.now shape }
     ensures { AppendsText piece.now out.old out.new }
