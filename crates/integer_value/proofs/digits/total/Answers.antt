@@ -1,11 +1,8 @@
 -- `integer_value::digits::total` meets its contract. Assumes nothing.
 use native.Mathlib.Omega.{arith}
 use Rattle.rules.proofs.Matches.{forward}
-use Rattle.integer_value.proofs.Walks.{walk_begins, walk_within, walk_beyond, walk_ends, walk_next}
+use Rattle.integer_value.proofs.Walks.{walk_within, walk_beyond, walk_ends, walk_next}
 use Rattle.integer_value.proofs.digits.total.Goals as goal
-
-pub loop-sum-init : goal.loop-sum-init
-loop-sum-init c = walk_begins c.requires
 
 pub bounds-piece-i : goal.bounds-piece-i
 bounds-piece-i c = walk_within c.loop-sum.invariant

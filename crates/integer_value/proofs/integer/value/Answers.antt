@@ -9,8 +9,5 @@ returns-in_err-sound c = judged_unsound _ _ c.in_err-sound.ensures c.from_residu
 pub returns-then-ne : goal.returns-then-ne
 returns-then-ne c = judged_other _ c.in_ok-sound.ensures (not_whole _ c.integer.ensures c.ne.ensures c.if-ne.true)
 
-pub literal-requires : goal.literal-requires
-literal-requires c = is_whole _ c.integer.ensures c.ne.ensures c.if-ne.false
-
 pub returns : goal.returns
 returns c = rw c.ok_or.ensures.value (judged_value _ c.in_ok-sound.ensures (is_whole _ c.integer.ensures c.ne.ensures c.if-ne.false) _ c.literal.ensures)

@@ -6,9 +6,6 @@ use Rattle.text_value.proofs.quoted.angled.Goals as goal
 pub unreachable-requires : goal.unreachable-requires
 unreachable-requires c = angled_none _ c.requires c.in_default.ensures
 
-pub code-requires : goal.code-requires
-code-requires c = c.in-Some.ensures.0.takes
-
 pub encode-requires : goal.encode-requires
 encode-requires c = angled_fits _ c.requires c.in-Some.ensures.0 c.code.ensures
 

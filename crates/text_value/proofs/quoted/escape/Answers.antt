@@ -5,9 +5,6 @@ use Rattle.text_value.proofs.Walks.{escape_within, escape_angled, escape_none, l
 use Rattle.text_value.proofs.quoted.escape.Goals.{in-113, in-103, in-98, in-116, in-110, in-114}
 use Rattle.text_value.proofs.quoted.escape.Goals as goal
 
-pub overflow_add-at : goal.overflow_add-at
-overflow_add-at c = omega (arith, escape_within _ c.requires.0 c.requires.1)
-
 pub bounds-piece-at : goal.bounds-piece-at
 bounds-piece-at c = escape_within _ c.requires.0 c.requires.1
 

@@ -5,9 +5,6 @@ use Rattle.text_value.proofs.value.characters.Goals as goal
 pub quoted-requires : goal.quoted-requires
 quoted-requires c = has_quoted _ (shaped_as _ c.in-Quoted.is c.requires)
 
-pub code-requires : goal.code-requires
-code-requires c = (shaped_as _ c.in-CodePoint.is c.requires).0
-
 pub encode-requires : goal.encode-requires
 encode-requires c = code_fits _ (shaped_as _ c.in-CodePoint.is c.requires) c.code.ensures
 

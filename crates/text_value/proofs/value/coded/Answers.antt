@@ -6,7 +6,7 @@ use Rattle.rules.proofs.Matches.{ending}
 use Rattle.lexicon.specs.Bad.{BadCode}
 use Rattle.lexicon.proofs.Answers.{shorter}
 use Rattle.piece.specs.Fits.{not_the_literal, bad}
-use Rattle.text_value.proofs.Texts.{code_other, whole_bad, whole_good}
+use Rattle.text_value.proofs.Texts.{code_other, whole_bad}
 use Rattle.text_value.proofs.value.coded.Goals as goal
 
 pub returns-in_default : goal.returns-in_default
@@ -18,7 +18,3 @@ returns-then-end-piece c = not_the_literal (code_other _ c.requires.0 c.requires
 pub returns-then-bad : goal.returns-then-bad
 returns-then-bad c = let y = c.in-Some.ensures in
     bad (right (right (ending c.if-end-piece.false y.0.takes))) (inr (refl, whole_bad _ (BadCode c.args.piece.now) y c.if-end-piece.false c.if-bad.true))
-
-pub returns : goal.returns
-returns c = let y = c.in-Some.ensures in
-    (ending c.if-end-piece.false y.0.takes, whole_good _ (BadCode c.args.piece.now) y c.if-end-piece.false c.if-bad.false)

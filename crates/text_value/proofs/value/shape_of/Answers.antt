@@ -4,11 +4,8 @@ use Rattle.rules.specs.Rule.{left}
 use Rattle.rules.proofs.Matches.{ending}
 use Rattle.lexicon.specs.Bad.{BadQuoted}
 use Rattle.piece.specs.Fits.{not_the_literal, bad}
-use Rattle.text_value.proofs.Texts.{quoted_other, whole_bad, whole_good}
+use Rattle.text_value.proofs.Texts.{quoted_other, whole_bad}
 use Rattle.text_value.proofs.value.shape_of.Goals as goal
-
-pub unquoted-requires : goal.unquoted-requires
-unquoted-requires c = c.in_default.ensures
 
 pub returns-then-end-piece : goal.returns-then-end-piece
 returns-then-end-piece c = not_the_literal (quoted_other _ c.in-Some.ensures.0 c.if-end-piece.true)
@@ -16,7 +13,3 @@ returns-then-end-piece c = not_the_literal (quoted_other _ c.in-Some.ensures.0 c
 pub returns-then-bad : goal.returns-then-bad
 returns-then-bad c = let y = c.in-Some.ensures in
     bad (left (ending c.if-end-piece.false y.0.takes)) (inl (c.first_bad.ensures.bad (whole_bad _ (BadQuoted c.args.piece.now) y c.if-end-piece.false c.if-bad.true)))
-
-pub returns : goal.returns
-returns c = let y = c.in-Some.ensures in
-    (ending c.if-end-piece.false y.0.takes, whole_good _ (BadQuoted c.args.piece.now) y c.if-end-piece.false c.if-bad.false)
