@@ -1,10 +1,8 @@
 -- A node is stored where it fits. Assumes nothing.
-use Rattle.table.proofs.Stores.{not_stored, stored}
+use mathlib.Core.Path.{◌∙◌}
+use native.Mathlib.Omega.{arith}
+use Rattle.table.proofs.Stores.{stored}
 use Rattle.table.proofs.put.Goals as goal
 
-pub returns-then-index-table : goal.returns-then-index-table
-returns-then-index-table c = not_stored _ _ _ c.if-index-table.true
-
 pub returns : goal.returns
-returns c = let a = c.args in
-    stored a.table.now a.index a.node _ c.if-index-table.false c.role_number-number.ensures c.store.ensures
+returns c = stored _ _ _ c.if-index-table.false (c.copy_from_slice.ensures.after ∙ c.words.ensures) (omega arith)
