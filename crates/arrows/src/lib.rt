@@ -6,33 +6,34 @@ ghost use Rattle.grammar.specs.Level;
 ghost use Rattle.grammar.specs.Nodes;
 ghost use Rattle.moves.specs.Means.{level_of, role_of, arrow_of};
 
-use moves::{Forms, Role};
+use moves::{Arrow, Forms, Role};
 
 // The role of the value behind it.
-pub fn right_role(leftward: bool) -> Role
-    ensures { role_of result ≡ Nodes.right_role_of (arrow_of leftward) }
+pub fn right_role(arrow: Arrow) -> Role
+    ensures { role_of result ≡ Nodes.right_role_of (arrow_of arrow) }
 {
-    if leftward {
-        Role::This
-    } else {
-        Role::ThatAfter
+    match arrow {
+        Arrow::Right => Role::ThatAfter,
+        Arrow::Left => Role::This,
     }
 }
 
 // The role of the value before it.
-pub fn left_role(leftward: bool) -> Role
-    ensures { role_of result ≡ Nodes.left_role_of (arrow_of leftward) }
+pub fn left_role(arrow: Arrow) -> Role
+    ensures { role_of result ≡ Nodes.left_role_of (arrow_of arrow) }
 {
-    if leftward {
-        Role::ThatBefore
-    } else {
-        Role::This
+    match arrow {
+        Arrow::Right => Role::This,
+        Arrow::Left => Role::ThatBefore,
     }
 }
 
 // `->`, and `<-` if the level has it.
-pub fn has_arrow(forms: Forms, leftward: bool) -> bool
-    ensures { result ≡ Level.has_arrow_of (level_of forms) (arrow_of leftward) }
+pub fn has_arrow(forms: Forms, arrow: Arrow) -> bool
+    ensures { result ≡ Level.has_arrow_of (level_of forms) (arrow_of arrow) }
 {
-    if leftward { forms.leftward } else { true }
+    match arrow {
+        Arrow::Right => true,
+        Arrow::Left => forms.leftward,
+    }
 }

@@ -1,9 +1,6 @@
 // The moves that a counted collection has and a Lot has not: `{` behind its head, a member's count, and `)` behind its `}`.
-#![tactic(auto)]
+#![tactic(auto, using(moves::proofs::Moved::moved))]
 
-ghost use Rattle.std.specs.Prelude.{Bool, ◌≡◌};
-ghost use Rattle.grammar.specs.Nodes.{kind_number_of};
-ghost use Rattle.moves.specs.Means.{kind_of};
 ghost use Rattle.moves.specs.Moves.{Moves};
 
 use lexicon::{Kind, Sign};
@@ -13,59 +10,20 @@ use moves::{Forms, Mode, Move, Role, Style};
 pub fn head(style: Style, kind: Kind) -> Move
     ensures { (forms : Forms) → Moves forms (Mode.Head style) kind result }
 {
-    let Kind::Symbol(sign) = kind else {
-        return Move::Wrong;
-    };
-    let Sign::CurlyOpen = sign else {
-        return Move::Wrong;
-    };
-    Move::Deeper(style)
-}
-
-// An unsigned Integer counts in an Array and in a Bag.
-fn number_count(style: Style, signed: bool) -> Move
-    ensures { (forms : Forms) → Moves forms (Mode.Count style) (Kind.Integer signed) result }
-{
-    if signed {
-        return Move::Wrong;
-    }
-    match style {
-        Style::Array => Move::Count(Style::Array),
-        Style::Bag => Move::Count(Style::Bag),
+    match kind {
+        Kind::Symbol(Sign::CurlyOpen) => Move::Deeper(style),
         _ => Move::Wrong,
     }
 }
 
-// A Boolean counts in a Set alone.
-fn truth_count(style: Style) -> Move
-    ensures { (forms : Forms) (truth : Bool) → Moves forms (Mode.Count style) (Kind.Boolean truth) result }
-{
-    let Style::Set = style else {
-        return Move::Wrong;
-    };
-    Move::Count(Style::Set)
-}
-
-// A count behind a member and `:`.
+// A count behind a member and `:`: an unsigned Integer in an Array and in a Bag, a Boolean in a Set.
 pub fn count(style: Style, kind: Kind) -> Move
     ensures { (forms : Forms) → Moves forms (Mode.Count style) kind result }
 {
-    match kind {
-        Kind::Boolean(_) => truth_count(style),
-        Kind::Integer { signed } => number_count(style, signed),
+    match (style, kind) {
+        (Style::Array | Style::Bag, Kind::Integer { signed: false }) => Move::Count(style),
+        (Style::Set, Kind::Boolean(_)) => Move::Count(style),
         _ => Move::Wrong,
-    }
-}
-
-// The node's kind.
-fn style_kind(style: Style) -> u32
-    ensures { result ≡ kind_number_of (kind_of style) }
-{
-    match style {
-        Style::Lot => 11,
-        Style::Array => 12,
-        Style::Set => 13,
-        Style::Bag => 14,
     }
 }
 
@@ -73,15 +31,8 @@ fn style_kind(style: Style) -> u32
 pub fn headed(style: Style, kind: Kind) -> Move
     ensures { (forms : Forms) → Moves forms (Mode.Headed style) kind result }
 {
-    let Kind::Symbol(sign) = kind else {
-        return Move::Wrong;
-    };
-    let Sign::RoundClose = sign else {
-        return Move::Wrong;
-    };
-    Move::Close {
-        kind: style_kind(style),
-        detail: 0,
-        role: Role::Root,
+    match kind {
+        Kind::Symbol(Sign::RoundClose) => Move::ends(style.into(), Role::Root),
+        _ => Move::Wrong,
     }
 }

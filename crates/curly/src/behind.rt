@@ -5,7 +5,7 @@ use crate::joint::arrow;
 use crate::member::{alone_role, next, shut};
 use arrows::right_role;
 use lexicon::{Kind, Sign};
-use moves::{CurlyFrame, Forms, Frame, Mode, Move, Shape, Style};
+use moves::{Arrow, CurlyFrame, Forms, Frame, Mode, Move, NodeKind, Shape, Style};
 
 // `}` behind a member.
 fn close(frame: CurlyFrame) -> Move
@@ -13,11 +13,7 @@ fn close(frame: CurlyFrame) -> Move
 {
     match frame {
         CurlyFrame::Members { style, .. } => shut(style, alone_role(style)),
-        CurlyFrame::Joined { leftward } => Move::Close {
-            kind: 11,
-            detail: 0,
-            role: right_role(leftward),
-        },
+        CurlyFrame::Joined(arrow) => Move::ends(NodeKind::Lot, right_role(arrow)),
     }
 }
 
@@ -27,7 +23,7 @@ fn comma(frame: CurlyFrame) -> Move
 {
     match frame {
         CurlyFrame::Members { style, .. } => next(style, alone_role(style)),
-        CurlyFrame::Joined { leftward } => next(Style::Lot, right_role(leftward)),
+        CurlyFrame::Joined(arrow) => next(Style::Lot, right_role(arrow)),
     }
 }
 
@@ -38,8 +34,8 @@ pub fn behind(forms: Forms, frame: CurlyFrame, sign: Sign) -> Move
     match sign {
         Sign::CurlyClose => close(frame),
         Sign::Comma => comma(frame),
-        Sign::ArrowRight => arrow(forms, frame, false),
-        Sign::ArrowLeft => arrow(forms, frame, true),
+        Sign::ArrowRight => arrow(forms, frame, Arrow::Right),
+        Sign::ArrowLeft => arrow(forms, frame, Arrow::Left),
         _ => Move::Wrong,
     }
 }

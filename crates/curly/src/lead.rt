@@ -1,29 +1,16 @@
 // Where a member is wanted: a sign that begins none is a comma or `}`.
 ghost use Rattle.moves.specs.Moves.{Moves};
 
-use crate::member::{shut, want};
+use crate::member::shut;
 use lexicon::{Kind, Sign};
-use moves::{CurlyFrame, Forms, Frame, Front, Mode, Move, Role};
+use moves::{CurlyFrame, Forms, Frame, Front, Mode, Move, Role, Style};
 
-// `{}`, `{,}`, or `}` behind a comma.
-fn empty(frame: CurlyFrame) -> Move
-    ensures { (forms : Forms) → Moves forms (Mode.Want (Frame.Curly frame)) (Kind.Symbol Sign.CurlyClose) result }
+// A comma before a member: the leading one, or the second of two.
+fn leading(style: Style, front: Front) -> Move
+    ensures { (forms : Forms) → Moves forms (Mode.Want (Frame.Curly (CurlyFrame.Members style front))) (Kind.Symbol Sign.Comma) result }
 {
-    let CurlyFrame::Members { style, .. } = frame else {
-        return Move::Wrong;
-    };
-    shut(style, Role::Root)
-}
-
-// A comma before a member: the leading one, or the second of two. None stands where the second value of a pair is wanted.
-fn leading(frame: CurlyFrame) -> Move
-    ensures { (forms : Forms) → Moves forms (Mode.Want (Frame.Curly frame)) (Kind.Symbol Sign.Comma) result }
-{
-    let CurlyFrame::Members { style, front } = frame else {
-        return Move::Wrong;
-    };
     match front {
-        Front::Start => want(
+        Front::Start => Move::want(
             CurlyFrame::Members {
                 style,
                 front: Front::Led,
@@ -38,14 +25,14 @@ fn leading(frame: CurlyFrame) -> Move
     }
 }
 
-// A sign where a value is wanted.
+// A sign where a value is wanted: where that is the second of a pair, neither a comma nor `}` stands in its place.
 pub fn lead(frame: CurlyFrame, sign: Sign) -> Move
     ensures { (forms : Forms) → Moves forms (Mode.Want (Frame.Curly frame)) (Kind.Symbol sign) result }
 {
-    match sign {
-        Sign::RoundOpen | Sign::CurlyOpen | Sign::SquareOpen => Move::Value(Frame::Curly(frame)),
-        Sign::CurlyClose => empty(frame),
-        Sign::Comma => leading(frame),
+    match (frame, sign) {
+        (_, Sign::RoundOpen | Sign::CurlyOpen | Sign::SquareOpen) => Move::Value(frame.into()),
+        (CurlyFrame::Members { style, .. }, Sign::CurlyClose) => shut(style, Role::Root),
+        (CurlyFrame::Members { style, front }, Sign::Comma) => leading(style, front),
         _ => Move::Wrong,
     }
 }

@@ -6,23 +6,13 @@ ghost use Rattle.moves.specs.Moves;
 ghost use Rattle.moves.specs.Moves.{Moves};
 
 use lexicon::{Kind, Sign};
-use moves::{CurlyFrame, Forms, Frame, Front, Mode, Move, Role, Style};
-
-// A value is wanted.
-pub(crate) fn want(frame: CurlyFrame, role: Role) -> Move
-    ensures { result ≡ Move.To (Mode.Want (Frame.Curly frame)) role }
-{
-    Move::To {
-        mode: Mode::Want(Frame::Curly(frame)),
-        role,
-    }
-}
+use moves::{CurlyFrame, Forms, Frame, Front, Mode, Move, NodeKind, Role, Style};
 
 // The next member is wanted, behind a comma.
 pub(crate) fn next(style: Style, role: Role) -> Move
     ensures { result ≡ Move.To (Mode.Want (Frame.Curly (CurlyFrame.Members style Front.Row))) role }
 {
-    want(
+    Move::want(
         CurlyFrame::Members {
             style,
             front: Front::Row,
@@ -36,11 +26,7 @@ pub(crate) fn shut(style: Style, role: Role) -> Move
     ensures { result ≡ Moves.shut style role }
 {
     match style {
-        Style::Lot => Move::Close {
-            kind: 11,
-            detail: 0,
-            role,
-        },
+        Style::Lot => Move::ends(NodeKind::Lot, role),
         Style::Array | Style::Set | Style::Bag => Move::Shut { style, role },
     }
 }
@@ -59,12 +45,9 @@ pub(crate) fn alone_role(style: Style) -> Role
 pub fn counted(style: Style, kind: Kind) -> Move
     ensures { (forms : Forms) → Moves forms (Mode.Counted style) kind result }
 {
-    let Kind::Symbol(sign) = kind else {
-        return Move::Wrong;
-    };
-    match sign {
-        Sign::CurlyClose => shut(style, Role::Root),
-        Sign::Comma => next(style, Role::Root),
+    match kind {
+        Kind::Symbol(Sign::CurlyClose) => shut(style, Role::Root),
+        Kind::Symbol(Sign::Comma) => next(style, Role::Root),
         _ => Move::Wrong,
     }
 }
@@ -73,11 +56,8 @@ pub fn counted(style: Style, kind: Kind) -> Move
 pub fn two_commas(style: Style, kind: Kind) -> Move
     ensures { (forms : Forms) → Moves forms (Mode.TwoCommas style) kind result }
 {
-    let Kind::Symbol(sign) = kind else {
-        return Move::Wrong;
-    };
-    let Sign::CurlyClose = sign else {
-        return Move::Wrong;
-    };
-    shut(style, Role::Root)
+    match kind {
+        Kind::Symbol(Sign::CurlyClose) => shut(style, Role::Root),
+        _ => Move::Wrong,
+    }
 }

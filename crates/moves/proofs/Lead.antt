@@ -14,6 +14,7 @@ use Rattle.grammar.specs.Level.{Level}
 use Rattle.grammar.specs.Nodes as Nodes
 use Rattle.grammar.specs.Nodes.{nodes_row, over, branch}
 use Rattle.grammar.proofs.Frames.{lead_comma, lead_row, start, led, row, RoundFrame, opened, pair_colon, pair_arrow, in_tuple, attribute_name, CurlyFrame, member_joined, SquareFrame, square_opened, low_and, up_to, Frame, in_round, in_square, Stack, two_commas, bounded, Config, want, no_further}
+use Rattle.moves.specs.declared.NodeKind.{NodeKind}
 use Rattle.moves.specs.declared.Role.TheVariants as Role
 use Rattle.moves.specs.declared.Move.{Move}
 use Rattle.moves.proofs.Model as Model
@@ -28,12 +29,12 @@ module _ (l : Level) where
 
   does_empty_round : (f : RoundFrame) (s : Span) (K : Stack) → Takes (want (in_round f ∷ K)) Tokens.round_close s (Model.empty_round (round_of f))
   does_empty_round (opened o) s K =
-      closes l _ Tokens.round_close s Role.Root (Tree.plain (Tree.tuple o Tree.no_attribute s)) Nodes.a_tuple 0 refl (λ e. refl) refl refl λ p q i. refl
+      closes l _ Tokens.round_close s Role.Root (Tree.plain (Tree.tuple o Tree.no_attribute s)) NodeKind.Tuple 0 refl (λ e. refl) refl refl λ p q i. refl
   does_empty_round (pair_colon o p k) s K = wrong_sign l _ Tokens.round_close s refl
   does_empty_round (pair_arrow o v a k) s K = wrong_sign l _ Tokens.round_close s refl
   does_empty_round (in_tuple o (lead_comma b)) s K = wrong_sign l _ Tokens.round_close s refl
   does_empty_round (in_tuple o (lead_row r)) s K =
-      closes l _ Tokens.round_close s Role.Root (Tree.plain (Tree.tuple o (Tree.trailing_comma r) s)) Nodes.a_tuple 0 refl (λ e. refl) refl refl
+      closes l _ Tokens.round_close s Role.Root (Tree.plain (Tree.tuple o (Tree.trailing_comma r) s)) NodeKind.Tuple 0 refl (λ e. refl) refl refl
       λ p q i x. branch Nodes.a_tuple (over o s) p q 0 (sym (append-nil (nodes_row r i (i + 1))) x)
   does_empty_round (attribute_name o f n k) s K = wrong_sign l _ Tokens.round_close s refl
 
@@ -44,7 +45,7 @@ module _ (l : Level) where
 
   does_empty_square : (f : SquareFrame) (s : Span) (K : Stack) → Takes (want (in_square f ∷ K)) Tokens.square_close s (Model.empty_square (square_of f))
   does_empty_square (square_opened o) s K =
-      closes l _ Tokens.square_close s Role.Root (Tree.plain (Tree.interval o Tree.empty s)) Nodes.an_interval 0 refl (λ e. refl) refl refl λ p q i. refl
+      closes l _ Tokens.square_close s Role.Root (Tree.plain (Tree.interval o Tree.empty s)) NodeKind.Interval 0 refl (λ e. refl) refl refl λ p q i. refl
   does_empty_square (low_and o v b k) s K = wrong_sign l _ Tokens.square_close s refl
   does_empty_square (up_to o a k) s K = wrong_sign l _ Tokens.square_close s refl
 

@@ -11,4 +11,3 @@ pub mod Does
 pub mod Roles
 pub mod Moved
 pub mod One
-pub mod Rest

@@ -13,7 +13,7 @@ use Rattle.grammar.specs.Nodes.{Node, both, nodes, nodes_plain, nodes_plain_name
 use Rattle.grammar.proofs.Frames.{Lead, lead_comma, lead_row, Front, start, led, row, next_attribute, last_attribute, next_item, last_item, no_further, plain_name_of}
 use Rattle.grammar.proofs.NodeLaws.{relabel, roled}
 use Rattle.moves.proofs.Model as Model
-use Rattle.moves.specs.Means.{role_of, leftward, left_joiner, fronted, leading, then}
+use Rattle.moves.specs.Means.{role_of, pointing, joining, fronted, leading, then}
 
 -- behind no node
 start_at : (i : ℕ) → i + 1 ≡ i + 1 + 0
@@ -94,14 +94,14 @@ told_both ns ms v i e =
 
 -- ---- the roles of two values that are joined
 
-pub left_role : (a : Arrow) → role_of (Model.left_role_of (leftward a)) ≡ Nodes.left_role_of a
+pub left_role : (a : Arrow) → role_of (Model.left_role_of (pointing a)) ≡ Nodes.left_role_of a
 left_role Tree.rightward = refl
 left_role Tree.leftward = refl
 
-pub right_role : (a : Arrow) → role_of (Model.right_role_of (leftward a)) ≡ Nodes.right_role_of a
+pub right_role : (a : Arrow) → role_of (Model.right_role_of (pointing a)) ≡ Nodes.right_role_of a
 right_role Tree.rightward = refl
 right_role Tree.leftward = refl
 
-pub joined_role : (j : Joiner) → role_of (Model.right_role_of (left_joiner j)) ≡ Nodes.joiner_right j
+pub joined_role : (j : Joiner) → role_of (Model.right_role_of (joining j)) ≡ Nodes.joiner_right j
 joined_role Tree.colon = refl
 joined_role (Tree.arrow a) = right_role a

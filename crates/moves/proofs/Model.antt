@@ -5,9 +5,10 @@ use Rattle.lexicon.specs.declared.Bound.{Bound}
 use Rattle.lexicon.specs.declared.Bound.TheVariants.{Open, Less, LessEqual}
 use Rattle.lexicon.specs.declared.Sign.{Sign}
 use Rattle.lexicon.specs.declared.Kind.{Kind}
-use Rattle.grammar.specs.Nodes.{kind_number_of}
 use Rattle.moves.specs.declared.Forms.{Forms}
+use Rattle.moves.specs.declared.NodeKind.{NodeKind}
 use Rattle.moves.specs.declared.Role.{Role}
+use Rattle.moves.specs.declared.Arrow.{Arrow}
 use Rattle.moves.specs.declared.Shape.{Shape}
 use Rattle.moves.specs.declared.Style.{Style}
 use Rattle.moves.specs.declared.Front.{Front}
@@ -20,20 +21,19 @@ use Rattle.moves.specs.declared.SquareFrame.TheVariants as Square
 use Rattle.moves.specs.declared.Frame.{Frame}
 use Rattle.moves.specs.declared.Mode.{Mode}
 use Rattle.moves.specs.declared.Move.{Move}
-use Rattle.moves.specs.Means.{kind_of}
 pub use Rattle.moves.specs.Moves.{shut}
 
 -- ---- roles
 
 -- of the value behind `:` or an arrow
-abbrev pub right_role_of : Bool → Role
-right_role_of false = Role.ThatAfter
-right_role_of true = Role.This
+abbrev pub right_role_of : Arrow → Role
+right_role_of Arrow.Right = Role.ThatAfter
+right_role_of Arrow.Left = Role.This
 
 -- of the value before an arrow
-abbrev pub left_role_of : Bool → Role
-left_role_of false = Role.This
-left_role_of true = Role.ThatBefore
+abbrev pub left_role_of : Arrow → Role
+left_role_of Arrow.Right = Role.This
+left_role_of Arrow.Left = Role.ThatBefore
 
 -- of a member by itself
 abbrev pub alone_role_of : Style → Role
@@ -56,11 +56,11 @@ square f r = Move.To (Mode.Want (Frame.Square f)) r
 -- ---- where a value is wanted, a sign that begins none
 
 abbrev pub empty_round : RoundFrame → Move
-empty_round Round.Opened = Move.Close 10 0 Role.Root
+empty_round Round.Opened = Move.Close NodeKind.Tuple 0 Role.Root
 empty_round (Round.Colon n) = Move.Wrong
 empty_round (Round.Arrow l) = Move.Wrong
 empty_round Round.Led = Move.Wrong
-empty_round Round.Row = Move.Close 10 0 Role.Root
+empty_round Round.Row = Move.Close NodeKind.Tuple 0 Role.Root
 empty_round Round.Named = Move.Wrong
 
 abbrev pub empty_curly : CurlyFrame → Move
@@ -68,7 +68,7 @@ empty_curly (Curly.Members s f) = shut s Role.Root
 empty_curly (Curly.Joined l) = Move.Wrong
 
 abbrev pub empty_square : SquareFrame → Move
-empty_square Square.Opened = Move.Close 15 0 Role.Root
+empty_square Square.Opened = Move.Close NodeKind.Interval 0 Role.Root
 empty_square (Square.Low d) = Move.Wrong
 empty_square (Square.UpTo d) = Move.Wrong
 
@@ -156,20 +156,20 @@ lead f Kind.TwoColons = Move.Value f
 
 abbrev pub close_round : RoundFrame → Move
 close_round Round.Opened = Move.Group
-close_round (Round.Colon n) = Move.Close 9 0 Role.ThatAfter
-close_round (Round.Arrow l) = Move.Close 9 0 (right_role_of l)
-close_round Round.Led = Move.Close 10 0 Role.Value
-close_round Round.Row = Move.Close 10 0 Role.Value
-close_round Round.Named = Move.Close 10 0 Role.Value
+close_round (Round.Colon n) = Move.Close NodeKind.Pair 0 Role.ThatAfter
+close_round (Round.Arrow l) = Move.Close NodeKind.Pair 0 (right_role_of l)
+close_round Round.Led = Move.Close NodeKind.Tuple 0 Role.Value
+close_round Round.Row = Move.Close NodeKind.Tuple 0 Role.Value
+close_round Round.Named = Move.Close NodeKind.Tuple 0 Role.Value
 
 abbrev pub close_curly : CurlyFrame → Move
 close_curly (Curly.Members s f) = shut s (alone_role_of s)
-close_curly (Curly.Joined l) = Move.Close 11 0 (right_role_of l)
+close_curly (Curly.Joined l) = Move.Close NodeKind.Lot 0 (right_role_of l)
 
 abbrev pub close_square : SquareFrame → Move
-close_square Square.Opened = Move.Close 15 1 Role.Single
-close_square (Square.Low d) = Move.Close 15 d Role.High
-close_square (Square.UpTo d) = Move.Close 15 d Role.High
+close_square Square.Opened = Move.Close NodeKind.Interval 1 Role.Single
+close_square (Square.Low d) = Move.Close NodeKind.Interval d Role.High
+close_square (Square.UpTo d) = Move.Close NodeKind.Interval d Role.High
 
 -- a name, its `:`, a value and a comma begin a Tuple
 abbrev pub comma_pair_of : Bool → Move
@@ -208,7 +208,7 @@ colon_round Round.Row s = colon_attribute_of s
 colon_round Round.Named s = Move.Wrong
 
 abbrev pub colon_in : Style → Move
-colon_in Style.Lot = curly (Curly.Joined false) Role.This
+colon_in Style.Lot = curly (Curly.Joined Arrow.Right) Role.This
 colon_in Style.Array = Move.To (Mode.Count Style.Array) Role.Value
 colon_in Style.Set = Move.To (Mode.Count Style.Set) Role.Value
 colon_in Style.Bag = Move.To (Mode.Count Style.Bag) Role.Value
@@ -223,15 +223,15 @@ colon (Frame.Curly f) s = colon_curly f
 colon (Frame.Square f) s = Move.Wrong
 
 -- `->`, and `<-` if the level has it
-abbrev pub has_arrow_of : Forms → Bool → Bool
-has_arrow_of forms false = true
-has_arrow_of forms true = forms.leftward
+abbrev pub has_arrow_of : Forms → Arrow → Bool
+has_arrow_of forms Arrow.Right = true
+has_arrow_of forms Arrow.Left = forms.leftward
 
 abbrev pub when : Bool → Move → Move
 when true m = m
 when false m = Move.Wrong
 
-abbrev pub arrow_round : Forms → RoundFrame → Bool → Move
+abbrev pub arrow_round : Forms → RoundFrame → Arrow → Move
 arrow_round forms Round.Opened l = when (has_arrow_of forms l) (round (Round.Arrow l) (left_role_of l))
 arrow_round forms (Round.Colon n) l = Move.Wrong
 arrow_round forms (Round.Arrow k) l = Move.Wrong
@@ -239,20 +239,15 @@ arrow_round forms Round.Led l = Move.Wrong
 arrow_round forms Round.Row l = Move.Wrong
 arrow_round forms Round.Named l = Move.Wrong
 
-abbrev pub arrow_in : Forms → Style → Bool → Move
+abbrev pub arrow_in : Forms → Style → Arrow → Move
 arrow_in forms Style.Lot l = when (has_arrow_of forms l) (curly (Curly.Joined l) (left_role_of l))
 arrow_in forms Style.Array l = Move.Wrong
 arrow_in forms Style.Set l = Move.Wrong
 arrow_in forms Style.Bag l = Move.Wrong
 
-abbrev pub arrow_curly : Forms → CurlyFrame → Bool → Move
+abbrev pub arrow_curly : Forms → CurlyFrame → Arrow → Move
 arrow_curly forms (Curly.Members s f) l = arrow_in forms s l
 arrow_curly forms (Curly.Joined k) l = Move.Wrong
-
-abbrev pub arrow : Forms → Frame → Bool → Move
-arrow forms (Frame.Round f) l = arrow_round forms f l
-arrow forms (Frame.Curly f) l = arrow_curly forms f l
-arrow forms (Frame.Square f) l = Move.Wrong
 
 -- the sign behind a low bound: `..`, or a star, whose number is the Interval's detail
 abbrev pub low_sign : SquareFrame → ℕ → Move
@@ -282,8 +277,8 @@ behind_sign forms (Frame.Round f) Sign.CurlyClose = Move.Wrong
 behind_sign forms (Frame.Round f) Sign.SquareOpen = Move.Wrong
 behind_sign forms (Frame.Round f) Sign.SquareClose = Move.Wrong
 behind_sign forms (Frame.Round f) Sign.Comma = comma_round f
-behind_sign forms (Frame.Round f) Sign.ArrowRight = arrow_round forms f false
-behind_sign forms (Frame.Round f) Sign.ArrowLeft = arrow_round forms f true
+behind_sign forms (Frame.Round f) Sign.ArrowRight = arrow_round forms f Arrow.Right
+behind_sign forms (Frame.Round f) Sign.ArrowLeft = arrow_round forms f Arrow.Left
 behind_sign forms (Frame.Round f) Sign.Dots = Move.Wrong
 behind_sign forms (Frame.Round f) (Sign.Star a b) = Move.Wrong
 behind_sign forms (Frame.Curly f) Sign.RoundOpen = Move.Wrong
@@ -293,8 +288,8 @@ behind_sign forms (Frame.Curly f) Sign.CurlyClose = close_curly f
 behind_sign forms (Frame.Curly f) Sign.SquareOpen = Move.Wrong
 behind_sign forms (Frame.Curly f) Sign.SquareClose = Move.Wrong
 behind_sign forms (Frame.Curly f) Sign.Comma = comma_curly f
-behind_sign forms (Frame.Curly f) Sign.ArrowRight = arrow_curly forms f false
-behind_sign forms (Frame.Curly f) Sign.ArrowLeft = arrow_curly forms f true
+behind_sign forms (Frame.Curly f) Sign.ArrowRight = arrow_curly forms f Arrow.Right
+behind_sign forms (Frame.Curly f) Sign.ArrowLeft = arrow_curly forms f Arrow.Left
 behind_sign forms (Frame.Curly f) Sign.Dots = Move.Wrong
 behind_sign forms (Frame.Curly f) (Sign.Star a b) = Move.Wrong
 behind_sign forms (Frame.Square f) Sign.RoundOpen = Move.Wrong
@@ -381,8 +376,11 @@ two_commas_sign y Sign.Dots = Move.Wrong
 two_commas_sign y (Sign.Star a b) = Move.Wrong
 
 -- the node's kind
-abbrev pub style_kind : Style → ℕ
-style_kind y = kind_number_of (kind_of y)
+abbrev pub style_kind : Style → NodeKind
+style_kind Style.Lot = NodeKind.Lot
+style_kind Style.Array = NodeKind.Array
+style_kind Style.Set = NodeKind.Set
+style_kind Style.Bag = NodeKind.Bag
 
 -- `)` behind a collection's `}`
 abbrev pub headed_sign : Style → Sign → Move
@@ -405,7 +403,7 @@ bounded_sign d Sign.RoundClose = Move.Wrong
 bounded_sign d Sign.CurlyOpen = Move.Wrong
 bounded_sign d Sign.CurlyClose = Move.Wrong
 bounded_sign d Sign.SquareOpen = Move.Wrong
-bounded_sign d Sign.SquareClose = Move.Close 15 d Role.Root
+bounded_sign d Sign.SquareClose = Move.Close NodeKind.Interval d Role.Root
 bounded_sign d Sign.Comma = Move.Wrong
 bounded_sign d Sign.ArrowRight = Move.Wrong
 bounded_sign d Sign.ArrowLeft = Move.Wrong

@@ -14,7 +14,7 @@ use Rattle.grammar.specs.Tree
 use Rattle.grammar.specs.Tree.{Value, Plain}
 use Rattle.grammar.specs.Level.{Level}
 use Rattle.grammar.specs.Nodes as Nodes
-use Rattle.grammar.specs.Nodes.{Node, nodes, kind_number_of, role_number}
+use Rattle.grammar.specs.Nodes.{Node, nodes, role_number}
 use Rattle.grammar.proofs.Frames as Frames
 use Rattle.grammar.proofs.Frames.{Config, Stack}
 use Rattle.grammar.proofs.Machine.{step}
@@ -24,6 +24,7 @@ use Rattle.moves.specs.declared.Forms.{Forms}
 use Rattle.moves.specs.declared.Frame.{Frame}
 use Rattle.moves.specs.declared.Mode.{Mode}
 use Rattle.moves.specs.declared.Move.{Move}
+use Rattle.moves.specs.declared.NodeKind.{NodeKind}
 use Rattle.moves.specs.declared.Role.{Role}
 use Rattle.moves.specs.declared.SquareFrame.TheVariants as Square
 use Rattle.moves.specs.declared.Style.{Style}
@@ -31,7 +32,7 @@ use Rattle.moves.specs.Means.{given, level_of, role_of, mode_of, inside, below, 
 use Rattle.moves.specs.Effects.{flat, held, opening, Leads, Closes, told, Does, Asked}
 use Rattle.moves.specs.Moves.{Moves}
 use Rattle.moves.proofs.Members.{roled_length}
-use Rattle.moves.proofs.Roles.{code_role, code_role_lem}
+use Rattle.moves.proofs.Roles.{code_kind, code_kind_lem, code_role, code_role_lem}
 
 -- ---- what a list of nodes tells
 
@@ -40,9 +41,9 @@ role_at [] k = Nodes.root
 role_at (n ∷ ns) zero = n.role
 role_at (n ∷ ns) (suc k) = role_at ns k
 
-abbrev first_kind : List Node → ℕ
-first_kind [] = 0
-first_kind (n ∷ ns) = kind_number_of n.kind
+abbrev first_kind : List Node → NodeKind
+first_kind [] = NodeKind.Ignorance
+first_kind (n ∷ ns) = code_kind n.kind
 
 abbrev first_detail : List Node → ℕ
 first_detail [] = 0
@@ -329,7 +330,7 @@ module _ (l : Level) (s : Span) where
   unpaired (Frames.want_close x K) m r f e g = refl
 
   -- a group has the nodes of its value, none more
-  no_group : (c : Config) (m : Mark) (r : Role) {kind detail : ℕ} → flat m ≡ false →
+  no_group : (c : Config) (m : Mark) (r : Role) {kind : NodeKind} {detail : ℕ} → flat m ≡ false →
       Closes l c (tok (Tokens.mark m) s) kind detail (told l c (tok (Tokens.mark m) s) r) → opening c ≡ true → held c ≡ true → ⊥
   no_group (Frames.want K) m r f x o h = false≢true h
   no_group (Frames.have v []) m r f x o h = false≢true h
@@ -394,13 +395,13 @@ module _ (l : Level) (c : Config) (within : inside c ≡ true) (s : Span) where
       ∙ (λ i. Move.Shut (style_at (x.mode_is i)) (role_in c (x.members 0 i)))
       ∙ ap (Move.Shut style) (role_told c r u))
 
-  close_back : (m : Mark) (kind detail : ℕ) (r : Role) → flat m ≡ false → (held c ≡ false → r ≡ Role.Root) →
+  close_back : (m : Mark) (kind : NodeKind) (detail : ℕ) (r : Role) → flat m ≡ false → (held c ≡ false → r ≡ Role.Root) →
       Closes l c (tok (Tokens.mark m) s) kind detail (told l c (tok (Tokens.mark m) s) r) → Back (Tokens.mark m) (Move.Close kind detail r)
   close_back m kind detail r f u x =
       a_sign m false f x.steps
       (ungrouped (opening c) (held c) refl refl
       ∙ ap (close_of c) (x.members 0 Nodes.root 0)
-      ∙ (λ i. Move.Close (x.kind_is i) detail (role_told c r u i)))
+      ∙ (λ i. Move.Close (code_kind_lem kind i) detail (role_told c r u i)))
     where
       ungrouped : (a b : Bool) → opening c ≡ a → held c ≡ b →
           pick a (pick b Move.Group (close_of c (nodes x.value 0 Nodes.root 0))) (close_of c (nodes x.value 0 Nodes.root 0)) ≡ close_of c (nodes x.value 0 Nodes.root 0)

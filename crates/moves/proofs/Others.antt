@@ -13,14 +13,15 @@ use Rattle.grammar.specs.Tree
 use Rattle.grammar.specs.Tree.{Collection, array, set, bag, Measure, by_number, by_truth, Count, Style, copy, Value, Item, Bounds, Listing}
 use Rattle.grammar.specs.Level.{Level}
 use Rattle.grammar.specs.Nodes as Nodes
-use Rattle.grammar.specs.Nodes.{Node, nodes, nodes_count, nodes_item, nodes_listing, nodes_bounds, leaf, branch, over, atom_kind, atom_detail, bounds_detail, kind_number_of, collection_kind}
+use Rattle.grammar.specs.Nodes.{Node, nodes, nodes_count, nodes_item, nodes_listing, nodes_bounds, leaf, branch, over, atom_kind, atom_detail, bounds_detail, collection_kind}
 use Rattle.grammar.proofs.Frames.{Front, start, row, Curly, counted_curly, CurlyFrame, Frame, Stack, Closing, two_commas, headed, bounded, Config, want_curly, want_count, have_item, want_close, next_item, last_item}
 use Rattle.grammar.proofs.Machine.{step, count_of, counted}
+use Rattle.moves.specs.declared.NodeKind.{NodeKind}
 use Rattle.moves.specs.declared.Forms.{Forms}
 use Rattle.moves.specs.declared.Role.TheVariants as Role
 use Rattle.moves.specs.declared.Move.{Move}
 use Rattle.moves.proofs.Model as Model
-use Rattle.moves.specs.Means.{collection_style, style_of, mode_of, fronted, then}
+use Rattle.moves.specs.Means.{node_kind_of, collection_style, style_of, mode_of, fronted, then}
 use Rattle.moves.specs.Effects.{counting, Does}
 use Rattle.moves.proofs.Members.{last_listed, next_listed}
 use Rattle.moves.proofs.Steps.{Wants, wrong, wanting, onward, closes, shuts}
@@ -111,16 +112,17 @@ module _ (l : Level) where
 
   -- `)` behind a collection's `}`
   close_headed : (o : Span) (h : Collection) (t k b : Span) (i : Listing (copy (Tree.counted_by h))) (e : Span) (K : Stack) (s : Span) →
-      Does l (want_close (headed o h t k b i e) K) (tok (Tokens.mark Tokens.round_close) s) (Move.Close (kind_number_of (collection_kind h)) 0 Role.Root)
-  close_headed o h t k b i e K s =
-      closes l _ Tokens.round_close s Role.Root (Tree.plain (Tree.counted o h t k b i e s)) (collection_kind h) 0 refl (λ e. refl) refl refl
-      λ p q j x. branch (collection_kind h) (over o s) p q 0 (sym (append-nil (nodes_listing i j (j + 1))) x)
+      (n : NodeKind) → collection_kind h ≡ node_kind_of n →
+      Does l (want_close (headed o h t k b i e) K) (tok (Tokens.mark Tokens.round_close) s) (Move.Close n 0 Role.Root)
+  close_headed o h t k b i e K s n g =
+      closes l _ Tokens.round_close s Role.Root (Tree.plain (Tree.counted o h t k b i e s)) n 0 refl (λ e. refl) refl refl
+      λ p q j x. branch (g x) (over o s) p q 0 (sym (append-nil (nodes_listing i j (j + 1))) x)
 
   does_headed_close : (o : Span) (h : Collection) (t k b : Span) (i : Listing (copy (Tree.counted_by h))) (e : Span) (K : Stack) (s : Span) →
       Does l (want_close (headed o h t k b i e) K) (tok (Tokens.mark Tokens.round_close) s) (Move.Close (Model.style_kind (collection_style h)) 0 Role.Root)
-  does_headed_close o array t k b i e K s = close_headed o array t k b i e K s
-  does_headed_close o set t k b i e K s = close_headed o set t k b i e K s
-  does_headed_close o bag t k b i e K s = close_headed o bag t k b i e K s
+  does_headed_close o array t k b i e K s = close_headed o array t k b i e K s NodeKind.Array refl
+  does_headed_close o set t k b i e K s = close_headed o set t k b i e K s NodeKind.Set refl
+  does_headed_close o bag t k b i e K s = close_headed o bag t k b i e K s NodeKind.Bag refl
 
   does_headed_sign : (o : Span) (h : Collection) (t k b : Span) (i : Listing (copy (Tree.counted_by h))) (e : Span) (K : Stack) (s : Span) (y : Sign) →
       Does l (want_close (headed o h t k b i e) K) (tok (class_sign y) s) (Model.headed_sign (collection_style h) y)
@@ -144,7 +146,7 @@ module _ (l : Level) where
   does_bounded_sign o b K s Sign.CurlyClose = wrong l _ _ s (λ e. e) refl
   does_bounded_sign o b K s Sign.SquareOpen = wrong l _ _ s (λ e. e) refl
   does_bounded_sign o b K s Sign.SquareClose =
-      closes l _ Tokens.square_close s Role.Root (Tree.plain (Tree.interval o b s)) Nodes.an_interval (bounds_detail b) refl (λ e. refl) refl refl
+      closes l _ Tokens.square_close s Role.Root (Tree.plain (Tree.interval o b s)) NodeKind.Interval (bounds_detail b) refl (λ e. refl) refl refl
       λ p q i x. branch Nodes.an_interval (over o s) p q (bounds_detail b) (sym (append-nil (nodes_bounds b i (i + 1))) x)
   does_bounded_sign o b K s Sign.Comma = wrong l _ _ s (λ e. e) refl
   does_bounded_sign o b K s Sign.ArrowRight = wrong l _ _ s (λ e. e) refl

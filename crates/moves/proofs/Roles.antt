@@ -1,8 +1,43 @@
--- The code's roles are told by the grammar's. Assumes nothing.
-use mathlib.Core.Path.{◌≡◌, refl, sym, ap, ◌∙◌}
+-- The code's kinds and roles are told by the grammar's. Assumes nothing.
+use mathlib.Core.Path.{◌≡◌, refl}
 use Rattle.grammar.specs.Nodes as Nodes
+use Rattle.moves.specs.declared.NodeKind.{NodeKind}
 use Rattle.moves.specs.declared.Role.{Role}
-use Rattle.moves.specs.Means.{role_of}
+use Rattle.moves.specs.Means.{node_kind_of, role_of}
+
+abbrev pub code_kind : Nodes.NodeKind → NodeKind
+code_kind Nodes.an_ignorance = NodeKind.Ignorance
+code_kind Nodes.a_boolean = NodeKind.Boolean
+code_kind Nodes.an_integer = NodeKind.Integer
+code_kind Nodes.a_fraction = NodeKind.Fraction
+code_kind Nodes.a_bits = NodeKind.Bits
+code_kind Nodes.a_blob = NodeKind.Blob
+code_kind Nodes.a_text = NodeKind.Text
+code_kind Nodes.a_nesting = NodeKind.Nesting
+code_kind Nodes.a_pair = NodeKind.Pair
+code_kind Nodes.a_tuple = NodeKind.Tuple
+code_kind Nodes.a_lot = NodeKind.Lot
+code_kind Nodes.an_array = NodeKind.Array
+code_kind Nodes.a_set = NodeKind.Set
+code_kind Nodes.a_bag = NodeKind.Bag
+code_kind Nodes.an_interval = NodeKind.Interval
+
+pub code_kind_lem : (k : NodeKind) → code_kind (node_kind_of k) ≡ k
+code_kind_lem NodeKind.Ignorance = refl
+code_kind_lem NodeKind.Boolean = refl
+code_kind_lem NodeKind.Integer = refl
+code_kind_lem NodeKind.Fraction = refl
+code_kind_lem NodeKind.Bits = refl
+code_kind_lem NodeKind.Blob = refl
+code_kind_lem NodeKind.Text = refl
+code_kind_lem NodeKind.Nesting = refl
+code_kind_lem NodeKind.Pair = refl
+code_kind_lem NodeKind.Tuple = refl
+code_kind_lem NodeKind.Lot = refl
+code_kind_lem NodeKind.Array = refl
+code_kind_lem NodeKind.Set = refl
+code_kind_lem NodeKind.Bag = refl
+code_kind_lem NodeKind.Interval = refl
 
 abbrev pub code_role : Nodes.Role → Role
 code_role Nodes.root = Role.Root
@@ -27,6 +62,3 @@ code_role_lem Role.Count = refl
 code_role_lem Role.Low = refl
 code_role_lem Role.High = refl
 code_role_lem Role.Single = refl
-
-pub same_role : {r s : Role} → role_of r ≡ role_of s → r ≡ s
-same_role {r} {s} e = sym (code_role_lem r) ∙ ap code_role e ∙ code_role_lem s

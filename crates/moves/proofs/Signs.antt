@@ -22,7 +22,7 @@ use Rattle.moves.specs.declared.RoundFrame.TheVariants as Round
 use Rattle.moves.specs.declared.Mode.TheVariants as Mode
 use Rattle.moves.specs.declared.Move.{Move}
 use Rattle.moves.proofs.Model as Model
-use Rattle.moves.specs.Means.{level_of, given, name_shape, shape_of, leftward, style_of, round_of, curly_of, square_of, frame_of, frame_span, framed, leading, fronted, then}
+use Rattle.moves.specs.Means.{level_of, given, name_shape, shape_of, pointing, style_of, round_of, curly_of, square_of, frame_of, frame_span, framed, leading, fronted, then}
 use Rattle.moves.specs.Effects.{flat, head_bare, opening_frame, told, Does}
 use Rattle.moves.proofs.Members.{told_behind, told_first, NamedBy, named_by, left_role}
 use Rattle.moves.proofs.Steps.{any_role, wrong, onward, closing}
@@ -137,7 +137,7 @@ module _ (l : Level.Level) where
 
 -- ---- an arrow, which the level may lack
 
-has_same : (forms : Forms) (a : Arrow) → Level.has_arrow_of (level_of forms) a ≡ Model.has_arrow_of forms (leftward a)
+has_same : (forms : Forms) (a : Arrow) → Level.has_arrow_of (level_of forms) a ≡ Model.has_arrow_of forms (pointing a)
 has_same forms Tree.rightward = refl
 has_same forms Tree.leftward = refl
 
@@ -152,9 +152,9 @@ module _ (forms : Forms) where
 
   pub does_arrow_round : (m : Mark) → flat m ≡ true → (a : Arrow) (f : RoundFrame) (v : Value) (s : Span) (K : Stack) →
       step (level_of forms) (have v (in_round f ∷ K)) (tok (Tokens.mark m) s) ≡ Machine.arrow_round (level_of forms) f v a s K →
-      Takes (level_of forms) v (in_round f) K m s (Model.arrow_round forms (round_of f) (leftward a))
+      Takes (level_of forms) v (in_round f) K m s (Model.arrow_round forms (round_of f) (pointing a))
   does_arrow_round m b a (opened o) v s K e =
-      does_when (Model.has_arrow_of forms (leftward a)) v (in_round (opened o)) K m s (Model.left_role_of (leftward a)) (in_round (pair_arrow o v a s)) b
+      does_when (Model.has_arrow_of forms (pointing a)) v (in_round (opened o)) K m s (Model.left_role_of (pointing a)) (in_round (pair_arrow o v a s)) b
       (e ∙ ap (λ (x : Bool). Machine.when x (Machine.round (pair_arrow o v a s) K)) (has_same forms a)) refl refl
       λ i. ap (λ (r : Nodes.Role). nodes v i r (i + 1)) (sym (left_role a)) ∙ sym (told_first v _ i)
   does_arrow_round m b a (pair_colon o p k) v s K e = wrong (level_of forms) _ _ s (λ e. e) e
@@ -165,9 +165,9 @@ module _ (forms : Forms) where
 
   does_arrow_in : (m : Mark) → flat m ≡ true → (a : Arrow) {y : Style} (c : Curly y) (f : Front y) (v : Value) (s : Span) (K : Stack) →
       step (level_of forms) (have v (Frame.in_curly (CurlyFrame.in_curly c f) ∷ K)) (tok (Tokens.mark m) s) ≡ Machine.arrow_in (level_of forms) c f v a s K →
-      Takes (level_of forms) v (Frame.in_curly (CurlyFrame.in_curly c f)) K m s (Model.arrow_in forms (style_of c) (leftward a))
+      Takes (level_of forms) v (Frame.in_curly (CurlyFrame.in_curly c f)) K m s (Model.arrow_in forms (style_of c) (pointing a))
   does_arrow_in m b a (lot_curly o) f v s K e =
-      does_when (Model.has_arrow_of forms (leftward a)) v (Frame.in_curly (CurlyFrame.in_curly (lot_curly o) f)) K m s (Model.left_role_of (leftward a))
+      does_when (Model.has_arrow_of forms (pointing a)) v (Frame.in_curly (CurlyFrame.in_curly (lot_curly o) f)) K m s (Model.left_role_of (pointing a))
       (Frame.in_curly (member_joined o f v (Tree.arrow a) s)) b
       (e ∙ ap (λ (x : Bool). Machine.when x (Machine.joined o f v (Tree.arrow a) s K)) (has_same forms a)) refl refl
       λ i. ap (λ (r : Nodes.Role). then (fronted f i) i (nodes v i r)) (sym (left_role a)) ∙ sym (told_behind (fronted f i) v _ i)
@@ -177,6 +177,6 @@ module _ (forms : Forms) where
 
   pub does_arrow_curly : (m : Mark) → flat m ≡ true → (a : Arrow) (f : CurlyFrame) (v : Value) (s : Span) (K : Stack) →
       step (level_of forms) (have v (Frame.in_curly f ∷ K)) (tok (Tokens.mark m) s) ≡ Machine.arrow_curly (level_of forms) f v a s K →
-      Takes (level_of forms) v (Frame.in_curly f) K m s (Model.arrow_curly forms (curly_of f) (leftward a))
+      Takes (level_of forms) v (Frame.in_curly f) K m s (Model.arrow_curly forms (curly_of f) (pointing a))
   does_arrow_curly m b a (CurlyFrame.in_curly c f) v s K e = does_arrow_in m b a c f v s K e
   does_arrow_curly m b a (member_joined o f w j k) v s K e = wrong (level_of forms) _ _ s (λ e. e) e

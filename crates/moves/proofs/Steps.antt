@@ -12,17 +12,18 @@ use Rattle.grammar.specs.Tree
 use Rattle.grammar.specs.Tree.{Style, Value, Listing}
 use Rattle.grammar.specs.Level.{Level}
 use Rattle.grammar.specs.Nodes as Nodes
-use Rattle.grammar.specs.Nodes.{NodeKind, Node, nodes, nodes_listing, kind_number_of, over, branch}
+use Rattle.grammar.specs.Nodes.{Node, nodes, nodes_listing, over, branch}
 use Rattle.grammar.proofs.Frames as Frames
 use Rattle.grammar.proofs.Frames.{Config, want, have, want_close, Stack, Closing}
 use Rattle.grammar.proofs.Machine.{step}
 use Rattle.grammar.proofs.NodeLaws.{some_node}
+use Rattle.moves.specs.declared.NodeKind.{NodeKind}
 use Rattle.moves.specs.declared.Role.{Role}
 use Rattle.moves.specs.declared.Shape.TheVariants as Shape
 use Rattle.moves.specs.declared.Mode.{Mode}
 use Rattle.moves.specs.declared.Move.TheVariants as Move
 use Rattle.moves.proofs.Model as Model
-use Rattle.moves.specs.Means.{shape_of, style_of, frame_of, mode_of, curly_span, frame_span, open_of, below, framed, before}
+use Rattle.moves.specs.Means.{node_kind_of, shape_of, style_of, frame_of, mode_of, curly_span, frame_span, open_of, below, framed, before}
 use Rattle.moves.specs.Effects.{flat, opening_frame, held, Unheld, Leads, Paired, told, Does}
 
 -- where a value is wanted
@@ -95,10 +96,10 @@ module _ (l : Level) where
   -- the end of a bracket
   pub closes : (c : Config) (m : Mark) (s : Span) (r : Role) (v : Value) (k : NodeKind) (d : ℕ) → flat m ≡ false → Unheld l c (tok (Tokens.mark m) s) r →
       shape_of v ≡ Shape.Other → step l c (tok (Tokens.mark m) s) ≡ some (have v (below c)) →
-      ((p : ℕ) (q : Nodes.Role) (i : ℕ) → nodes v p q i ≡ branch k (over (open_of c) s) p q d (told l c (tok (Tokens.mark m) s) r i)) →
-      Does l c (tok (Tokens.mark m) s) (Move.Close (kind_number_of k) d r)
+      ((p : ℕ) (q : Nodes.Role) (i : ℕ) → nodes v p q i ≡ branch (node_kind_of k) (over (open_of c) s) p q d (told l c (tok (Tokens.mark m) s) r i)) →
+      Does l c (tok (Tokens.mark m) s) (Move.Close k d r)
   closes c m s r v k d a u b e g =
-      (record { sign = m; class_is = refl; flat_is = a }, u, record { value = v; steps = e; shape_is = b; which = k; kind_is = refl; members = g })
+      (record { sign = m; class_is = refl; flat_is = a }, u, record { value = v; steps = e; shape_is = b; members = g })
 
   -- where one closing bracket alone may follow
   pub closing : (c : Config) (t : Tok) (x : Closing) (then : ℕ → List Node) → step l c t ≡ some (want_close x (below c)) →
@@ -124,7 +125,7 @@ module _ (l : Level) where
       ((j : ℕ) → nodes_listing i j (j + 1) ≡ told l c (tok (Tokens.mark Tokens.curly_close) s) r j) →
       Does l c (tok (Tokens.mark Tokens.curly_close) s) (Model.shut (style_of b) r)
   shuts (Frames.lot_curly o) c s r i u e a g =
-      closes c Tokens.curly_close s r (Tree.plain (Tree.lot o i s)) Nodes.a_lot 0 refl u refl e λ p q j x. branch Nodes.a_lot (over (a x) s) p q 0 (g j x)
+      closes c Tokens.curly_close s r (Tree.plain (Tree.lot o i s)) NodeKind.Lot 0 refl u refl e λ p q j x. branch Nodes.a_lot (over (a x) s) p q 0 (g j x)
   shuts (Frames.counted_curly o Tree.array t k b) c s r i u e a g = (refl, u, closing c _ (Frames.headed o Tree.array t k b i s) _ e a g)
   shuts (Frames.counted_curly o Tree.set t k b) c s r i u e a g = (refl, u, closing c _ (Frames.headed o Tree.set t k b i s) _ e a g)
   shuts (Frames.counted_curly o Tree.bag t k b) c s r i u e a g = (refl, u, closing c _ (Frames.headed o Tree.bag t k b i s) _ e a g)

@@ -8,7 +8,7 @@ use Rattle.grammar.specs.Tree
 use Rattle.grammar.specs.Tree.{Value, Plain}
 use Rattle.grammar.specs.Level.{Level}
 use Rattle.grammar.specs.Nodes as Nodes
-use Rattle.grammar.specs.Nodes.{Node, NodeKind, nodes, over, branch, leaf, atom_kind, atom_detail, kind_number_of}
+use Rattle.grammar.specs.Nodes.{Node, nodes, over, branch, leaf, atom_kind, atom_detail}
 use Rattle.grammar.proofs.Frames as Frames
 use Rattle.grammar.proofs.Frames.{Config, Stack, names_of}
 use Rattle.grammar.proofs.Machine.{step}
@@ -21,7 +21,8 @@ use Rattle.moves.specs.declared.CurlyFrame.TheVariants as Curly
 use Rattle.moves.specs.declared.Frame.{Frame}
 use Rattle.moves.specs.declared.Mode.{Mode}
 use Rattle.moves.specs.declared.Move.{Move}
-use Rattle.moves.specs.Means.{given, role_of, shape_of, mode_of, inside}
+use Rattle.moves.specs.declared.NodeKind.{NodeKind}
+use Rattle.moves.specs.Means.{given, node_kind_of, role_of, shape_of, mode_of, inside}
 use Rattle.moves.specs.Means.{open_of, below, before, last, children, roled}
 
 -- signs that neither open nor close a bracket
@@ -133,14 +134,12 @@ module _ (l : Level) (c : Config) (t : Tok) where
     pub members : (i : ℕ) → children to i ≡ then i
 
   -- the bracket's end: a value whose node, with the members' nodes behind it, is this
-  pub record Closes (kind detail : ℕ) (then : ℕ → List Node) : Type 0 where
+  pub record Closes (kind : NodeKind) (detail : ℕ) (then : ℕ → List Node) : Type 0 where
     pub value : Value
     pub steps : step l c t ≡ some (Frames.have value (below c))
     pub shape_is : shape_of value ≡ Shape.Other
-    pub which : NodeKind
-    pub kind_is : kind_number_of which ≡ kind
     pub members : (p : ℕ) (r : Nodes.Role) (i : ℕ) →
-        nodes value p r i ≡ branch which (over (open_of c) t.at) p r detail (then i)
+        nodes value p r i ≡ branch (node_kind_of kind) (over (open_of c) t.at) p r detail (then i)
 
   -- a value is wanted, and the token is no sign
   pub record Begins (frame : Frame) : Type 0 where

@@ -5,17 +5,19 @@ use Rattle.std.proofs.Math.Option.{Option, none, some}
 use Rattle.lexicon.specs.declared.Sign.{Sign}
 use Rattle.grammar.specs.Tokens.{Span}
 use Rattle.grammar.specs.Tree
-use Rattle.grammar.specs.Tree.{Arrow, Joiner, Collection, Side, Value}
+use Rattle.grammar.specs.Tree.{Joiner, Collection, Side, Value}
 use Rattle.grammar.specs.Level as Level
 use Rattle.grammar.specs.Level.{Level}
 use Rattle.grammar.specs.Nodes as Nodes
-use Rattle.grammar.specs.Nodes.{Node, NodeKind, nodes, nodes_plain, nodes_name, nodes_item, nodes_row, nodes_listing}
+use Rattle.grammar.specs.Nodes.{Node, nodes, nodes_plain, nodes_name, nodes_item, nodes_row, nodes_listing}
 use Rattle.grammar.specs.Nodes.{nodes_bounds, between_detail, bounds_detail, joiner_left, collection_kind}
 use Rattle.grammar.proofs.Frames as Frames
 pub use Rattle.grammar.proofs.NodeLaws.{roled}
 use Rattle.grammar.proofs.Frames.{Config, Stack, plain_name_of}
 use Rattle.moves.specs.declared.Forms.{Forms}
+use Rattle.moves.specs.declared.NodeKind.{NodeKind}
 use Rattle.moves.specs.declared.Role.{Role}
+use Rattle.moves.specs.declared.Arrow.{Arrow}
 use Rattle.moves.specs.declared.Shape.{Shape}
 use Rattle.moves.specs.declared.Style.{Style}
 use Rattle.moves.specs.declared.Front.{Front}
@@ -36,6 +38,23 @@ level_of f Level.bags = f.bags
 level_of f Level.intervals = f.intervals
 level_of f Level.left_arrows = f.leftward
 
+abbrev pub node_kind_of : NodeKind → Nodes.NodeKind
+node_kind_of NodeKind.Ignorance = Nodes.an_ignorance
+node_kind_of NodeKind.Boolean = Nodes.a_boolean
+node_kind_of NodeKind.Integer = Nodes.an_integer
+node_kind_of NodeKind.Fraction = Nodes.a_fraction
+node_kind_of NodeKind.Bits = Nodes.a_bits
+node_kind_of NodeKind.Blob = Nodes.a_blob
+node_kind_of NodeKind.Text = Nodes.a_text
+node_kind_of NodeKind.Nesting = Nodes.a_nesting
+node_kind_of NodeKind.Pair = Nodes.a_pair
+node_kind_of NodeKind.Tuple = Nodes.a_tuple
+node_kind_of NodeKind.Lot = Nodes.a_lot
+node_kind_of NodeKind.Array = Nodes.an_array
+node_kind_of NodeKind.Set = Nodes.a_set
+node_kind_of NodeKind.Bag = Nodes.a_bag
+node_kind_of NodeKind.Interval = Nodes.an_interval
+
 abbrev pub role_of : Role → Nodes.Role
 role_of Role.Root = Nodes.root
 role_of Role.This = Nodes.this
@@ -50,13 +69,13 @@ role_of Role.Single = Nodes.single
 
 -- ---- what the code's fields stand for
 
-abbrev pub arrow_of : (leftward : Bool) → Arrow
-arrow_of false = Tree.rightward
-arrow_of true = Tree.leftward
+abbrev pub arrow_of : Arrow → Tree.Arrow
+arrow_of Arrow.Right = Tree.rightward
+arrow_of Arrow.Left = Tree.leftward
 
-abbrev pub arrow_sign : (leftward : Bool) → Sign
-arrow_sign false = Sign.ArrowRight
-arrow_sign true = Sign.ArrowLeft
+abbrev pub arrow_sign : Arrow → Sign
+arrow_sign Arrow.Right = Sign.ArrowRight
+arrow_sign Arrow.Left = Sign.ArrowLeft
 
 -- the items between curly brackets
 abbrev pub items_of : Style → Tree.Style
@@ -66,7 +85,7 @@ items_of Style.Set = Tree.copy (Tree.counted_by Tree.set)
 items_of Style.Bag = Tree.copy (Tree.counted_by Tree.bag)
 
 -- the node of the whole
-abbrev pub kind_of : Style → NodeKind
+abbrev pub kind_of : Style → Nodes.NodeKind
 kind_of Style.Lot = Nodes.a_lot
 kind_of Style.Array = collection_kind Tree.array
 kind_of Style.Set = collection_kind Tree.set
@@ -86,13 +105,14 @@ abbrev pub shape_of : Value → Shape
 shape_of (Tree.plain p) = name_shape (given (plain_name_of p))
 shape_of (Tree.bare h s) = Shape.Bare h
 
-abbrev pub leftward : Arrow → Bool
-leftward Tree.rightward = false
-leftward Tree.leftward = true
+abbrev pub pointing : Tree.Arrow → Arrow
+pointing Tree.rightward = Arrow.Right
+pointing Tree.leftward = Arrow.Left
 
-abbrev pub left_joiner : Joiner → Bool
-left_joiner Tree.colon = false
-left_joiner (Tree.arrow a) = leftward a
+-- a colon gives the roles that `->` gives
+abbrev pub joining : Joiner → Arrow
+joining Tree.colon = Arrow.Right
+joining (Tree.arrow a) = pointing a
 
 abbrev pub collection_style : Collection → Style
 collection_style Tree.array = Style.Array
@@ -115,14 +135,14 @@ up_to_detail Tree.less_equal = 8
 abbrev pub round_of : Frames.RoundFrame → RoundFrame
 round_of (Frames.opened o) = Round.Opened
 round_of (Frames.pair_colon o p k) = Round.Colon (given (plain_name_of p))
-round_of (Frames.pair_arrow o v a k) = Round.Arrow (leftward a)
+round_of (Frames.pair_arrow o v a k) = Round.Arrow (pointing a)
 round_of (Frames.in_tuple o (Frames.lead_comma b)) = Round.Led
 round_of (Frames.in_tuple o (Frames.lead_row r)) = Round.Row
 round_of (Frames.attribute_name o f n k) = Round.Named
 
 abbrev pub curly_of : Frames.CurlyFrame → CurlyFrame
 curly_of (Frames.CurlyFrame.in_curly c f) = Curly.Members (style_of c) (front_of f)
-curly_of (Frames.member_joined o f v j k) = Curly.Joined (left_joiner j)
+curly_of (Frames.member_joined o f v j k) = Curly.Joined (joining j)
 
 abbrev pub square_of : Frames.SquareFrame → SquareFrame
 square_of (Frames.square_opened o) = Square.Opened

@@ -2,11 +2,11 @@
 use Rattle.std.specs.Prelude.{◌≡◌}
 use Rattle.lexicon.specs.declared.Kind.{Kind}
 use Rattle.grammar.specs.Tokens.{Span, tok, class_kind}
-use Rattle.grammar.specs.Nodes as Nodes
 use Rattle.grammar.proofs.Frames.{Config}
 use Rattle.moves.specs.declared.Forms.{Forms}
 use Rattle.moves.specs.declared.Mode.{Mode}
 use Rattle.moves.specs.declared.Move.{Move}
+use Rattle.moves.specs.declared.NodeKind.{NodeKind}
 use Rattle.moves.specs.declared.Role.{Role}
 use Rattle.moves.specs.declared.Style.{Style}
 use Rattle.moves.specs.Means.{level_of, mode_of}
@@ -21,7 +21,7 @@ pub record Moves (forms : Forms) (mode : Mode) (kind : Kind) (move : Move) : Typ
 
 -- the move of `}`, which ends a Lot's bracket; that of a counted collection ends with the `)` behind it
 abbrev pub shut : Style → Role → Move
-shut Style.Lot role = Move.Close (Nodes.kind_number_of Nodes.a_lot) 0 role
+shut Style.Lot role = Move.Close NodeKind.Lot 0 role
 shut Style.Array role = Move.Shut Style.Array role
 shut Style.Set role = Move.Shut Style.Set role
 shut Style.Bag role = Move.Shut Style.Bag role

@@ -1,5 +1,7 @@
-// The states of a reader inside a bracket, and the moves between them. Definitions and laws; no code.
+// The states of a reader inside a bracket, and the moves between them. Definitions and laws; of code only what makes one from another.
 #![tactic(auto)]
+
+mod into;
 
 use lexicon::Head;
 
@@ -13,19 +15,46 @@ pub struct Forms {
     pub leftward: bool,
 }
 
-// A node's role towards its parent.
-#[derive(Clone, Copy)]
+// What a node stands for; `as u32` is its word in the table.
+#[derive(Clone, Copy, PartialEq, Eq)]
+pub enum NodeKind {
+    Ignorance = 1,
+    Boolean = 2,
+    Integer = 3,
+    Fraction = 4,
+    Bits = 5,
+    Blob = 6,
+    Text = 7,
+    Nesting = 8,
+    Pair = 9,
+    Tuple = 10,
+    Lot = 11,
+    Array = 12,
+    Set = 13,
+    Bag = 14,
+    Interval = 15,
+}
+
+// A node's role towards its parent; `as u32` is its word in the table.
+#[derive(Clone, Copy, PartialEq, Eq)]
 pub enum Role {
-    Root,
-    This,
-    ThatAfter,
-    ThatBefore,
-    Name,
-    Value,
-    Count,
-    Low,
-    High,
-    Single,
+    Root = 0,
+    This = 1,
+    ThatAfter = 2,
+    ThatBefore = 3,
+    Name = 4,
+    Value = 5,
+    Count = 6,
+    Low = 7,
+    High = 8,
+    Single = 9,
+}
+
+// `->` or `<-`.
+#[derive(Clone, Copy, PartialEq, Eq)]
+pub enum Arrow {
+    Right,
+    Left,
 }
 
 // What a value is to a colon behind it: a bare head word, another name, or neither.
@@ -58,20 +87,21 @@ pub enum Front {
 pub enum RoundFrame {
     Opened,
     Colon { name: bool },
-    Arrow { leftward: bool },
+    Arrow(Arrow),
     Led,
     Row,
     Named,
 }
 
-// Before a member; in a Lot behind a value and what joins it to the next.
+// Before a member; in a Lot behind a value and what joins it to the next: a colon gives the two the roles that `->` gives.
 #[derive(Clone, Copy)]
 pub enum CurlyFrame {
     Members { style: Style, front: Front },
-    Joined { leftward: bool },
+    Joined(Arrow),
 }
 
-// Behind `[`; behind the low bound and its sign; behind `*<` or `*<=`. The number is the Interval's detail.
+// Behind `[`; behind the low bound and its sign; behind `*<` or `*<=`. The number is the Interval's detail; a word and no enum, since the
+// functions over a frame answer for any (docs/CONTRACTS.md), and an enum would ask more of their callers.
 #[derive(Clone, Copy)]
 pub enum SquareFrame {
     Opened,
@@ -107,7 +137,10 @@ pub enum Move {
     // a value begins
     Value(Frame),
     // a sign leads on
-    To { mode: Mode, role: Role },
+    To {
+        mode: Mode,
+        role: Role,
+    },
     // the comma behind `(name:value`, which makes both an attribute
     Tuple,
     // a count
@@ -115,9 +148,16 @@ pub enum Move {
     // `{` behind a head
     Deeper(Style),
     // `}` of a counted collection
-    Shut { style: Style, role: Role },
+    Shut {
+        style: Style,
+        role: Role,
+    },
     // the bracket's end, with its node's kind and detail
-    Close { kind: u32, detail: u32, role: Role },
+    Close {
+        kind: NodeKind,
+        detail: u32,
+        role: Role,
+    },
     // the end of a group
     Group,
     Wrong,

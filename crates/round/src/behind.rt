@@ -2,10 +2,9 @@
 ghost use Rattle.moves.specs.Moves.{Moves};
 
 use crate::joint::arrow;
-use crate::want::want;
 use arrows::right_role;
 use lexicon::{Kind, Sign};
-use moves::{Forms, Frame, Mode, Move, Role, RoundFrame, Shape};
+use moves::{Arrow, Forms, Frame, Mode, Move, NodeKind, Role, RoundFrame, Shape};
 
 // `)` ends a group, a Pair or a Tuple.
 fn close(frame: RoundFrame) -> Move
@@ -13,39 +12,23 @@ fn close(frame: RoundFrame) -> Move
 {
     match frame {
         RoundFrame::Opened => Move::Group,
-        RoundFrame::Colon { .. } => Move::Close {
-            kind: 9,
-            detail: 0,
-            role: Role::ThatAfter,
-        },
-        RoundFrame::Arrow { leftward } => Move::Close {
-            kind: 9,
-            detail: 0,
-            role: right_role(leftward),
-        },
-        RoundFrame::Led | RoundFrame::Row | RoundFrame::Named => Move::Close {
-            kind: 10,
-            detail: 0,
-            role: Role::Value,
-        },
+        RoundFrame::Colon { .. } => Move::ends(NodeKind::Pair, Role::ThatAfter),
+        RoundFrame::Arrow(arrow) => Move::ends(NodeKind::Pair, right_role(arrow)),
+        RoundFrame::Led | RoundFrame::Row | RoundFrame::Named => Move::ends(
+            NodeKind::Tuple,
+            Role::Value,
+        ),
     }
 }
 
-// A name, its `:`, a value and a comma begin a Tuple.
-fn comma_pair(name: bool) -> Move
-    ensures { (forms : Forms) (shape : Shape) → Moves forms (Mode.Have (Frame.Round (RoundFrame.Colon name)) shape) (Kind.Symbol Sign.Comma) result }
-{
-    if name { Move::Tuple } else { Move::Wrong }
-}
-
-// A comma behind a value, or behind a Tuple's attribute.
+// A comma behind a value, or behind a Tuple's attribute. A name, its `:`, a value and a comma begin a Tuple.
 fn comma(frame: RoundFrame) -> Move
     ensures { (forms : Forms) (shape : Shape) → Moves forms (Mode.Have (Frame.Round frame) shape) (Kind.Symbol Sign.Comma) result }
 {
     match frame {
-        RoundFrame::Colon { name } => comma_pair(name),
-        RoundFrame::Arrow { .. } => Move::Wrong,
-        _ => want(RoundFrame::Row, Role::Value),
+        RoundFrame::Colon { name: true } => Move::Tuple,
+        RoundFrame::Colon { name: false } | RoundFrame::Arrow(_) => Move::Wrong,
+        _ => Move::want(RoundFrame::Row, Role::Value),
     }
 }
 
@@ -56,8 +39,8 @@ pub fn behind(forms: Forms, frame: RoundFrame, sign: Sign) -> Move
     match sign {
         Sign::RoundClose => close(frame),
         Sign::Comma => comma(frame),
-        Sign::ArrowRight => arrow(forms, frame, false),
-        Sign::ArrowLeft => arrow(forms, frame, true),
+        Sign::ArrowRight => arrow(forms, frame, Arrow::Right),
+        Sign::ArrowLeft => arrow(forms, frame, Arrow::Left),
         _ => Move::Wrong,
     }
 }

@@ -2,52 +2,41 @@
 ghost use Rattle.moves.specs.Means.{arrow_sign};
 ghost use Rattle.moves.specs.Moves.{Moves};
 
-use crate::want::want;
 use arrows::{has_arrow, left_role};
 use lexicon::Kind;
-use moves::{Forms, Frame, Mode, Move, Role, RoundFrame, Shape};
+use moves::{Arrow, Forms, Frame, Mode, Move, Role, RoundFrame, Shape};
 
-// A bare head word directly behind `(` has no colon behind it here: the head was seen before.
-fn colon_first(shape: Shape) -> Move
-    ensures { (forms : Forms) → Moves forms (Mode.Have (Frame.Round RoundFrame.Opened) shape) Kind.Colon result }
-{
-    match shape {
-        Shape::Bare(_) => Move::Wrong,
-        Shape::Name => want(RoundFrame::Colon { name: true }, Role::This),
-        Shape::Other => want(RoundFrame::Colon { name: false }, Role::This),
-    }
-}
-
-// In a Tuple, behind its leading comma or another: behind a name alone.
-fn colon_attribute(shape: Shape) -> Move
-    ensures { (forms : Forms) → Moves forms (Mode.Have (Frame.Round RoundFrame.Led) shape) Kind.Colon result × Moves forms (Mode.Have (Frame.Round RoundFrame.Row) shape) Kind.Colon result }
-{
-    match shape {
-        Shape::Bare(_) | Shape::Name => want(RoundFrame::Named, Role::Name),
-        Shape::Other => Move::Wrong,
-    }
-}
-
-// A colon: one behind the first value, one in each attribute.
+// A colon: one behind the first value, one behind each attribute's name. A bare head word directly behind `(` has none behind it here: the
+// head was seen before.
 pub fn colon(frame: RoundFrame, shape: Shape) -> Move
     ensures { (forms : Forms) → Moves forms (Mode.Have (Frame.Round frame) shape) Kind.Colon result }
 {
-    match frame {
-        RoundFrame::Opened => colon_first(shape),
-        RoundFrame::Led | RoundFrame::Row => colon_attribute(shape),
+    match (frame, shape) {
+        (RoundFrame::Opened, Shape::Name) => Move::want(
+            RoundFrame::Colon { name: true },
+            Role::This,
+        ),
+        (RoundFrame::Opened, Shape::Other) => Move::want(
+            RoundFrame::Colon { name: false },
+            Role::This,
+        ),
+        (RoundFrame::Led | RoundFrame::Row, Shape::Bare(_) | Shape::Name) => Move::want(
+            RoundFrame::Named,
+            Role::Name,
+        ),
         _ => Move::Wrong,
     }
 }
 
 // An arrow: behind the first value alone.
-pub(crate) fn arrow(forms: Forms, frame: RoundFrame, leftward: bool) -> Move
-    ensures { (shape : Shape) → Moves forms (Mode.Have (Frame.Round frame) shape) (Kind.Symbol (arrow_sign leftward)) result }
+pub(crate) fn arrow(forms: Forms, frame: RoundFrame, arrow: Arrow) -> Move
+    ensures { (shape : Shape) → Moves forms (Mode.Have (Frame.Round frame) shape) (Kind.Symbol (arrow_sign arrow)) result }
 {
-    if !has_arrow(forms, leftward) {
-        return Move::Wrong;
+    match frame {
+        RoundFrame::Opened if has_arrow(forms, arrow) => Move::want(
+            RoundFrame::Arrow(arrow),
+            left_role(arrow),
+        ),
+        _ => Move::Wrong,
     }
-    let RoundFrame::Opened = frame else {
-        return Move::Wrong;
-    };
-    want(RoundFrame::Arrow { leftward }, left_role(leftward))
 }

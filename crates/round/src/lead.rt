@@ -1,42 +1,20 @@
 // Where a value is wanted between `(` and `)`: a sign that begins none is a Tuple's leading comma or `)`.
 ghost use Rattle.moves.specs.Moves.{Moves};
 
-use crate::want::want;
 use lexicon::{Kind, Sign};
-use moves::{Forms, Frame, Mode, Move, Role, RoundFrame};
+use moves::{Forms, Frame, Mode, Move, NodeKind, Role, RoundFrame};
 
-// `()`, or `)` behind a comma that is not the leading one.
-fn empty(frame: RoundFrame) -> Move
-    ensures { (forms : Forms) → Moves forms (Mode.Want (Frame.Round frame)) (Kind.Symbol Sign.RoundClose) result }
-{
-    match frame {
-        RoundFrame::Opened | RoundFrame::Row => Move::Close {
-            kind: 10,
-            detail: 0,
-            role: Role::Root,
-        },
-        _ => Move::Wrong,
-    }
-}
-
-// A Tuple's leading comma.
-fn leading(frame: RoundFrame) -> Move
-    ensures { (forms : Forms) → Moves forms (Mode.Want (Frame.Round frame)) (Kind.Symbol Sign.Comma) result }
-{
-    let RoundFrame::Opened = frame else {
-        return Move::Wrong;
-    };
-    want(RoundFrame::Led, Role::Root)
-}
-
-// A sign where a value is wanted.
+// A sign where a value is wanted. `)` stands directly behind `(`, or behind a comma that is not the leading one.
 pub fn lead(frame: RoundFrame, sign: Sign) -> Move
     ensures { (forms : Forms) → Moves forms (Mode.Want (Frame.Round frame)) (Kind.Symbol sign) result }
 {
-    match sign {
-        Sign::RoundOpen | Sign::CurlyOpen | Sign::SquareOpen => Move::Value(Frame::Round(frame)),
-        Sign::RoundClose => empty(frame),
-        Sign::Comma => leading(frame),
+    match (frame, sign) {
+        (_, Sign::RoundOpen | Sign::CurlyOpen | Sign::SquareOpen) => Move::Value(frame.into()),
+        (RoundFrame::Opened | RoundFrame::Row, Sign::RoundClose) => Move::ends(
+            NodeKind::Tuple,
+            Role::Root,
+        ),
+        (RoundFrame::Opened, Sign::Comma) => Move::want(RoundFrame::Led, Role::Root),
         _ => Move::Wrong,
     }
 }

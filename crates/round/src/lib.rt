@@ -1,7 +1,6 @@
 // The moves between `(` and `)`: groups, Pairs and Tuples.
-#![tactic(auto)]
+#![tactic(auto, using(moves::proofs::Moved::moved))]
 
 pub mod behind;
 pub mod joint;
 pub mod lead;
-mod want;

@@ -1,87 +1,56 @@
-// Behind a value between `[` and `]`: the bracket's end, or the sign between the bounds, whose number is the Interval's detail.
+// Behind a value between `[` and `]`: the bracket's end, or the sign between the bounds.
 ghost use Rattle.std.specs.Prelude.{◌≡◌};
 ghost use Rattle.moves.specs.Moves.{Moves};
+ghost use Rattle.square.specs.Details.{detail_of};
 
-use crate::want::want;
+use crate::bounds::Bounds;
 use lexicon::{Bound, Kind, Sign};
-use moves::{Forms, Frame, Mode, Move, Role, Shape, SquareFrame};
+use moves::{Forms, Frame, Mode, Move, NodeKind, Role, Shape, SquareFrame};
 
 // `]` behind an Interval's one value or its high bound.
 fn close(frame: SquareFrame) -> Move
     ensures { (forms : Forms) (shape : Shape) → Moves forms (Mode.Have (Frame.Square frame) shape) (Kind.Symbol Sign.SquareClose) result }
 {
-    match frame {
-        SquareFrame::Opened => Move::Close {
-            kind: 15,
-            detail: 1,
-            role: Role::Single,
-        },
-        SquareFrame::Low(detail) => Move::Close {
-            kind: 15,
-            detail,
-            role: Role::High,
-        },
-        SquareFrame::UpTo(detail) => Move::Close {
-            kind: 15,
-            detail,
-            role: Role::High,
-        },
+    let (detail, role) = match frame {
+        SquareFrame::Opened => (Bounds::Single as u32, Role::Single),
+        SquareFrame::Low(detail) | SquareFrame::UpTo(detail) => (detail, Role::High),
+    };
+    Move::Close {
+        kind: NodeKind::Interval,
+        detail,
+        role,
     }
 }
 
-// `..` behind a low bound.
-fn dots(frame: SquareFrame) -> Move
-    ensures { (forms : Forms) (shape : Shape) → Moves forms (Mode.Have (Frame.Square frame) shape) (Kind.Symbol Sign.Dots) result }
+// The sign between two bounds.
+fn between(bounds: Bounds) -> Move
+    ensures { result ≡ Move.To (Mode.Want (Frame.Square (SquareFrame.Low (detail_of bounds)))) Role.Low }
 {
-    let SquareFrame::Opened = frame else {
-        return Move::Wrong;
-    };
-    want(SquareFrame::Low(11), Role::Low)
+    Move::want(SquareFrame::Low(bounds as u32), Role::Low)
 }
 
-// Behind a low bound where no high bound follows: `]` comes next.
-fn open(detail: u32) -> Move
-    ensures { result ≡ Move.To (Mode.Bounded detail) Role.Low }
+// The sign behind a low bound, where no high bound follows: `]` comes next.
+fn open(bounds: Bounds) -> Move
+    ensures { result ≡ Move.To (Mode.Bounded (detail_of bounds)) Role.Low }
 {
     Move::To {
-        mode: Mode::Bounded(detail),
+        mode: Mode::Bounded(bounds as u32),
         role: Role::Low,
     }
 }
 
-// `<` before the star; `<`, `<=` or nothing stands behind it.
-fn less(high: Bound) -> Move
-    ensures { (forms : Forms) (shape : Shape) → Moves forms (Mode.Have (Frame.Square SquareFrame.Opened) shape) (Kind.Symbol (Sign.Star Bound.Less high)) result }
+// A star behind a low bound: with `<` or `<=` behind it a high bound is wanted, else `]` comes next.
+fn star(low: Bound, high: Bound) -> Move
+    ensures { (forms : Forms) (shape : Shape) → Moves forms (Mode.Have (Frame.Square SquareFrame.Opened) shape) (Kind.Symbol (Sign.Star low high)) result }
 {
-    match high {
-        Bound::Open => open(7),
-        Bound::Less => want(SquareFrame::Low(5), Role::Low),
-        Bound::LessEqual => want(SquareFrame::Low(4), Role::Low),
-    }
-}
-
-// `<=` before the star.
-fn less_equal(high: Bound) -> Move
-    ensures { (forms : Forms) (shape : Shape) → Moves forms (Mode.Have (Frame.Square SquareFrame.Opened) shape) (Kind.Symbol (Sign.Star Bound.LessEqual high)) result }
-{
-    match high {
-        Bound::Open => open(6),
-        Bound::Less => want(SquareFrame::Low(3), Role::Low),
-        Bound::LessEqual => want(SquareFrame::Low(2), Role::Low),
-    }
-}
-
-// A star behind a low bound.
-fn star(frame: SquareFrame, low: Bound, high: Bound) -> Move
-    ensures { (forms : Forms) (shape : Shape) → Moves forms (Mode.Have (Frame.Square frame) shape) (Kind.Symbol (Sign.Star low high)) result }
-{
-    let SquareFrame::Opened = frame else {
-        return Move::Wrong;
-    };
-    match low {
-        Bound::Open => Move::Wrong,
-        Bound::Less => less(high),
-        Bound::LessEqual => less_equal(high),
+    match (low, high) {
+        (Bound::Open, _) => Move::Wrong,
+        (Bound::Less, Bound::Open) => open(Bounds::FromOpen),
+        (Bound::Less, Bound::Less) => between(Bounds::OpenOpen),
+        (Bound::Less, Bound::LessEqual) => between(Bounds::OpenClosed),
+        (Bound::LessEqual, Bound::Open) => open(Bounds::FromClosed),
+        (Bound::LessEqual, Bound::Less) => between(Bounds::ClosedOpen),
+        (Bound::LessEqual, Bound::LessEqual) => between(Bounds::ClosedClosed),
     }
 }
 
@@ -89,10 +58,10 @@ fn star(frame: SquareFrame, low: Bound, high: Bound) -> Move
 pub fn behind(frame: SquareFrame, sign: Sign) -> Move
     ensures { (forms : Forms) (shape : Shape) → Moves forms (Mode.Have (Frame.Square frame) shape) (Kind.Symbol sign) result }
 {
-    match sign {
-        Sign::SquareClose => close(frame),
-        Sign::Dots => dots(frame),
-        Sign::Star { low, high } => star(frame, low, high),
+    match (frame, sign) {
+        (_, Sign::SquareClose) => close(frame),
+        (SquareFrame::Opened, Sign::Dots) => between(Bounds::Dots),
+        (SquareFrame::Opened, Sign::Star { low, high }) => star(low, high),
         _ => Move::Wrong,
     }
 }

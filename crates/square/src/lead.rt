@@ -1,52 +1,42 @@
 // Where a bound is wanted: a sign that begins no value is a star or `]`.
 ghost use Rattle.moves.specs.Moves.{Moves};
 
-use crate::want::want;
+use crate::bounds::Bounds;
 use lexicon::{Bound, Kind, Sign};
-use moves::{Forms, Frame, Mode, Move, Role, SquareFrame};
+use moves::{Forms, Frame, Mode, Move, NodeKind, Role, SquareFrame};
 
-// `[]`.
-fn empty(frame: SquareFrame) -> Move
-    ensures { (forms : Forms) → Moves forms (Mode.Want (Frame.Square frame)) (Kind.Symbol Sign.SquareClose) result }
+// `[*`, `[*<` or `[*<=`: directly behind `[`.
+fn star(high: Bound) -> Move
+    ensures { (forms : Forms) → Moves forms (Mode.Want (Frame.Square SquareFrame.Opened)) (Kind.Symbol (Sign.Star Bound.Open high)) result }
 {
-    let SquareFrame::Opened = frame else {
-        return Move::Wrong;
-    };
-    Move::Close {
-        kind: 15,
-        detail: 0,
-        role: Role::Root,
-    }
-}
-
-// `[*`, `[*<` or `[*<=`: directly behind `[` alone, and `<` or `<=` before the star would want a low bound.
-fn star(frame: SquareFrame, low: Bound, high: Bound) -> Move
-    ensures { (forms : Forms) → Moves forms (Mode.Want (Frame.Square frame)) (Kind.Symbol (Sign.Star low high)) result }
-{
-    let SquareFrame::Opened = frame else {
-        return Move::Wrong;
-    };
-    let Bound::Open = low else {
-        return Move::Wrong;
-    };
     match high {
         Bound::Open => Move::To {
-            mode: Mode::Bounded(10),
+            mode: Mode::Bounded(Bounds::All as u32),
             role: Role::Root,
         },
-        Bound::Less => want(SquareFrame::UpTo(9), Role::Root),
-        Bound::LessEqual => want(SquareFrame::UpTo(8), Role::Root),
+        Bound::Less => Move::want(SquareFrame::UpTo(Bounds::ToOpen as u32), Role::Root),
+        Bound::LessEqual => Move::want(SquareFrame::UpTo(Bounds::ToClosed as u32), Role::Root),
     }
 }
 
-// A sign where a value is wanted.
+// A sign where a value is wanted. Behind `[` alone a bound may lack; `<` or `<=` before the star would want a low one.
 pub fn lead(frame: SquareFrame, sign: Sign) -> Move
     ensures { (forms : Forms) → Moves forms (Mode.Want (Frame.Square frame)) (Kind.Symbol sign) result }
 {
-    match sign {
-        Sign::RoundOpen | Sign::CurlyOpen | Sign::SquareOpen => Move::Value(Frame::Square(frame)),
-        Sign::SquareClose => empty(frame),
-        Sign::Star { low, high } => star(frame, low, high),
+    match (frame, sign) {
+        (_, Sign::RoundOpen | Sign::CurlyOpen | Sign::SquareOpen) => Move::Value(frame.into()),
+        (SquareFrame::Opened, Sign::SquareClose) => Move::Close {
+            kind: NodeKind::Interval,
+            detail: Bounds::Empty as u32,
+            role: Role::Root,
+        },
+        (
+            SquareFrame::Opened,
+            Sign::Star {
+                low: Bound::Open,
+                high,
+            },
+        ) => star(high),
         _ => Move::Wrong,
     }
 }

@@ -1,7 +1,7 @@
 // The moves between `[` and `]`: an Interval's bounds.
-#![tactic(auto)]
+#![tactic(auto, using(moves::proofs::Moved::moved))]
 
 pub mod behind;
 pub mod bounded;
+mod bounds;
 pub mod lead;
-mod want;

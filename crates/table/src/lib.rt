@@ -3,9 +3,8 @@
 
 ghost use Rattle.std.specs.Prelude.{◌≡◌, ◌+◌, ◌*◌, ◌≤◌, length};
 ghost use Rattle.rules.specs.Over.{over};
-ghost use Rattle.grammar.specs.Nodes.{role_number, node_words};
+ghost use Rattle.grammar.specs.Nodes.{node_words};
 ghost use Rattle.reading.specs.Sizes.{room as room_of};
-ghost use Rattle.moves.specs.Means.{role_of};
 ghost use Rattle.table.specs.Over.{under, capped as capped_of, entry_words, Stored, Assigned, Raised};
 
 use grammar::{NODE_WORDS, PARENT, ROLE, SKIP};
@@ -15,7 +14,7 @@ use reading::Rules;
 // The largest word.
 const LARGEST: usize = 0xFFFF_FFFF;
 
-// A node: its kind's number, first byte, byte after the last, parent's index, role, detail, index just past its last descendant.
+// A node: its kind's word (any, as `put` promises to write it: docs/CONTRACTS.md; an enum would ask more of callers), first byte, byte after the last, parent's index, role, detail, index just past its last descendant.
 #[derive(Clone, Copy)]
 pub struct Entry {
     pub kind: u32,
@@ -25,23 +24,6 @@ pub struct Entry {
     pub role: Role,
     pub detail: u32,
     pub skip: u32,
-}
-
-fn role_number(role: Role) -> u32
-    ensures { result ≡ role_number (role_of role) }
-{
-    match role {
-        Role::Root => 0,
-        Role::This => 1,
-        Role::ThatAfter => 2,
-        Role::ThatBefore => 3,
-        Role::Name => 4,
-        Role::Value => 5,
-        Role::Count => 6,
-        Role::Low => 7,
-        Role::High => 8,
-        Role::Single => 9,
-    }
 }
 
 impl Entry {
@@ -56,7 +38,7 @@ impl Entry {
             self.first,
             self.end,
             self.parent,
-            role_number(self.role),
+            self.role as u32,
             self.detail,
             self.skip,
         ]
@@ -86,14 +68,11 @@ pub fn put(table: &mut [u32], index: usize, node: Entry)
 pub fn assign(table: &mut [u32], index: usize, role: Role)
     ensures { Assigned table.old table.new index role }
 {
-    if let Role::Root = role {
-        return;
-    }
-    if index >= table.len() / NODE_WORDS {
+    if role == Role::Root || index >= table.len() / NODE_WORDS {
         return;
     }
     let at = index * NODE_WORDS + ROLE;
-    table[at] = role_number(role);
+    table[at] = role as u32;
 }
 
 // The number as a word holds it.

@@ -28,13 +28,14 @@ use Rattle.reading.specs.Faults.{Retired}
 use Rattle.reading.proofs.Decide.{is_arrow, not_arrow}
 use Rattle.reading.proofs.At.{At, opens, sign_on, literal_on, open_on, never_bad, may_be_bad, plain, kind_of, curly_known, sign_wrong, not_here, deep_here, retired_here, class_kind_lem}
 use Rattle.moves.specs.declared.Forms.{Forms}
+use Rattle.moves.specs.declared.NodeKind.{NodeKind}
 use Rattle.moves.specs.declared.Role.{Role}
 use Rattle.moves.specs.declared.Shape.{Shape}
 use Rattle.moves.specs.declared.Style.{Style}
 use Rattle.moves.specs.declared.Frame.{Frame}
 use Rattle.moves.specs.declared.Mode.{Mode}
 use Rattle.moves.specs.declared.Move.{Move}
-use Rattle.moves.specs.Means.{given, level_of, role_of, shape_of, before, last, children, open_of}
+use Rattle.moves.specs.Means.{given, level_of, node_kind_of, role_of, shape_of, before, last, children, open_of}
 use Rattle.moves.specs.Effects.{flat, counting, opening, held, Leads, Paired, Does}
 use Rattle.moves.proofs.Steps.{paired_held, paired_named}
 use Rattle.table.specs.Over.{Written, Stored, Assigned, Put, entry_words}
@@ -297,15 +298,15 @@ module _ (text : List ℕ) (limits : Limits) (forms : Forms) where
         )
 
     -- the bracket's end
-    pub close_on : {left : List ℕ} {kind detail : ℕ} {role : Role} (r : Turn) (parent : ℕ) → Does (level_of forms) c (seen t) (Move.Close kind detail role) →
+    pub close_on : {left : List ℕ} {kind : NodeKind} {detail : ℕ} {role : Role} (r : Turn) (parent : ℕ) → Does (level_of forms) c (seen t) (Move.Close kind detail role) →
         (d : Closed s t opener.first kind detail role from left index parent r) → Turns text limits forms opener lent left index parent K (Ok r)
     close_on {left} {kind} {detail} {role} r parent (m, u, g) d =
         let v = g.value in
         let members = before c index ++ roled (role_of role) (last c index) in
-        let node : Node = record { kind = g.which; at = over (open_of c) (span_of t); parent = parent; role = Nodes.root; detail = detail; stretch = 1 + length members } in
+        let node : Node = record { kind = node_kind_of kind; at = over (open_of c) (span_of t); parent = parent; role = Nodes.root; detail = detail; stretch = 1 + length members } in
         let put : Put d.told left index node =
         told_put {e = close_entry t opener.first kind detail parent (index + (s.nodes + 1))} {n = node} (record {
-          kind = g.kind_is;
+          kind = refl;
           first = ap (λ (x : Span). x.first) h.open_is;
           end = refl;
           parent = refl;
@@ -400,7 +401,7 @@ module _ {limits : Limits} {opener t : Token.Token} {s : State.State} {index par
     take_shut e x l =
         taking e (ap (λ (z : Turn). Ok z) l.turn_is) ((advanced n o).0, pred_fits s.deep (omega (arith, o.deep_fits, n.token_after, n.token_byte)), refl) (λ text forms lent K c h k d. shut_on text limits forms t h k r parent d x l)
 
-    pub take_close : {kind detail : ℕ} {role : Role} → taken ≡ Move.Close kind detail role → Closed s t opener.first kind detail role from left index parent r → Promise limits opener s t taken from left index parent (Ok r)
+    pub take_close : {kind : NodeKind} {detail : ℕ} {role : Role} → taken ≡ Move.Close kind detail role → Closed s t opener.first kind detail role from left index parent r → Promise limits opener s t taken from left index parent (Ok r)
     take_close e l =
         taking e (ap (λ (z : Turn). Ok z) l.turn_is) (omega (arith, o.after, b, n.token_after, n.token_byte), refl) (λ text forms lent K c h k d. close_on text limits forms t h k r parent d l)
 

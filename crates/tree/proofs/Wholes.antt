@@ -7,6 +7,9 @@ use native.Mathlib.Omega.{arith}
 use lib.ListN.{length, drop}
 use Rattle.lexicon.specs.declared.Token as Token
 use Rattle.lexicon.specs.declared.Next.TheVariants as Next
+use Rattle.std.specs.Result.{MatchResult}
+use Rattle.lexicon.specs.declared.NotUtf8.{NotUtf8}
+use Rattle.lexicon.specs.Utf8.{WellFormed, BadAt, Encoded}
 use Rattle.lexicon.specs.Front.{Front}
 use Rattle.lexicon.specs.Token.{Comes}
 use Rattle.lexicon.proofs.Pieces.{token_bounds}
@@ -22,19 +25,17 @@ use Rattle.reading.specs.declared.Limits.{Limits}
 use Rattle.reading.specs.declared.Rules.{Rules}
 use Rattle.reading.specs.Sizes.{room, widest}
 use Rattle.reading.specs.Refusals.{answer_of}
-use Rattle.reading.specs.Answers.{LevelOf, Accepted, Answers, answer, no_level, too_long, not_utf8, faulty, no_room, accepted}
+use Rattle.reading.specs.Answers.{Accepted, Answers, answer, no_level, too_long, not_utf8, faulty, no_room, accepted}
 use Rattle.reading.proofs.First.{all_or_fault}
 use Rattle.reading.proofs.Unique.{one_tree_lem}
 use Rattle.reading.proofs.At as At
 use Rattle.reading.proofs.At.{class_kind_lem, at_start, none_here, not_here, not_wanting}
 use Rattle.moves.specs.declared.Forms.{Forms}
-use Rattle.moves.specs.declared.Shape.{Shape}
 use Rattle.moves.specs.Means.{level_of}
 use Rattle.table.specs.Over.{Written}
 use Rattle.table.proofs.Written.{written_whole}
 use Rattle.look.specs.declared.answer.Read.{Read}
 use Rattle.std.specs.Prelude.{Result, Ok, Err}
-use Rattle.reading.specs.declared.Refusal.{Refusal}
 use Rattle.reading.specs.declared.Refused.{Refused}
 use Rattle.look.specs.Looks.{Gets, unformed_by}
 use Rattle.look.specs.Ends.{Behind, further, nothing, at_end}
@@ -140,6 +141,11 @@ module _ (text : List ℕ) (forms : Forms) (rules : Rules) (lent : List ℕ) (h 
 
 -- ---- the tests over the whole text
 
+-- what the UTF-8 test refuses, as a refusal
+pub unformed_at : {text : List ℕ} (r : Result (Unit {0}) NotUtf8) {e : Refused} → MatchResult r (λ x. ⊥) (λ f. e ≡ unformed_by f) → Encoded text r → (f : NotUtf8) × (e ≡ unformed_by f) × BadAt text f.at
+unformed_at (Ok x) m y = absurd m
+unformed_at (Err f) m y = (f, m, y)
+
 module _ (rules : Rules) (text lent : List ℕ) (number : ℕ) where
   pub read_no_level : {e : Refused} → LevelFound number (Err e) → Answers rules text lent number (answer_of e) lent
   read_no_level x = subst (λ (s : Refused). Answers rules text lent number (answer_of s) lent) (sym x.0) (record { tree = _; reading = no_level x.1; left_is = refl })
@@ -147,3 +153,9 @@ module _ (rules : Rules) (text lent : List ℕ) (number : ℕ) where
   module _ {forms : Forms} (l : LevelFound number (Ok forms)) where
     pub read_long : rules.text < length text → Answers rules text lent number (answer 2 0 0) lent
     read_long h = record { tree = _; reading = too_long l h; left_is = refl }
+
+    pub read_bad : length text ≤ rules.text → {p : ℕ} → BadAt text p → Answers rules text lent number (answer 3 p 0) lent
+    read_bad h b = record { tree = _; reading = not_utf8 l h b; left_is = refl }
+
+    pub read_told : {left : List ℕ} {r : Result Answer Refused} → WellFormed text → Told text rules forms lent left r → Answers rules text lent number (answered r) left
+    read_told w d = d.answers number l w

@@ -1,11 +1,13 @@
 -- What the functions of one turn compute: the next state and the words written. Assumes nothing.
 use Rattle.std.specs.Prelude.{◌≡◌, ◌⊎◌, List, ℕ, ◌+◌, ◌≤◌, ◌<◌, pred, length, Result, Ok, Err}
 use Rattle.lexicon.specs.declared.Token as Token
+use Rattle.grammar.specs.Nodes.{kind_number_of}
 use Rattle.reading.specs.declared.Limits.{Limits}
 use Rattle.reading.specs.declared.Refusal.{Refusal}
 use Rattle.reading.specs.declared.Refused.{Refused}
 use Rattle.reading.specs.Sizes.{widest}
 use Rattle.reading.specs.Faults.{Retired}
+use Rattle.moves.specs.declared.NodeKind.{NodeKind}
 use Rattle.moves.specs.declared.Role.{Role}
 use Rattle.moves.specs.declared.Shape.TheVariants as Shape
 use Rattle.moves.specs.declared.Style.{Style}
@@ -14,6 +16,7 @@ use Rattle.moves.specs.declared.RoundFrame.TheVariants as Round
 use Rattle.moves.specs.declared.CurlyFrame.TheVariants as Curly
 use Rattle.moves.specs.declared.Frame.TheVariants as Frame
 use Rattle.moves.specs.declared.Mode.{Mode}
+use Rattle.moves.specs.Means.{node_kind_of}
 use Rattle.table.specs.declared.Entry as Entry
 use Rattle.table.specs.Over.{Stored, entry_words, Assigned}
 use Rattle.tree.specs.Tellings.{leaf_kind, leaf_detail}
@@ -53,9 +56,9 @@ count_entry t place index = record {
   skip = place + 1;
 }
 
-abbrev pub close_entry : Token.Token → ℕ → ℕ → ℕ → ℕ → ℕ → Entry.Entry
+abbrev pub close_entry : Token.Token → ℕ → NodeKind → ℕ → ℕ → ℕ → Entry.Entry
 close_entry t first kind detail parent skip = record {
-  kind = kind;
+  kind = kind_number_of (node_kind_of kind);
   first = first;
   end = t.end;
   parent = parent;
@@ -96,8 +99,8 @@ module _ (s : State.State) (t : Token.Token) where
     pub turn_is : r ≡ Turn.On (behind s (Mode.Headed style) t (pred s.deep) s.nodes)
     pub role_is : Assigned from left s.last role
 
-  pub record Closed (first kind detail : ℕ) (role : Role) (from left : List ℕ) (index parent : ℕ)
-      (r : Turn) : Type 0 where
+  pub record Closed (first : ℕ) (kind : NodeKind) (detail : ℕ) (role : Role) (from left : List ℕ)
+      (index parent : ℕ) (r : Turn) : Type 0 where
     pub turn_is : r ≡ Turn.Ended (record { end = t.end; nodes = s.nodes + 1; shape = Shape.Other })
     pub told : List ℕ
     pub length_is : length told ≡ length from

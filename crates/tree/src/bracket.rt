@@ -12,7 +12,7 @@ use crate::start::Start;
 use begin::sign::is_retired;
 use lexicon::Token;
 use look::answer::Read;
-use moves::{CurlyFrame, Frame, Front, Mode, Move, Role, RoundFrame, Shape, Style};
+use moves::{CurlyFrame, Frame, Front, Mode, Move, NodeKind, Role, RoundFrame, Shape, Style};
 use reading::{Limits, Refusal, Refused};
 use table::{Entry, assign, put};
 
@@ -160,7 +160,7 @@ fn close(
     start: Start,
     s: State,
     t: Token,
-    kind: u32,
+    kind: NodeKind,
     detail: u32,
     role: Role,
     table: &mut [u32],
@@ -174,7 +174,7 @@ fn close(
         table,
         start.index,
         Entry {
-            kind,
+            kind: kind as u32,
             first: start.token.first as u32,
             end: t.end as u32,
             parent: start.parent as u32,
@@ -218,9 +218,7 @@ pub(crate) fn take(
         Move::Count(style) => Ok(count(s, style, t, table, start.index)),
         Move::Deeper(style) => deeper(limits, s, style, t),
         Move::Shut { style, role } => Ok(shut(s, style, role, t, table)),
-        Move::Close { kind, detail, role } => {
-            Ok(close(start, s, t, kind, detail, role, table))
-        }
+        Move::Close { kind, detail, role } => { Ok(close(start, s, t, kind, detail, role, table)) }
         Move::Value(_) | Move::Group | Move::Wrong => wrong(t),
     }
 }

@@ -2,7 +2,8 @@
 // A function with a `requires` is this crate's own: the numbers that it asks for hold in every text that is read, and a node's words then
 // hold them.
 ghost use Rattle.grammar.specs.Tokens.{wording};
-ghost use Rattle.grammar.specs.Nodes.{truth_detail};
+ghost use Rattle.grammar.specs.Nodes.{kind_number_of};
+ghost use Rattle.moves.specs.Means.{node_kind_of};
 ghost use Rattle.moves.specs.declared.Shape.TheVariants as Shape;
 ghost use Rattle.tree.specs.Readers.{Within, Literal, Nesting};
 ghost use Rattle.tree.specs.Tellings.{wording_detail, wording_shape, ToldAs, LeafTold};
@@ -11,12 +12,13 @@ use crate::start::Start;
 use lexicon::{Form, Kind};
 use look::answer::Read;
 use look::names::{name, two_colons};
-use moves::{Role, Shape};
+use moves::{NodeKind, Role, Shape};
 use reading::{Refusal, Refused};
 use table::{Entry, put};
 use token::bad::bad_place;
 
-// What a literal's node tells, and what the literal is to a colon.
+// What a literal's node tells, its kind as a word of the table, and what the literal is to a colon. A token that is no literal has no node,
+// and the word 0.
 #[derive(Clone, Copy)]
 pub struct Telling {
     pub kind: u32,
@@ -27,61 +29,45 @@ pub struct Telling {
 fn told_text(form: Form) -> Telling
     ensures { ToldAs 7 (wording_detail (wording form)) (wording_shape (wording form)) result }
 {
-    match form {
-        Form::Quoted => Telling {
-            kind: 7,
-            detail: 1,
-            shape: Shape::Name,
-        },
-        Form::Word => Telling {
-            kind: 7,
-            detail: 2,
-            shape: Shape::Name,
-        },
-        Form::HeadWord(head) => Telling {
-            kind: 7,
-            detail: 2,
-            shape: Shape::Bare(head),
-        },
-        Form::CodePoint => Telling {
-            kind: 7,
-            detail: 3,
-            shape: Shape::Name,
-        },
+    let (detail, shape) = match form {
+        Form::Quoted => (1, Shape::Name),
+        Form::Word => (2, Shape::Name),
+        Form::HeadWord(head) => (2, Shape::Bare(head)),
+        Form::CodePoint => (3, Shape::Name),
+    };
+    Telling {
+        kind: NodeKind::Text as u32,
+        detail,
+        shape,
     }
 }
 
-fn plain(kind: u32, detail: u32) -> Telling
-    ensures { ToldAs kind detail Shape.Other result }
+fn plain(kind: NodeKind, detail: u32) -> Telling
+    ensures { ToldAs (kind_number_of (node_kind_of kind)) detail Shape.Other result }
 {
     Telling {
-        kind,
+        kind: kind as u32,
         detail,
         shape: Shape::Other,
     }
-}
-
-fn told_truth(truth: bool) -> Telling
-    ensures { ToldAs 2 (truth_detail truth) Shape.Other result }
-{
-    if truth { plain(2, 1) } else { plain(2, 0) }
 }
 
 pub(crate) fn told(kind: Kind) -> Telling
     ensures { LeafTold kind result }
 {
     match kind {
-        Kind::Ignorance => plain(1, 0),
-        Kind::Boolean(truth) => told_truth(truth),
-        Kind::Integer { signed: _ } => plain(3, 0),
-        Kind::Fraction => plain(4, 0),
-        Kind::Bits => plain(5, 0),
-        Kind::Blob => plain(6, 0),
+        Kind::Ignorance => plain(NodeKind::Ignorance, 0),
+        Kind::Boolean(truth) => plain(NodeKind::Boolean, u32::from(truth)),
+        Kind::Integer { .. } => plain(NodeKind::Integer, 0),
+        Kind::Fraction => plain(NodeKind::Fraction, 0),
+        Kind::Bits => plain(NodeKind::Bits, 0),
+        Kind::Blob => plain(NodeKind::Blob, 0),
         Kind::Text(form) => told_text(form),
-        Kind::Later => plain(0, 0),
-        Kind::Symbol(_) => plain(0, 0),
-        Kind::Colon => plain(0, 0),
-        Kind::TwoColons => plain(0, 0),
+        Kind::Later | Kind::Symbol(_) | Kind::Colon | Kind::TwoColons => Telling {
+            kind: 0,
+            detail: 0,
+            shape: Shape::Other,
+        },
     }
 }
 
@@ -134,7 +120,7 @@ pub(crate) fn names(text: &[u8], start: Start, table: &mut [u32]) -> Result<Read
                 table,
                 start.index,
                 Entry {
-                    kind: 8,
+                    kind: NodeKind::Nesting as u32,
                     first: start.token.first as u32,
                     end: end as u32,
                     parent: start.parent as u32,

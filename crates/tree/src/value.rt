@@ -149,12 +149,7 @@ fn bracket(
 
 // One value or one sign of a bracket.
 #[cycle(bracket_child_first_value_member_round_value)]
-fn member(
-    reader: Reader<'_>,
-    start: Start,
-    s: State,
-    table: &mut [u32],
-) -> Result<Turn, Refused>
+fn member(reader: Reader<'_>, start: Start, s: State, table: &mut [u32]) -> Result<Turn, Refused>
     requires { Inside reader.text.now start s }
     ensures { Member reader.entry.text.now reader.entry.limits reader.entry.forms start.token s table.old table.new start.index start.parent result }
 {

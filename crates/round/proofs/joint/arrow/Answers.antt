@@ -1,8 +1,0 @@
--- The move is the model's, arm by arm.
--- Assumes nothing.
-use Rattle.std.proofs.Common.{arith}
-use Rattle.moves.proofs.Moved.{moved}
-use Rattle.round.proofs.joint.arrow.Goals as goal
-
-pub returns : goal.returns
-returns c = λ shape. moved (grind arith)

@@ -1,0 +1,2 @@
+-- An Interval's details.
+pub mod Details
