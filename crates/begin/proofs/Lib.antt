@@ -1,3 +1,2 @@
 -- Laws of how a value begins.
 pub mod Signs
-pub mod Starts

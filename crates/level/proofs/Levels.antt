@@ -2,14 +2,9 @@
 use mathlib.Core.Path.{◌≡◌, refl, sym, subst}
 use mathlib.Core.Bool.{true, false}
 use Prim.Native.Nat.{ℕ}
-use Rattle.lexicon.specs.declared.Head.{Head}
-use Rattle.grammar.specs.Level.{Feature, Level, has_head, level1, level2, arrays, sets, bags, intervals, left_arrows}
+use Rattle.grammar.specs.Level.{Feature, Level, level1, level2, arrays, sets, bags, intervals, left_arrows}
 use Rattle.reading.specs.Answers.{LevelOf, first, second}
-use Rattle.moves.specs.declared.Forms.{Forms}
-use Rattle.moves.specs.declared.Style.{Style}
 use Rattle.moves.specs.Means.{level_of}
-use Rattle.level.specs.declared.Collection.{Collection}
-use Rattle.level.specs.Levels.{Collects}
 
 -- a level by its number and its forms
 level_same : {n m : ℕ} {l k : Level} → n ≡ m → ((f : Feature) → l f ≡ k f) → LevelOf m l → LevelOf n k
@@ -34,14 +29,3 @@ second_level e = level_same e by second
     by bags = refl
     by intervals = refl
     by left_arrows = refl
-
-pub no_level_lem : {n : ℕ} → (n ≡ 1 → ⊥) → (n ≡ 2 → ⊥) → (l : Level) → LevelOf n l → ⊥
-no_level_lem a b l first = a refl
-no_level_lem a b l second = b refl
-
-pub collects : (forms : Forms) (h : Head) {r : Collection} {style : Style} → r ≡ Collection.Of style → Collects forms h r →
-    Collects forms h (Collection.Of style)
-collects forms h e x = subst (λ (y : Collection). Collects forms h y) e x
-
-pub lacks : (forms : Forms) (h : Head) {r : Collection} → r ≡ Collection.Nothing → Collects forms h r → has_head (level_of forms) h ≡ false
-lacks forms h e x = subst (λ (y : Collection). Collects forms h y) e x

@@ -1,87 +1,46 @@
 // The forms of a level.
 #![tactic(auto)]
 
-ghost use Rattle.std.specs.Prelude.{◌≡◌};
-ghost use Rattle.level.specs.Levels.{Collects, LevelFound, unleveled_by};
+ghost use Rattle.level.specs.Levels.{Collects, LevelFound};
 
 use lexicon::Head;
 use moves::{Forms, Style};
-use reading::Answer;
+use reading::{Refusal, Refused};
 
-#[derive(Drop)]
-pub enum Leveled {
-    Has(Forms),
-    Nothing,
-}
-
-pub fn level_of(number: u32) -> Leveled
+// The forms of the level of this number. A number that is no level's is refused.
+pub fn level_of(number: u32) -> Result<Forms, Refused>
     ensures { LevelFound number result }
 {
-    if number == 1 {
-        return Leveled::Has(Forms {
+    match number {
+        1 => Ok(Forms {
             arrays: false,
             sets: false,
             bags: false,
             intervals: false,
             leftward: true,
-        });
-    }
-    if number == 2 {
-        return Leveled::Has(Forms {
+        }),
+        2 => Ok(Forms {
             arrays: true,
             sets: true,
             bags: true,
             intervals: true,
             leftward: true,
-        });
-    }
-    Leveled::Nothing
-}
-
-// The refusal of a number that is no level's.
-pub fn unleveled(level: Leveled) -> Answer
-    ensures { result ≡ unleveled_by level }
-{
-    match level {
-        Leveled::Has(_) => Answer {
-            number: 0,
+        }),
+        _ => Err(Refused {
+            refusal: Refusal::Level,
             place: 0,
-            count: 0,
-        },
-        Leveled::Nothing => Answer {
-            number: 1,
-            place: 0,
-            count: 0,
-        },
+        }),
     }
 }
 
 // The collection that a head begins, if the level has it.
-#[derive(Drop)]
-pub enum Collection {
-    Of(Style),
-    Nothing,
-}
-
-pub fn collection_of(forms: Forms, head: Head) -> Collection
+pub fn collection_of(forms: Forms, head: Head) -> Option<Style>
     ensures { Collects forms head result }
 {
     match head {
-        Head::Array => if forms.arrays {
-            Collection::Of(Style::Array)
-        } else {
-            Collection::Nothing
-        },
-        Head::Set => if forms.sets {
-            Collection::Of(Style::Set)
-        } else {
-            Collection::Nothing
-        },
-        Head::Bag => if forms.bags {
-            Collection::Of(Style::Bag)
-        } else {
-            Collection::Nothing
-        },
-        _ => Collection::Nothing,
+        Head::Array => forms.arrays.then_some(Style::Array),
+        Head::Set => forms.sets.then_some(Style::Set),
+        Head::Bag => forms.bags.then_some(Style::Bag),
+        _ => None,
     }
 }

@@ -1,4 +1,2 @@
 -- Laws of the looks at the next tokens.
 pub mod Looking
-pub mod Naming
-pub mod Ending

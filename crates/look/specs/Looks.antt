@@ -1,23 +1,23 @@
 -- Looks at the next tokens. Assumes nothing.
-use Rattle.std.specs.Prelude.{◌≡◌, ◌⊎◌, List, ℕ}
+use Rattle.std.specs.Prelude.{◌≡◌, ◌⊎◌, List, ℕ, Result, Ok, Err}
 use Rattle.lexicon.specs.declared.Head.{Head}
 use Rattle.lexicon.specs.declared.Form.TheVariants as Form
 use Rattle.lexicon.specs.declared.Kind.{Kind}
 use Rattle.lexicon.specs.declared.Token as Token
 use Rattle.lexicon.specs.declared.Next.TheVariants as Next
-use Rattle.lexicon.specs.declared.Encoding.{Encoding}
+use Rattle.lexicon.specs.declared.NotUtf8.{NotUtf8}
 use Rattle.lexicon.specs.Token.{Comes}
-use Rattle.reading.specs.declared.Answer.{Answer}
-use Rattle.reading.specs.Answers.{answer}
-use Rattle.look.specs.declared.answer.Read.{Read}
-use Rattle.look.specs.declared.answer.Got.{Got}
+use Rattle.reading.specs.declared.Refusal.{Refusal}
+use Rattle.reading.specs.declared.Refused.{Refused}
 use Rattle.look.specs.declared.head.Headed.{Headed}
 
 module _ (text : List ℕ) where
   -- a token, or why there is none where one must come
-  abbrev pub Gets : ℕ → Got → Type 0
-  Gets at (Got.Token t) = Comes text at (Next.Token t)
-  Gets at (Got.Refused n q) = ((n ≡ 4) × Comes text at (Next.NoToken q)) ⊎ ((n ≡ 6) × Comes text at (Next.End q))
+  abbrev pub Gets : ℕ → Result Token.Token Refused → Type 0
+  Gets at (Ok t) = Comes text at (Next.Token t)
+  Gets at (Err e) =
+      ((e.refusal ≡ Refusal.NoToken) × Comes text at (Next.NoToken e.place)) ⊎
+      ((e.refusal ≡ Refusal.WrongPlace) × Comes text at (Next.End e.place))
 
   -- no token of the kind comes next
   pub record NotNext (k : Kind) (at : ℕ) : Type 0 where
@@ -41,11 +41,5 @@ module _ (text : List ℕ) where
   Heads at (Headed.Other g) = Gets at g × NoHead at
 
 -- 01's refusal of a text that is not UTF-8: 3 at the first byte at which no sequence begins
-abbrev pub unformed_by : Encoding → Answer
-unformed_by Encoding.WellFormed = answer 0 0 0
-unformed_by (Encoding.BadAt q) = answer 3 q 0
-
--- the refusal of a token, as that of a value
-abbrev pub handed_on : Got → Read
-handed_on (Got.Token t) = Read.Refused 6 t.first
-handed_on (Got.Refused n q) = Read.Refused n q
+abbrev pub unformed_by : NotUtf8 → Refused
+unformed_by found = record { refusal = Refusal.NotUtf8; place = found.at }

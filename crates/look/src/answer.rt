@@ -1,71 +1,43 @@
 // The answers of the readers. A refusal met below stands unchanged above.
 ghost use Rattle.std.specs.Prelude.{◌≡◌};
-ghost use Rattle.look.specs.Looks.{Gets, unformed_by, handed_on};
+ghost use Rattle.look.specs.Looks.{Gets, unformed_by};
 
-use lexicon::{Encoding, Next, Token};
+use lexicon::{Next, NotUtf8, Token};
 use moves::Shape;
-use reading::Answer;
+use reading::{Refusal, Refused};
 use token::next::next;
 
-// A value: where it ends, how many nodes it has, what it is to a colon behind it. Or the text's first fault.
-#[derive(Drop)]
-pub enum Read {
-    Value {
-        end: usize,
-        nodes: usize,
-        shape: Shape,
-    },
-    Refused {
-        number: u32,
-        place: usize,
-    },
+// A value: where it ends, how many nodes it has, what it is to a colon behind it.
+#[derive(Clone, Copy)]
+pub struct Read {
+    pub end: usize,
+    pub nodes: usize,
+    pub shape: Shape,
 }
 
-// A token; where one must come, the end is in the wrong place.
-#[derive(Drop)]
-pub enum Got {
-    Token(Token),
-    Refused { number: u32, place: usize },
-}
-
-pub fn get(text: &[u8], at: usize) -> Got
+// The token that comes next. Where one must come, the end is in the wrong place.
+pub fn get(text: &[u8], at: usize) -> Result<Token, Refused>
     ensures { Gets text.now at result }
 {
-    let answer = next(text, at);
-    match answer {
-        Next::Token(t) => Got::Token(t),
-        Next::End(place) => Got::Refused { number: 6, place },
-        Next::NoToken(place) => Got::Refused { number: 4, place },
-    }
-}
-
-// The refusal of a token, as that of a value.
-pub fn handed(got: Got) -> Read
-    ensures { result ≡ handed_on got }
-{
-    match got {
-        Got::Token(t) => Read::Refused {
-            number: 6,
-            place: t.first,
-        },
-        Got::Refused { number, place } => Read::Refused { number, place },
+    match next(text, at) {
+        Next::Token(t) => Ok(t),
+        Next::End(place) => Err(Refused {
+            refusal: Refusal::WrongPlace,
+            place,
+        }),
+        Next::NoToken(place) => Err(Refused {
+            refusal: Refusal::NoToken,
+            place,
+        }),
     }
 }
 
 // The refusal of a text that is not UTF-8.
-pub fn unformed(encoding: Encoding) -> Answer
-    ensures { result ≡ unformed_by encoding }
+pub fn unformed(found: NotUtf8) -> Refused
+    ensures { result ≡ unformed_by found }
 {
-    match encoding {
-        Encoding::WellFormed => Answer {
-            number: 0,
-            place: 0,
-            count: 0,
-        },
-        Encoding::BadAt(place) => Answer {
-            number: 3,
-            place,
-            count: 0,
-        },
+    Refused {
+        refusal: Refusal::NotUtf8,
+        place: found.at,
     }
 }

@@ -1,37 +1,41 @@
 // Heads: `(`, a bare head word and the token `:`.
 ghost use Rattle.look.specs.Looks.{Heads};
 
-use crate::answer::{Got, get};
-use lexicon::{Form, Head, Kind};
+use crate::answer::get;
+use lexicon::{Form, Head, Kind, Token};
+use reading::Refused;
 
 // The head word behind `(` and where its colon ends; or what comes there, if it is no head.
-#[derive(Drop)]
+// No Result: what comes there is no error, and mostly a token.
+#[derive(Clone, Copy)]
 pub enum Headed {
     At { head: Head, end: usize },
-    Other(Got),
+    Other(Result<Token, Refused>),
 }
 
 pub fn head_at(text: &[u8], at: usize) -> Headed
     ensures { Heads text.now at result }
 {
     let first = get(text, at);
-    let Got::Token(t) = first else {
+    let Ok(
+        Token {
+            kind: Kind::Text(Form::HeadWord(head)),
+            end: behind,
+            ..
+        },
+    ) = first
+    else {
         return Headed::Other(first);
     };
-    let kind = t.kind;
-    let Kind::Text(form) = kind else {
+    let Ok(
+        Token {
+            kind: Kind::Colon,
+            end,
+            ..
+        },
+    ) = get(text, behind)
+    else {
         return Headed::Other(first);
     };
-    let Form::HeadWord(head) = form else {
-        return Headed::Other(first);
-    };
-    let second = get(text, t.end);
-    let Got::Token(u) = second else {
-        return Headed::Other(first);
-    };
-    let sign = u.kind;
-    let Kind::Colon = sign else {
-        return Headed::Other(first);
-    };
-    Headed::At { head, end: u.end }
+    Headed::At { head, end }
 }

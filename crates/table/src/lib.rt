@@ -1,13 +1,13 @@
 // Nodes in the lent table of words, one behind the other.
 #![tactic(auto)]
 
-ghost use Rattle.std.specs.Prelude.{◌≡◌, [], ◌∷◌, ◌+◌, ◌*◌, ◌≤◌, length};
+ghost use Rattle.std.specs.Prelude.{◌≡◌, ◌+◌, ◌*◌, ◌≤◌, length};
 ghost use Rattle.rules.specs.Over.{over};
 ghost use Rattle.grammar.specs.Nodes.{node_words};
 ghost use Rattle.reading.specs.Sizes.{room as room_of};
 ghost use Rattle.table.specs.Over.{under, capped as capped_of, entry_words, Stored, Assigned, Raised};
 
-use grammar::{DETAIL, END, FIRST, KIND, NODE_WORDS, PARENT, ROLE, SKIP};
+use grammar::{NODE_WORDS, PARENT, ROLE, SKIP};
 use moves::Role;
 use reading::Rules;
 
@@ -15,7 +15,7 @@ use reading::Rules;
 const LARGEST: usize = 0xFFFF_FFFF;
 
 // A node: its kind's word (any, as `put` promises to write it: docs/CONTRACTS.md; an enum would ask more of callers), first byte, byte after the last, parent's index, role, detail, index just past its last descendant.
-#[derive(Drop)]
+#[derive(Clone, Copy)]
 pub struct Entry {
     pub kind: u32,
     pub first: u32,
@@ -26,40 +26,31 @@ pub struct Entry {
     pub skip: u32,
 }
 
+impl Entry {
+    ghost use Rattle.table.specs.Over.{entry_words};
+
+    // The words of the node, in the table's order.
+    fn words(self) -> [u32; NODE_WORDS]
+        ensures { result ≡ entry_words self }
+    {
+        [
+            self.kind,
+            self.first,
+            self.end,
+            self.parent,
+            self.role as u32,
+            self.detail,
+            self.skip,
+        ]
+    }
+}
+
 // How many nodes the table has room for.
 pub fn room(rules: Rules, table: &[u32]) -> usize
     ensures { result ≡ room_of rules (length table.now) }
 {
     let nodes = table.len() / NODE_WORDS;
-    if nodes < rules.nodes {
-        return nodes;
-    }
-    rules.nodes
-}
-
-// Writes the words of a node from a word on. The caller saw that they fit.
-fn store(
-    table: &mut [u32],
-    at: usize,
-    kind: u32,
-    first: u32,
-    end: u32,
-    parent: u32,
-    role: u32,
-    detail: u32,
-    skip: u32,
-)
-    requires { at + node_words ≤ length table.old }
-    ensures { table.new ≡ over table.old at (kind ∷ first ∷ end ∷ parent ∷ role ∷ detail ∷ skip ∷ []) }
-{
-    // the last word first: so the stores are the definition's own
-    table[at + SKIP] = skip;
-    table[at + DETAIL] = detail;
-    table[at + ROLE] = role;
-    table[at + PARENT] = parent;
-    table[at + END] = end;
-    table[at + FIRST] = first;
-    table[at + KIND] = kind;
+    nodes.min(rules.nodes)
 }
 
 // Writes the node at the index, if it fits.
@@ -69,17 +60,8 @@ pub fn put(table: &mut [u32], index: usize, node: Entry)
     if index >= table.len() / NODE_WORDS {
         return;
     }
-    store(
-        table,
-        index * NODE_WORDS,
-        node.kind,
-        node.first,
-        node.end,
-        node.parent,
-        node.role as u32,
-        node.detail,
-        node.skip,
-    );
+    let at = index * NODE_WORDS;
+    table[at..at + NODE_WORDS].copy_from_slice(&node.words());
 }
 
 // Changes the role of the node at the index, if it fits. Root stands for no change.
@@ -97,10 +79,7 @@ pub fn assign(table: &mut [u32], index: usize, role: Role)
 fn capped(number: usize) -> u32
     ensures { result ≡ capped_of number }
 {
-    if number > LARGEST {
-        return LARGEST as u32;
-    }
-    number as u32
+    number.min(LARGEST) as u32
 }
 
 // One more, as a word holds it.
@@ -117,23 +96,10 @@ fn lift(table: &mut [u32], index: usize, parent: u32)
     ensures { table.new ≡ over table.old ((index + 1) * node_words) (under table.old index parent) }
 {
     let at = index * NODE_WORDS;
-    let kind = table[at + KIND];
-    let first = table[at + FIRST];
-    let end = table[at + END];
-    let role = table[at + ROLE];
-    let detail = table[at + DETAIL];
-    let skip = next(table[at + SKIP]);
-    store(
-        table,
-        at + NODE_WORDS,
-        kind,
-        first,
-        end,
-        parent,
-        role,
-        detail,
-        skip,
-    );
+    let to = at + NODE_WORDS;
+    table.copy_within(at..to, to);
+    table[to + PARENT] = parent;
+    table[to + SKIP] = next(table[to + SKIP]);
 }
 
 // Moves so many nodes, the first at the index, up by one, if they fit: each other's indices are one more, and the first's parent is what
@@ -152,12 +118,9 @@ pub fn raise(table: &mut [u32], index: usize, nodes: usize)
         return;
     }
     // the last first: each is moved before another is written over it
-    let mut left = nodes - 1;
-    while left > 0 {
-        let node = index + left;
+    for node in (index + 1..index + nodes).rev() {
         let parent = next(table[node * NODE_WORDS + PARENT]);
         lift(table, node, parent);
-        left -= 1;
     }
     lift(table, index, capped(index));
 }

@@ -36,23 +36,25 @@ use Rattle.moves.specs.declared.Frame.TheVariants as Frame
 use Rattle.moves.specs.declared.Mode.{Mode}
 use Rattle.moves.specs.Means.{level_of, mode_of, inside, open_of, below, children, collection_style}
 use Rattle.moves.specs.Effects.{held, opening}
-use Rattle.look.specs.declared.answer.Got.{Got}
+use Rattle.std.specs.Prelude.{Some, Result, Ok, Err}
+use Rattle.reading.specs.declared.Refusal.{Refusal}
+use Rattle.reading.specs.declared.Refused.{Refused}
+use Rattle.reading.specs.Refusals.{number_of}
 use Rattle.begin.specs.declared.Begin.{Begin}
-use Rattle.level.specs.declared.Collection.{Collection}
 use Rattle.look.specs.Looks.{Gets, HeadHere, NoHead}
 use Rattle.level.specs.Levels.{Collects}
 use Rattle.begin.specs.Signs.{literal}
-use Rattle.begin.specs.Begins.{Deeper, Begins, a_literal, a_name, a_mark, a_later, curly, square, square_newer, headed, head_newer, round}
+use Rattle.begin.specs.Begins.{refused_at, Deeper, Begins, a_literal, a_name, a_mark, a_later, curly, square, square_newer, headed, head_newer, round}
 use Rattle.tree.specs.Readers.{span_of, opened, Stands, Faulty, Asks}
 
 module _ (text : List ℕ) where
   -- what comes behind `(`; from where another bracket is read on
-  abbrev pub From : Token.Token → Begin → Type 0
-  From t Begin.Literal = Unit {0}
-  From t Begin.Names = Unit {0}
-  From t (Begin.Round g) = Gets text t.end g
-  From t (Begin.Bracket mode at) = (t.end ≤ at) × (at ≤ length text)
-  From t (Begin.Refused n q) = Unit {0}
+  abbrev pub From : Token.Token → Result Begin Refused → Type 0
+  From t (Ok Begin.Literal) = Unit {0}
+  From t (Ok Begin.Names) = Unit {0}
+  From t (Ok (Begin.Round g)) = Gets text t.end g
+  From t (Ok (Begin.Bracket mode at)) = (t.end ≤ at) × (at ≤ length text)
+  From t (Err e) = Unit {0}
 
   module _ (limits : Limits) (forms : Forms) where
     -- where another bracket, or a head, is entered
@@ -67,14 +69,14 @@ module _ (text : List ℕ) where
       pub no_value : held config ≡ false
       pub no_first : opening config ≡ false
 
-    abbrev pub Begun : Stack → ℕ → Token.Token → Begin → Type 0
-    Begun K d t Begin.Literal = literal (class_kind t.kind) ≡ true
-    Begun K d t Begin.Names = t.kind ≡ Kind.TwoColons
-    Begun K d t (Begin.Round g) = Stands text limits forms (suc d) t.end (want (opened t K)) × NoHead text t.end
-    Begun K d t (Begin.Bracket mode at) = Entered K d t mode at
-    Begun K d t (Begin.Refused n q) = Faulty text limits forms n q
+    abbrev pub Begun : Stack → ℕ → Token.Token → Result Begin Refused → Type 0
+    Begun K d t (Ok Begin.Literal) = literal (class_kind t.kind) ≡ true
+    Begun K d t (Ok Begin.Names) = t.kind ≡ Kind.TwoColons
+    Begun K d t (Ok (Begin.Round g)) = Stands text limits forms (suc d) t.end (want (opened t K)) × NoHead text t.end
+    Begun K d t (Ok (Begin.Bracket mode at)) = Entered K d t mode at
+    Begun K d t (Err e) = Faulty text limits forms (number_of e.refusal) e.place
 
-    pub record BeginsSo (d : ℕ) (t : Token.Token) (r : Begin) : Type 0 where
+    pub record BeginsSo (d : ℕ) (t : Token.Token) (r : Result Begin Refused) : Type 0 where
       pub from : t.end ≤ length text → From t r
       pub begun : (K : Stack) (at : ℕ) → Asks text limits forms K d at t → Begun K d t r
 
@@ -95,25 +97,25 @@ module _ (text : List ℕ) (limits : Limits) (forms : Forms) (d : ℕ) (t : Toke
   abbrev l : Level
   l = level_of forms
 
-  abbrev So : Begin → Type 0
+  abbrev So : Result Begin Refused → Type 0
   So r = BeginsSo text limits forms d t r
 
-  begins_as : {r : Begin} (s : Begin) → r ≡ s → So s → So r
-  begins_as s e x = subst (λ (y : Begin). So y) (sym e) x
+  begins_as : {r : Result Begin Refused} (s : Result Begin Refused) → r ≡ s → So s → So r
+  begins_as s e x = subst (λ (y : Result Begin Refused). So y) (sym e) x
 
   -- ---- no bracket
 
-  literal_begins : literal (class_kind t.kind) ≡ true → So Begin.Literal
+  literal_begins : literal (class_kind t.kind) ≡ true → So (Ok Begin.Literal)
   literal_begins h = record { from = λ x. tt; begun = λ K at a. h }
 
-  names_begin : t.kind ≡ Kind.TwoColons → So Begin.Names
+  names_begin : t.kind ≡ Kind.TwoColons → So (Ok Begin.Names)
   names_begin e = record { from = λ x. tt; begun = λ K at a. e }
 
-  later_begins : t.kind ≡ Kind.Later → So (Begin.Refused 7 t.first)
+  later_begins : t.kind ≡ Kind.Later → So (Err (refused_at Refusal.NewerForm t))
   later_begins e = record { from = λ x. tt; begun = λ K at a. Place.later_here limits l text a.stands refl t a.comes e }
 
   -- a sign that begins no value
-  mark_begins : (m : Mark) → class_kind t.kind ≡ Tokens.mark m → So (Begin.Refused 6 t.first)
+  mark_begins : (m : Mark) → class_kind t.kind ≡ Tokens.mark m → So (Err (refused_at Refusal.WrongPlace t))
   mark_begins m c =
       record {
         from = λ x. tt;
@@ -122,7 +124,7 @@ module _ (text : List ℕ) (limits : Limits) (forms : Forms) (d : ℕ) (t : Toke
 
   -- ---- brackets
 
-  either : (b : Begin) {r : Begin} → Deeper limits d t b r → (limits.depth ≤ d → So (Begin.Refused 11 t.first)) → (d < limits.depth → So b) → So r
+  either : (b : Begin) {r : Result Begin Refused} → Deeper limits d t b r → (limits.depth ≤ d → So (Err (refused_at Refusal.TooDeep t))) → (d < limits.depth → So (Ok b)) → So r
   either b x f g = ⊎_elim (λ y. begins_as _ y.1 (f y.0)) (λ y. begins_as _ y.1 (g y.0)) x
 
   -- an opening bracket that begins no newer form, and where it leads
@@ -134,7 +136,7 @@ module _ (text : List ℕ) (limits : Limits) (forms : Forms) (d : ℕ) (t : Toke
   goes_in : {to : Stack → Config} → Opens to → d < limits.depth → (K : Stack) (at : ℕ) → Asks text limits forms K d at t → Stands text limits forms (suc d) t.end (to K)
   goes_in o h K at a = Place.open_on limits l text a.stands t a.comes o.bracket (o.known K at a) h (o.steps K)
 
-  too_deep : {to : Stack → Config} → Opens to → limits.depth ≤ d → So (Begin.Refused 11 t.first)
+  too_deep : {to : Stack → Config} → Opens to → limits.depth ≤ d → So (Err (refused_at Refusal.TooDeep t))
   too_deep o h =
       record {
         from = λ x. tt;
@@ -154,7 +156,7 @@ module _ (text : List ℕ) (limits : Limits) (forms : Forms) (d : ℕ) (t : Toke
         steps = λ K. ap (λ (y : Kind). want_class l (class_kind y) (span_of t) K) e;
       }
 
-  curly_begins : {r : Begin} → Deeper limits d t (Begin.Bracket (Mode.Want (Frame.Curly (Curly.Members Style.Lot Front.Start))) t.end) r →
+  curly_begins : {r : Result Begin Refused} → Deeper limits d t (Begin.Bracket (Mode.Want (Frame.Curly (Curly.Members Style.Lot Front.Start))) t.end) r →
       t.kind ≡ Kind.Symbol Sign.CurlyOpen → So r
   curly_begins x e =
       let o = opens_curly e in
@@ -189,7 +191,7 @@ module _ (text : List ℕ) (limits : Limits) (forms : Forms) (d : ℕ) (t : Toke
         steps = λ K. ap (λ (y : Kind). want_class l (class_kind y) (span_of t) K) e ∙ ap (λ (b : Bool). when b (in_interval K)) i;
       }
 
-  square_begins : {r : Begin} → Deeper limits d t (Begin.Bracket (Mode.Want (Frame.Square Square.Opened)) t.end) r →
+  square_begins : {r : Result Begin Refused} → Deeper limits d t (Begin.Bracket (Mode.Want (Frame.Square Square.Opened)) t.end) r →
       forms.intervals ≡ true → t.kind ≡ Kind.Symbol Sign.SquareOpen → So r
   square_begins x i e =
       let o = opens_square e i in
@@ -211,7 +213,7 @@ module _ (text : List ℕ) (limits : Limits) (forms : Forms) (d : ℕ) (t : Toke
             };
       })
 
-  square_newer_lem : forms.intervals ≡ false → t.kind ≡ Kind.Symbol Sign.SquareOpen → So (Begin.Refused 7 t.first)
+  square_newer_lem : forms.intervals ≡ false → t.kind ≡ Kind.Symbol Sign.SquareOpen → So (Err (refused_at Refusal.NewerForm t))
   square_newer_lem i e =
       record { from = λ y. tt; begun = λ K at a. Place.bracket_newer limits l text a.stands refl t a.comes (ap class_kind e) i }
 
@@ -229,7 +231,7 @@ module _ (text : List ℕ) (limits : Limits) (forms : Forms) (d : ℕ) (t : Toke
         steps = λ K. ap (λ (y : Kind). want_class l (class_kind y) (span_of t) K) e;
       }
 
-  round_begins : {r : Begin} (g : Got) → Deeper limits d t (Begin.Round g) r → Gets text t.end g → NoHead text t.end → t.kind ≡ Kind.Symbol Sign.RoundOpen → So r
+  round_begins : {r : Result Begin Refused} (g : Result Token.Token Refused) → Deeper limits d t (Begin.Round g) r → Gets text t.end g → NoHead text t.end → t.kind ≡ Kind.Symbol Sign.RoundOpen → So r
   round_begins g x k n e =
       let o = opens_round e (λ h end w. absurd (n.none h end w)) in
       either _ x (λ h. too_deep o h) (λ h. record { from = λ y. k; begun = λ K at a. (goes_in o h K at a, n) })
@@ -242,7 +244,7 @@ module _ (text : List ℕ) (limits : Limits) (forms : Forms) (d : ℕ) (t : Toke
       cc
 
   head_refused : {h : Head} {end : ℕ} → HeadHere text t.end h end → has_head l h ≡ false → t.kind ≡ Kind.Symbol Sign.RoundOpen →
-      So (Begin.Refused 7 t.first)
+      So (Err (refused_at Refusal.NewerForm t))
   head_refused {h} w i e =
       record {
         from = λ y. tt;
@@ -278,7 +280,7 @@ module _ (text : List ℕ) (limits : Limits) (forms : Forms) (d : ℕ) (t : Toke
       let y = token_bounds text w.then in
       (omega (arith, w.end_is, x.0, x.1, y.0, y.1), omega (arith, w.end_is, y.2))
 
-  collection_begins : {r : Begin} {end : ℕ} (k : Tree.Collection) → Deeper limits d t (Begin.Bracket (Mode.Head (collection_style k)) end) r →
+  collection_begins : {r : Result Begin Refused} {end : ℕ} (k : Tree.Collection) → Deeper limits d t (Begin.Bracket (Mode.Head (collection_style k)) end) r →
       HeadHere text t.end (collection_head k) end → has_collection l k ≡ true → t.kind ≡ Kind.Symbol Sign.RoundOpen → So r
   collection_begins k x w i e =
       let o = opens_head k w i e in
@@ -300,8 +302,8 @@ module _ (text : List ℕ) (limits : Limits) (forms : Forms) (d : ℕ) (t : Toke
             };
       })
 
-  head_begins : {r : Begin} {h : Head} {style : Style} {end : ℕ} → Deeper limits d t (Begin.Bracket (Mode.Head style) end) r →
-      HeadHere text t.end h end → Collects forms h (Collection.Of style) → t.kind ≡ Kind.Symbol Sign.RoundOpen → So r
+  head_begins : {r : Result Begin Refused} {h : Head} {style : Style} {end : ℕ} → Deeper limits d t (Begin.Bracket (Mode.Head style) end) r →
+      HeadHere text t.end h end → Collects forms h (Some style) → t.kind ≡ Kind.Symbol Sign.RoundOpen → So r
   head_begins {r} {h} {style} {end} x w c e =
       collection_begins c.0
       (subst (λ (y : Style). Deeper limits d t (Begin.Bracket (Mode.Head y) end) r) c.2 x)
@@ -309,7 +311,7 @@ module _ (text : List ℕ) (limits : Limits) (forms : Forms) (d : ℕ) (t : Toke
 
   -- ---- every way
 
-  pub begins_so : {r : Begin} → Begins text limits forms d t r → So r
+  pub begins_so : {r : Result Begin Refused} → Begins text limits forms d t r → So r
   begins_so (a_literal h) = literal_begins h
   begins_so (a_name e) = names_begin e
   begins_so (a_mark m c) = mark_begins m c

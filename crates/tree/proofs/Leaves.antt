@@ -28,7 +28,8 @@ use Rattle.table.specs.Over.{entry_words, Stored, Written}
 use Rattle.table.proofs.Written.{told_put, written_node}
 use Rattle.token.specs.Places.{PointsIn}
 use Rattle.token.proofs.Places.{bad_placed}
-use Rattle.look.specs.declared.answer.Read.TheVariants as Read
+use Rattle.std.specs.Prelude.{Ok, Err}
+use Rattle.reading.specs.declared.Refusal.{Refusal}
 use Rattle.begin.specs.Signs.{literal}
 use Rattle.tree.specs.declared.leaf.Telling.{Telling}
 use Rattle.tree.specs.Readers.{span_of, Literal}
@@ -129,7 +130,7 @@ literal_value l k s K (Tokens.mark m) e h = absurd (false≢true h)
 literal_value l k s K Tokens.later e h = absurd (false≢true h)
 
 module _ (text : List ℕ) (t : Token.Token) (lent left : List ℕ) (index parent : ℕ) where
-  pub literal_bad : {q : ℕ} → t.bad ≡ true → PointsIn text t q → Literal text t lent left index parent (Read.Refused 5 q)
+  pub literal_bad : {q : ℕ} → t.bad ≡ true → PointsIn text t q → Literal text t lent left index parent (Err (record { refusal = Refusal.BadValue; place = q }))
   literal_bad b p =
       record {
         sized = tt;
@@ -143,7 +144,7 @@ module _ (text : List ℕ) (t : Token.Token) (lent left : List ℕ) (index paren
   alone r = record { kind = r.kind; first = t.first; end = t.end; parent = parent; role = Role.Root; detail = r.detail; skip = index + 1 }
 
   pub literal_read : (r : Telling) → t.bad ≡ false → LeafTold t.kind r → Stored lent left index (entry_words (alone r)) →
-      Literal text t lent left index parent (Read.Value t.end 1 r.shape)
+      Literal text t lent left index parent (Ok (record { end = t.end; nodes = 1; shape = r.shape }))
   literal_read r b says stored =
       record {
         sized = (refl, refl);

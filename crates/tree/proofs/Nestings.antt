@@ -27,12 +27,13 @@ use Rattle.moves.specs.Means.{level_of}
 use Rattle.table.specs.declared.Entry.{Entry}
 use Rattle.table.specs.Over.{entry_words, Stored}
 use Rattle.table.proofs.Written.{told_put, written_node}
-use Rattle.look.specs.declared.names.Named.{Named}
-use Rattle.look.specs.declared.answer.Read.{Read}
+use Rattle.std.specs.Prelude.{Result, Ok, Err}
+use Rattle.reading.specs.declared.Refusal.{Refusal}
+use Rattle.reading.specs.declared.Refused.{Refused}
+use Rattle.reading.specs.Refusals.{number_of}
 use Rattle.look.specs.Looks.{NotNext}
 use Rattle.tree.specs.Readers.{span_of, Stands, Faulty, Asks, Nesting}
-use Rattle.look.specs.Names.{ColonsHere, NameNext, NameHere, OtherHere, BadHere, nameless_by}
-use Rattle.look.proofs.Naming.{name_bounds}
+use Rattle.look.specs.Names.{ColonsHere, NameNext, NameHere, OtherHere, BadHere}
 
 -- ---- spans
 
@@ -68,6 +69,9 @@ no_step (Tokens.mark m) n o s K h = refl
 no_step Tokens.later n o s K h = refl
 
 module _ (text : List ℕ) where
+  pub name_bounds : {at end : ℕ} → NameHere text at end → (at < end) × (end ≤ length text)
+  name_bounds n = let z = token_bounds text n.comes in (omega (arith, z.0, z.1, n.end_is), omega (arith, z.2, n.end_is))
+
   module _ (t : Token.Token) where
     -- ---- behind `::`; the first one is the token t
 
@@ -122,7 +126,7 @@ module _ (text : List ℕ) where
 
     pub behind_next : {at end next : ℕ} → Behind at → NameHere text at end → ColonsHere text end next → Behind next × (at < next)
     behind_next {at} {end} {next} b n k =
-        let y = name_bounds text n in
+        let y = name_bounds n in
         let z = token_bounds text k.comes in
         let u = k.sign in
         let far : at < next = omega (arith, y.0, z.0, z.1, k.end_is) in (
@@ -153,9 +157,9 @@ module _ (text : List ℕ) where
       named end = record { kind = 8; first = t.first; end = end; parent = parent; role = Role.Root; detail = 0; skip = index + 1 }
 
       pub nesting_read : {from : List ℕ} {at end : ℕ} → t.first < t.end → Behind at → NameHere text at end → NotNext text Kind.TwoColons end →
-          from ≡ lent → Stored from left index (entry_words (named end)) → Nesting text t lent left index parent (Read.Value end 1 Shape.Name)
+          from ≡ lent → Stored from left index (entry_words (named end)) → Nesting text t lent left index parent (Ok (record { end = end; nodes = 1; shape = Shape.Name }))
       nesting_read {from} {at} {end} h b n stop same stored =
-          let y = name_bounds text n in
+          let y = name_bounds n in
           record {
             sized = (omega (arith, h, b.low, y.0), omega (arith, b.low, y.0), y.1);
             outcome = λ limits forms K d at a e.
@@ -184,18 +188,17 @@ module _ (text : List ℕ) where
                 };
           }
 
-      pub nesting_refused : {at number place : ℕ} (r : Named) → Behind at → NameNext text at r → r ≡ Named.Refused number place →
-          Nesting text t lent left index parent (Read.Refused number place)
-      nesting_refused {at} {number} {place} r b n q =
+      pub nesting_refused : {at : ℕ} {e : Refused} {r : Result ℕ Refused} → Behind at → NameNext text at r → r ≡ Err e → Nesting text t lent left index parent (Err e)
+      nesting_refused {at} {e} {r} b n q =
           record {
             sized = tt;
-            outcome = λ limits forms K d from a e. refused limits forms K d (b.wants limits forms K d from a e);
+            outcome = λ limits forms K d from a x. refused limits forms K d (b.wants limits forms K d from a x);
           }
         where
-          numbered : (limits : Limits) (forms : Forms) {m : ℕ} → number ≡ m → Faulty text limits forms m place → Faulty text limits forms number place
-          numbered limits forms e f = subst (λ (x : ℕ). Faulty text limits forms x place) (sym e) f
+          numbered : (limits : Limits) (forms : Forms) {m : Refusal} → e.refusal ≡ m → Faulty text limits forms (number_of m) e.place → Faulty text limits forms (number_of e.refusal) e.place
+          numbered limits forms i f = subst (λ (x : Refusal). Faulty text limits forms (number_of x) e.place) (sym i) f
 
-          other : (limits : Limits) (forms : Forms) (K : Stack) (d : ℕ) → Wants limits forms K d at → OtherHere text at place → Faulty text limits forms 6 place
+          other : (limits : Limits) (forms : Forms) (K : Stack) (d : ℕ) → Wants limits forms K d at → OtherHere text at e.place → Faulty text limits forms 6 e.place
           other limits forms K d w o =
               let u = o.token in
               subst (λ (x : ℕ). Faulty text limits forms 6 x) (sym o.place_is)
@@ -203,19 +206,15 @@ module _ (text : List ℕ) where
               (no_step (class_kind u.kind) w.names w.sign (span_of u) K
               (λ x c. let f = text_form x in o.no_text f.0 (class_kind_lem u.kind c ∙ f.1))))
 
-          bad : (limits : Limits) (forms : Forms) (K : Stack) (d : ℕ) → Wants limits forms K d at → BadHere text at place → Faulty text limits forms 5 place
+          bad : (limits : Limits) (forms : Forms) (K : Stack) (d : ℕ) → Wants limits forms K d at → BadHere text at e.place → Faulty text limits forms 5 e.place
           bad limits forms K d w o =
               let u = o.word in
               bad_here limits (level_of forms) text w.stands u o.comes (ap (λ (k : Kind). plain (class_kind k)) o.word_is) o.bad o.placed
               (ap (λ (k : Kind). text_class (class_kind k) w.names w.sign (span_of u) K) o.word_is)
 
-          refused : (limits : Limits) (forms : Forms) (K : Stack) (d : ℕ) → Wants limits forms K d at → Faulty text limits forms number place
+          refused : (limits : Limits) (forms : Forms) (K : Stack) (d : ℕ) → Wants limits forms K d at → Faulty text limits forms (number_of e.refusal) e.place
           refused limits forms K d w =
-              ⊎_elim (λ x. numbered limits forms x.0 (none_here limits (level_of forms) text w.stands place x.1))
-              (λ y. ⊎_elim (λ x. numbered limits forms x.0 (end_here limits (level_of forms) text w.stands place x.1 refl))
+              ⊎_elim (λ x. numbered limits forms x.0 (none_here limits (level_of forms) text w.stands e.place x.1))
+              (λ y. ⊎_elim (λ x. numbered limits forms x.0 (end_here limits (level_of forms) text w.stands e.place x.1 refl))
               (λ z. ⊎_elim (λ x. numbered limits forms x.0 (other limits forms K d w x.1)) (λ x. numbered limits forms x.0 (bad limits forms K d w x.1)) z) y)
-              (subst (λ (x : Named). NameNext text at x) q n)
-
-      pub nameless_read : {at number place : ℕ} (r : Named) (z : Read) → Behind at → NameNext text at r → r ≡ Named.Refused number place → z ≡ nameless_by r →
-          Nesting text t lent left index parent z
-      nameless_read r z b x e q = subst (λ (y : Read). Nesting text t lent left index parent y) (sym (q ∙ ap nameless_by e)) (nesting_refused r b x e)
+              (subst (λ (x : Result ℕ Refused). NameNext text at x) q n)

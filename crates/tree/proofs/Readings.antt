@@ -42,17 +42,20 @@ use Rattle.table.specs.Over.{Written, Raised, Reserved}
 use Rattle.table.proofs.Written.{written_nothing, written_more}
 use Rattle.table.proofs.Raised.{raised_value, raised_length, reserved_written, reserved_length}
 use Rattle.look.specs.declared.answer.Read.{Read}
-use Rattle.look.specs.declared.answer.Got.{Got}
+use Rattle.std.specs.Prelude.{Result, Ok, Err}
+use Rattle.reading.specs.declared.Refused.{Refused}
+use Rattle.reading.specs.Refusals.{number_of}
 use Rattle.begin.specs.declared.Begin.{Begin}
 use Rattle.tree.specs.declared.bracket.State as State
+use Rattle.tree.specs.declared.start.Start as Start
 use Rattle.tree.specs.declared.bracket.Turn.{Turn}
-use Rattle.look.specs.Looks.{Gets, NoHead, handed_on}
+use Rattle.look.specs.Looks.{Gets, NoHead}
 use Rattle.look.proofs.Looking.{got_token}
 use Rattle.begin.specs.Signs.{no_mark, is_close_of}
 use Rattle.begin.specs.Begins.{Begins as Starts}
 use Rattle.begin.proofs.Signs.{close_class_lem}
-use Rattle.tree.specs.Readers.{span_of, opened, Fit, Sized, Inner, Turned, Born, Stands, Faulty, Asks, IsValue, Outcome, Reads, Holds, Turns, Bore, Member, Bracketed, Rounded, entering, signs, Ends, Alone, Literal, Nesting, Taken}
-use Rattle.tree.specs.Turning.{Narrow, Outer}
+use Rattle.tree.specs.Readers.{span_of, opened, Fit, Within, Sized, Inner, Inside, Turned, Born, Stands, Faulty, Asks, IsValue, Outcome, Reads, Holds, Turns, Bore, Member, Bracketed, Rounded, entering, signs, Ends, Alone, Literal, Nesting, Taken}
+use Rattle.tree.specs.Turning.{Narrow, Behind}
 use Rattle.tree.proofs.Beginning.{From, Entered, Begun, begins_so}
 use Rattle.tree.proofs.Turns.{is_bare}
 
@@ -144,44 +147,40 @@ module _ (text : List ℕ) (limits : Limits) (forms : Forms) where
   same_depth a b =
       sym b.deep ∙ depth_is (level_of forms) b.tokens b.stands.reached ∙ sym (depth_is (level_of forms) a.tokens a.stands.reached) ∙ a.deep
 
-  pub value_sized : {d end n index parent : ℕ} {shape : Shape} {t : Token.Token} {r : Read} {lent left : List ℕ} → Reads text limits forms d t lent left index parent r → r ≡ Read.Value end n shape →
-      (t.first + n ≤ end) × (t.end ≤ end) × (end ≤ length text)
-  value_sized {t = t} x q = subst (λ (w : Read). Sized text t w) q x.sized
+  pub value_sized : {d index parent : ℕ} {v : Read} {t : Token.Token} {r : Result Read Refused} {lent left : List ℕ} → Reads text limits forms d t lent left index parent r → r ≡ Ok v →
+      (t.first + v.nodes ≤ v.end) × (t.end ≤ v.end) × (v.end ≤ length text)
+  value_sized {t = t} x q = subst (λ (w : Result Read Refused). Sized text t w) q x.sized
 
   -- where a token must come, none does
-  pub refused_here : {d at n q : ℕ} {c : Config} (g : Got) → Stands text limits forms d at c → whole c ≡ false → Gets text at g → g ≡ Got.Refused n q → Faulty text limits forms n q
-  refused_here {d} {at} {n} {q} {c} g a w x e = go (subst (λ (y : Got). Gets text at y) e x)
+  pub refused_here : {d at : ℕ} {c : Config} {g : Result Token.Token Refused} {e : Refused} → Stands text limits forms d at c → whole c ≡ false → Gets text at g → g ≡ Err e → Faulty text limits forms (number_of e.refusal) e.place
+  refused_here {d} {at} {c} {g} {e} a w x i = go (subst (λ (y : Result Token.Token Refused). Gets text at y) i x)
     where
-      go : Gets text at (Got.Refused n q) → Faulty text limits forms n q
-      go (inl (y, k)) = subst (λ (z : ℕ). Faulty text limits forms z q) (sym y) (none_here limits (level_of forms) text a q k)
-      go (inr (y, k)) = subst (λ (z : ℕ). Faulty text limits forms z q) (sym y) (end_here limits (level_of forms) text a q k w)
-
-  -- the same, handed on
-  handed_refusal : {n q : ℕ} (g : Got) {h : Read} → g ≡ Got.Refused n q → h ≡ handed_on g → h ≡ Read.Refused n q
-  handed_refusal g e x = x ∙ ap handed_on e
+      go : Gets text at (Err e) → Faulty text limits forms (number_of e.refusal) e.place
+      go (inl (y, k)) = subst (λ (z : ℕ). Faulty text limits forms z e.place) (sym (ap number_of y)) (none_here limits (level_of forms) text a e.place k)
+      go (inr (y, k)) = subst (λ (z : ℕ). Faulty text limits forms z e.place) (sym (ap number_of y)) (end_here limits (level_of forms) text a e.place k w)
 
   -- ---- a value
 
   module _ (d : ℕ) (t : Token.Token) (lent left : List ℕ) (index parent : ℕ) (f : Fit text t index parent) where
-    module _ (b : Begin) (x : Starts text limits forms d t b) where
-      begun_as : (z : Begin) → b ≡ z → (K : Stack) (at : ℕ) → Asks text limits forms K d at t → Begun text limits forms K d t z
-      begun_as z e K at a = subst (λ (y : Begin). Begun text limits forms K d t y) e ((begins_so text limits forms d t x).begun K at a)
+    module _ (b : Result Begin Refused) (x : Starts text limits forms d t b) where
+      begun_as : (z : Result Begin Refused) → b ≡ z → (K : Stack) (at : ℕ) → Asks text limits forms K d at t → Begun text limits forms K d t z
+      begun_as z e K at a = subst (λ (y : Result Begin Refused). Begun text limits forms K d t y) e ((begins_so text limits forms d t x).begun K at a)
 
-      alone_sized : (r : Read) → Alone t r → Sized text t r
-      alone_sized (Read.Value end n shape) (y, z) = (omega (arith, y, z, f.some_byte), omega (arith, z), omega (arith, z, f.inside_text))
-      alone_sized (Read.Refused n q) y = tt
+      alone_sized : (r : Result Read Refused) → Alone t r → Sized text t r
+      alone_sized (Ok v) (y, z) = (omega (arith, y, z, f.some_byte), omega (arith, z), omega (arith, z, f.inside_text))
+      alone_sized (Err e) y = tt
 
-      pub value_leaf : (r : Read) → b ≡ Begin.Literal → Literal text t lent left index parent r → Reads text limits forms d t lent left index parent r
-      value_leaf r e l = record { sized = alone_sized r l.sized; outcome = λ K at a. l.outcome limits forms K d at a (begun_as Begin.Literal e K at a) }
+      pub value_leaf : (r : Result Read Refused) → b ≡ Ok Begin.Literal → Literal text t lent left index parent r → Reads text limits forms d t lent left index parent r
+      value_leaf r e l = record { sized = alone_sized r l.sized; outcome = λ K at a. l.outcome limits forms K d at a (begun_as (Ok Begin.Literal) e K at a) }
 
-      pub value_names : (r : Read) → b ≡ Begin.Names → Nesting text t lent left index parent r → Reads text limits forms d t lent left index parent r
-      value_names r e l = record { sized = l.sized; outcome = λ K at a. l.outcome limits forms K d at a (begun_as Begin.Names e K at a) }
+      pub value_names : (r : Result Read Refused) → b ≡ Ok Begin.Names → Nesting text t lent left index parent r → Reads text limits forms d t lent left index parent r
+      value_names r e l = record { sized = l.sized; outcome = λ K at a. l.outcome limits forms K d at a (begun_as (Ok Begin.Names) e K at a) }
 
-      pub value_round : (g : Got) (r : Read) → b ≡ Begin.Round g → Rounded text limits forms d t lent left index parent r → Reads text limits forms d t lent left index parent r
-      value_round g r e l = record { sized = l.sized; outcome = λ K at a. let z = begun_as (Begin.Round g) e K at a in l.outcome K z.0 z.1 }
+      pub value_round : (g : Result Token.Token Refused) (r : Result Read Refused) → b ≡ Ok (Begin.Round g) → Rounded text limits forms d t lent left index parent r → Reads text limits forms d t lent left index parent r
+      value_round g r e l = record { sized = l.sized; outcome = λ K at a. let z = begun_as (Ok (Begin.Round g)) e K at a in l.outcome K z.0 z.1 }
 
-      pub value_refused : {n q : ℕ} → b ≡ Begin.Refused n q → Reads text limits forms d t lent left index parent (Read.Refused n q)
-      value_refused {n} {q} e = record { sized = tt; outcome = λ K at a. begun_as (Begin.Refused n q) e K at a }
+      pub value_refused : {e : Refused} → b ≡ Err e → Reads text limits forms d t lent left index parent (Err e)
+      value_refused {e} i = record { sized = tt; outcome = λ K at a. begun_as (Err e) i K at a }
 
       entered_holds : {K : Stack} {mode : Mode} {at : ℕ} (g : Entered text limits forms K d t mode at) → Holds text limits forms t lent lent index K g.config (entering mode at d index)
       entered_holds {K} {mode} {at} g =
@@ -201,22 +200,22 @@ module _ (text : List ℕ) (limits : Limits) (forms : Forms) where
             written = subst (λ (ns : List Node). Written lent lent (index + 1) ns) (sym (g.no_member index)) written_nothing;
           }
 
-      pub value_bracket : {mode : Mode} {at : ℕ} (s : State.State) (r : Read) → b ≡ Begin.Bracket mode at → s ≡ entering mode at d index → Bracketed text limits forms t s lent left index parent r →
+      pub value_bracket : {mode : Mode} {at : ℕ} (s : State.State) (r : Result Read Refused) → b ≡ Ok (Begin.Bracket mode at) → s ≡ entering mode at d index → Bracketed text limits forms t s lent left index parent r →
           Reads text limits forms d t lent left index parent r
       value_bracket {mode} {at} s r e i l =
           record {
             sized = l.sized;
             outcome = λ K p a.
-                let g = begun_as (Begin.Bracket mode at) e K p a in
+                let g = begun_as (Ok (Begin.Bracket mode at)) e K p a in
                 l.outcome lent K g.config (subst (λ (x : State.State). Holds text limits forms t lent lent index K g.config x) (sym i) (entered_holds g));
           }
 
   -- ---- `(`
 
   -- the bracket's own node takes the slot that was left to it
-  reserved_outcome : (K : Stack) (t : Token.Token) {lent spare : List ℕ} (left : List ℕ) {index : ℕ} (parent : ℕ) (z : Read) → Reserved lent spare index →
+  reserved_outcome : (K : Stack) (t : Token.Token) {lent spare : List ℕ} (left : List ℕ) {index : ℕ} (parent : ℕ) (z : Result Read Refused) → Reserved lent spare index →
       Outcome text limits forms K t spare left index parent z → Outcome text limits forms K t lent left index parent z
-  reserved_outcome K t left {index} parent (Read.Value end n shape) r o =
+  reserved_outcome K t left {index} parent (Ok v) r o =
       record {
         tree = o.tree;
         depth = o.depth;
@@ -227,12 +226,11 @@ module _ (text : List ℕ) (limits : Limits) (forms : Forms) where
         count_is = o.count_is;
         written = reserved_written r (some_node o.tree parent Nodes.root index) o.written;
       }
-  reserved_outcome K t left parent (Read.Refused n q) r o = o
+  reserved_outcome K t left parent (Err e) r o = o
 
   module _ (d : ℕ) (t : Token.Token) (lent : List ℕ) (index parent : ℕ) where
-    pub round_missing : {n q : ℕ} {left : List ℕ} (g : Got) (h : Read) → Gets text t.end g → g ≡ Got.Refused n q → h ≡ handed_on g → Rounded text limits forms d t lent left index parent h
-    round_missing {left = left} g h x e y =
-        subst (Rounded text limits forms d t lent left index parent) (sym (handed_refusal g e y)) (record { sized = tt; outcome = λ K a n. refused_here g a refl x e })
+    pub round_missing : {e : Refused} {g : Result Token.Token Refused} {left : List ℕ} → Gets text t.end g → g ≡ Err e → Rounded text limits forms d t lent left index parent (Err e)
+    round_missing x i = record { sized = tt; outcome = λ K a n. refused_here a refl x i }
 
     opened_holds : {K : Stack} {u : Token.Token} → Comes text t.end (Next.Token u) → no_mark (class_kind u.kind) ≡ false →
         Stands text limits forms (suc d) t.end (want (opened t K)) →
@@ -255,7 +253,7 @@ module _ (text : List ℕ) (limits : Limits) (forms : Forms) where
         }
 
     -- no value begins behind it
-    pub round_bracket : {u : Token.Token} {left : List ℕ} (s : State.State) (r : Read) → Comes text t.end (Next.Token u) → no_mark (class_kind u.kind) ≡ false →
+    pub round_bracket : {u : Token.Token} {left : List ℕ} (s : State.State) (r : Result Read Refused) → Comes text t.end (Next.Token u) → no_mark (class_kind u.kind) ≡ false →
         s ≡ entering (Mode.Want (Frame.Round Round.Opened)) t.end d index → Bracketed text limits forms t s lent left index parent r → Rounded text limits forms d t lent left index parent r
     round_bracket s r k m i l =
         record {
@@ -266,11 +264,11 @@ module _ (text : List ℕ) (limits : Limits) (forms : Forms) where
         }
 
     -- a value begins behind it
-    module _ {u : Token.Token} {mid : List ℕ} (k : Comes text t.end (Next.Token u)) (m : no_mark (class_kind u.kind) ≡ true) (r : Read)
+    module _ {u : Token.Token} {mid : List ℕ} (k : Comes text t.end (Next.Token u)) (m : no_mark (class_kind u.kind) ≡ true) (r : Result Read Refused)
         (y : Reads text limits forms (d + 1) u lent mid index parent r) where
-      first_read : (z : Read) → r ≡ z → (K : Stack) → Stands text limits forms (suc d) t.end (want (opened t K)) → Outcome text limits forms (opened t K) u lent mid index parent z
+      first_read : (z : Result Read Refused) → r ≡ z → (K : Stack) → Stands text limits forms (suc d) t.end (want (opened t K)) → Outcome text limits forms (opened t K) u lent mid index parent z
       first_read z q K a =
-          subst (λ (w : Read). Outcome text limits forms (opened t K) u lent mid index parent w) q
+          subst (λ (w : Result Read Refused). Outcome text limits forms (opened t K) u lent mid index parent w) q
           (y.outcome (opened t K) t.end
           (record {
             stands = subst (λ (x : ℕ). Stands text limits forms x t.end (want (opened t K))) (omega arith) a;
@@ -278,33 +276,31 @@ module _ (text : List ℕ) (limits : Limits) (forms : Forms) where
             no_sign = λ x e. absurd (mark_not (class_kind u.kind) x m e);
           }))
 
-      pub first_refused : {n p : ℕ} {left : List ℕ} → r ≡ Read.Refused n p → Rounded text limits forms d t lent left index parent r
-      first_refused {n} {p} {left} q =
-          subst (Rounded text limits forms d t lent left index parent) (sym q) (record { sized = tt; outcome = λ K a i. first_read (Read.Refused n p) q K a })
+      pub first_refused : {e : Refused} {left : List ℕ} → r ≡ Err e → Rounded text limits forms d t lent left index parent r
+      first_refused {e} {left} q =
+          subst (Rounded text limits forms d t lent left index parent) (sym q) (record { sized = tt; outcome = λ K a i. first_read (Err e) q K a })
 
-      module _ {end n : ℕ} {shape : Shape} (q : r ≡ Read.Value end n shape) (h : Got) (x : Gets text end h) where
-        pub first_open : {i p : ℕ} {left : List ℕ} (z : Read) → h ≡ Got.Refused i p → z ≡ handed_on h → Rounded text limits forms d t lent left index parent z
-        first_open {left = left} z e y' =
-            subst (Rounded text limits forms d t lent left index parent) (sym (handed_refusal h e y'))
-            (record { sized = tt; outcome = λ K a i. refused_here h (first_read (Read.Value end n shape) q K a).stands refl x e })
+      module _ {f : Read} (q : r ≡ Ok f) {h : Result Token.Token Refused} (x : Gets text f.end h) where
+        pub first_open : {e : Refused} {left : List ℕ} → h ≡ Err e → Rounded text limits forms d t lent left index parent (Err e)
+        first_open e = record { sized = tt; outcome = λ K a i. refused_here (first_read (Ok f) q K a).stands refl x e }
 
         -- and `)` behind the value: a group
-        pub first_group : {w : Token.Token} → t.first < t.end → h ≡ Got.Token w → is_close_of (class_kind w.kind) ≡ true → Rounded text limits forms d t lent mid index parent (Read.Value w.end n Shape.Other)
+        pub first_group : {w : Token.Token} → t.first < t.end → h ≡ Ok w → is_close_of (class_kind w.kind) ≡ true → Rounded text limits forms d t lent mid index parent (Ok (record { end = w.end; nodes = f.nodes; shape = Shape.Other }))
         first_group {w} z e c =
-            let k' = got_token text end e x in
-            let i = close_class_lem (class_kind w.kind) c in
+            let k' = got_token text f.end e x in
+            let j = close_class_lem (class_kind w.kind) c in
             record {
               sized =
                   let o = token_bounds text k in
                   let p = token_bounds text k' in
                   let v = value_sized y q in
                   (omega (arith, z, o.0, v.0, p.0, p.1), omega (arith, o.0, o.1, v.1, p.0, p.1), p.2);
-              outcome = λ K a f.
-                  let v = first_read (Read.Value end n shape) q K a in
+              outcome = λ K a i.
+                  let v = first_read (Ok f) q K a in
                   record {
                     tree = Tree.plain (Tree.group (span_of t) v.tree (span_of w));
                     depth = open_mark Tokens.round_close v.depth;
-                    stands = sign_on limits (level_of forms) text v.stands w k' Tokens.round_close i (λ p. not_arrow w (ap is_arrow i) p) (ap (λ (p : Class). have_class (level_of forms) p v.tree (span_of w) (opened t K)) i);
+                    stands = sign_on limits (level_of forms) text v.stands w k' Tokens.round_close j (λ p. not_arrow w (ap is_arrow j) p) (ap (λ (p : Class). have_class (level_of forms) p v.tree (span_of w) (opened t K)) j);
                     stops = λ p p' p''. refl;
                     shape_is = refl;
                     bare = λ p p'. absurd (false≢true (ap is_bare p'));
@@ -315,12 +311,12 @@ module _ (text : List ℕ) (limits : Limits) (forms : Forms) where
 
         -- no `)` behind it: the value is a bracket's first
         first_holds : {K : Stack} {w : Token.Token} {spare up : List ℕ} → Stands text limits forms (suc d) t.end (want (opened t K)) → NoHead text t.end →
-            h ≡ Got.Token w → is_close_of (class_kind w.kind) ≡ false → (v : IsValue text limits forms (opened t K) u end n shape lent mid index parent) →
+            h ≡ Ok w → is_close_of (class_kind w.kind) ≡ false → (v : IsValue text limits forms (opened t K) u f.end f.nodes f.shape lent mid index parent) →
             length up ≡ length spare → Written spare up (index + 1) (nodes v.tree index Nodes.root (index + 1)) →
-            Holds text limits forms t spare up index K (have v.tree (opened t K)) (behind_first d index end n shape)
-        first_holds {K} {w} {spare} {up} a f e c v len wr =
+            Holds text limits forms t spare up index K (have v.tree (opened t K)) (behind_first d index f.end f.nodes f.shape)
+        first_holds {K} {w} {spare} {up} a nh e c v len wr =
             record {
-              stands = subst (λ (z : ℕ). Stands text limits forms z end (have v.tree (opened t K))) (same_depth a v.stands ∙ omega arith) v.stands;
+              stands = subst (λ (z : ℕ). Stands text limits forms z f.end (have v.tree (opened t K))) (same_depth a v.stands ∙ omega arith) v.stands;
               within = refl;
               mode_is = ap (λ (z : Shape). Mode.Have (Frame.Round Round.Opened) z) v.shape_is;
               stack_is = refl;
@@ -329,30 +325,30 @@ module _ (text : List ℕ) (limits : Limits) (forms : Forms) where
                 none = λ p k' z.
                     let o = bare_first v.tree (Frames.in_round (Frames.opened (span_of t))) K b in
                     let j = v.bare o.1.0 (sym v.shape_is ∙ o.1.1) in
-                    f.none o.1.0 p.end
+                    nh.none o.1.0 p.end
                     (record { word = u; comes = k; word_is = j.0; sign = p; then = subst (λ (i : ℕ). Comes text i (Next.Token p)) j.1 k'; sign_is = z; end_is = refl });
               };
               no_names = λ b. record { none = λ p k' z. clash b (ap given (v.stops p k' z)) };
               unread = λ b b'. absurd (false≢true (sym b'));
-              no_group = λ b b' p k'. ap (λ (z : Token.Token). is_close_of (class_kind z.kind)) (pick text k' (got_token text end e x)) ∙ c;
+              no_group = λ b b' p k'. ap (λ (z : Token.Token). is_close_of (class_kind z.kind)) (pick text k' (got_token text f.end e x)) ∙ c;
               length_is = len;
               count_is = v.count_is ∙ same_size v.tree parent index Nodes.root Nodes.root index (index + 1 + 0);
               last_is = λ b. omega arith;
               written = subst (λ (i : ℕ). Written spare up (index + 1) (nodes v.tree index Nodes.root i)) (omega arith) wr;
             }
 
-        pub first_bracket : {w : Token.Token} {up left : List ℕ} (z : Read) → Fit text t index parent → h ≡ Got.Token w → is_close_of (class_kind w.kind) ≡ false → length mid ≡ length lent →
-            Raised mid up index n → Bracketed text limits forms t (behind_first d index end n shape) up left index parent z → Rounded text limits forms d t lent left index parent z
+        pub first_bracket : {w : Token.Token} {up left : List ℕ} (z : Result Read Refused) → Fit text t index parent → h ≡ Ok w → is_close_of (class_kind w.kind) ≡ false → length mid ≡ length lent →
+            Raised mid up index f.nodes → Bracketed text limits forms t (behind_first d index f.end f.nodes f.shape) up left index parent z → Rounded text limits forms d t lent left index parent z
         first_bracket {w} {up} {left} z i e c len raised l =
             record {
               sized = l.sized;
-              outcome = λ K a f.
-                  let v = first_read (Read.Value end n shape) q K a in
+              outcome = λ K a nh.
+                  let v = first_read (Ok f) q K a in
                   let o = token_bounds text k in
                   let p = value_sized y q in
                   let s = raised_value v.tree v.written len (subst (λ (j : ℕ). Raised mid up index j) v.count_is raised) i.parent_fits
                   (omega (arith, sym v.count_is, i.index_fits, i.some_byte, i.short, o.0, p.0, p.2)) in
-                  reserved_outcome K t left parent z s.1 (l.outcome s.0 K (have v.tree (opened t K)) (first_holds a f e c v (raised_length raised ∙ len ∙ sym (reserved_length s.1)) s.2));
+                  reserved_outcome K t left parent z s.1 (l.outcome s.0 K (have v.tree (opened t K)) (first_holds a nh e c v (raised_length raised ∙ len ∙ sym (reserved_length s.1)) s.2));
             }
 
   -- ---- a value in a bracket
@@ -387,27 +383,25 @@ module _ (text : List ℕ) (limits : Limits) (forms : Forms) where
       size : s.nodes ≡ length (framed top index)
       size = h.count_is ∙ ap (λ (ns : List Node). length ns) (append-nil (framed top index))
 
-  module _ {s : State.State} {t : Token.Token} {frame : Frame} {from left : List ℕ} {index : ℕ} (r : Read) (x : Reads text limits forms s.deep t from left (index + 1 + s.nodes) index r) where
-    child_read : {opener : Token.Token} {lent : List ℕ} {K : Stack} {c : Config} (z : Read) → r ≡ z → Holds text limits forms opener lent from index K c s → Comes text s.at (Next.Token t) →
+  module _ {s : State.State} {t : Token.Token} {frame : Frame} {from left : List ℕ} {index : ℕ} {r : Result Read Refused} (x : Reads text limits forms s.deep t from left (index + 1 + s.nodes) index r) where
+    child_read : {opener : Token.Token} {lent : List ℕ} {K : Stack} {c : Config} (z : Result Read Refused) → r ≡ z → Holds text limits forms opener lent from index K c s → Comes text s.at (Next.Token t) →
         (g : Begins (level_of forms) c (seen t) frame) → Outcome text limits forms (g.top ∷ g.stack) t from left (index + 1 + s.nodes) index z
     child_read {opener} {lent} {K} {c} z q h k g =
-        subst (λ (w : Read). Outcome text limits forms (g.top ∷ g.stack) t from left (index + 1 + s.nodes) index w) q
+        subst (λ (w : Result Read Refused). Outcome text limits forms (g.top ∷ g.stack) t from left (index + 1 + s.nodes) index w) q
         (x.outcome (g.top ∷ g.stack) s.at
         (record { stands = subst (λ (w : Config). Stands text limits forms s.deep s.at w) g.config_is h.stands; comes = k; no_sign = λ m e. absurd (g.no_sign m e) }))
 
-    pub child_refused : {n p : ℕ} → r ≡ Read.Refused n p → Bore text limits forms s t frame from left index (Turn.Ended r)
-    child_refused {n} {p} q =
-        subst (λ (w : Read). Bore text limits forms s t frame from left index (Turn.Ended w)) (sym q)
-        (record { born = tt; turns = λ opener parent lent K c h k g. child_read (Read.Refused n p) q h k g })
+    pub child_refused : {e : Refused} → r ≡ Err e → Bore text limits forms s t frame from left index (Err e)
+    child_refused {e} q = record { born = tt; turns = λ opener parent lent K c h k g. child_read (Err e) q h k g }
 
-    pub child_on : {end n : ℕ} {shape : Shape} → r ≡ Read.Value end n shape → length left ≡ length from →
-        Bore text limits forms s t frame from left index (Turn.On (record { mode = Mode.Have frame shape; at = end; deep = s.deep; nodes = s.nodes + n; last = index + 1 + s.nodes }))
-    child_on {end} {n} {shape} q len =
+    pub child_on : {m : Read} → r ≡ Ok m → length left ≡ length from →
+        Bore text limits forms s t frame from left index (Ok (Turn.On (record { mode = Mode.Have frame m.shape; at = m.end; deep = s.deep; nodes = s.nodes + m.nodes; last = index + 1 + s.nodes })))
+    child_on {m} q len =
         let z = value_sized x q in
         record {
           born = (omega (arith, z.0), refl, z.1, z.2);
           turns = λ opener parent lent K c h k g.
-              let v = child_read (Read.Value end n shape) q h k g in (
+              let v = child_read (Ok m) q h k g in (
                 have v.tree (g.top ∷ g.stack),
                 child_holds t (subst (λ (w : Config). Holds text limits forms opener lent from index K w s) g.config_is h) k g.no_sign
                     (want_same_lem (sym (ap mode_of g.config_is) ∙ g.mode_is)) v len,
@@ -426,24 +420,22 @@ module _ (text : List ℕ) (limits : Limits) (forms : Forms) where
   does_so {t = t} {c = c} h k m = m.does c h.mode_is (asked_of h k) (span_of t)
 
   module _ {opener t : Token.Token} {s : State.State} {index parent : ℕ} (i : Inner text opener s index parent) (k : Comes text s.at (Next.Token t)) where
-    ends_turned : (z : Turn) → Ends opener t z → Turned text opener s z
-    ends_turned (Turn.On n) (a, d, q) = let y = token_bounds text k in (a, d, omega (arith, q, y.0, y.1), omega (arith, q, y.2))
-    ends_turned (Turn.Ended (Read.Value end n shape)) (a, q) = let y = token_bounds text k in (a, omega (arith, q, y.0, y.1, i.after), omega (arith, q, y.2))
-    ends_turned (Turn.Ended (Read.Refused n q)) z = tt
+    ends_turned : (z : Result Turn Refused) → Ends opener t z → Turned text opener s z
+    ends_turned (Ok (Turn.On n)) (a, d, q) = let y = token_bounds text k in (a, d, omega (arith, q, y.0, y.1), omega (arith, q, y.2))
+    ends_turned (Ok (Turn.Ended v)) (a, q) = let y = token_bounds text k in (a, omega (arith, q, y.0, y.1, i.after), omega (arith, q, y.2))
+    ends_turned (Err e) z = tt
 
-    born_turned : (z : Turn) → Born text s t z → Turned text opener s z
-    born_turned (Turn.On n) (a, d, q, l) =
+    born_turned : (z : Result Turn Refused) → Born text s t z → Turned text opener s z
+    born_turned (Ok (Turn.On n)) (a, d, q, l) =
         let y = token_bounds text k in (omega (arith, a, y.0, i.after), omega (arith, d, q, y.0, y.1, i.deep_fits), omega (arith, q, y.0, y.1), l)
-    born_turned (Turn.Ended (Read.Value end n shape)) z = absurd z
-    born_turned (Turn.Ended (Read.Refused n q)) z = tt
+    born_turned (Ok (Turn.Ended v)) z = absurd z
+    born_turned (Err e) z = tt
 
-  module _ {opener : Token.Token} {s : State.State} {from left : List ℕ} {index parent : ℕ} (i : Inner text opener s index parent) (g : Got) (x : Gets text s.at g) where
-    pub member_missing : {n q : ℕ} (z : Read) → g ≡ Got.Refused n q → z ≡ handed_on g → Member text limits forms opener s from left index parent (Turn.Ended z)
-    member_missing z e y =
-        subst (λ (w : Read). Member text limits forms opener s from left index parent (Turn.Ended w)) (sym (handed_refusal g e y))
-        (record { turned = tt; turns = λ lent K c h. refused_here g h.stands (inside_open c h.within) x e })
+  module _ {opener : Token.Token} {s : State.State} {from left : List ℕ} {index parent : ℕ} (i : Inner text opener s index parent) {g : Result Token.Token Refused} (x : Gets text s.at g) where
+    pub member_missing : {e : Refused} → g ≡ Err e → Member text limits forms opener s from left index parent (Err e)
+    member_missing e = record { turned = tt; turns = λ lent K c h. refused_here h.stands (inside_open c h.within) x e }
 
-    module _ {t : Token.Token} {taken : Move} (e : g ≡ Got.Token t) (m : Moves forms s.mode t.kind taken) (r : Turn) where
+    module _ {t : Token.Token} {taken : Move} (e : g ≡ Ok t) (m : Moves forms s.mode t.kind taken) (r : Result Turn Refused) where
       pub member_taken : Ends opener t r → Taken limits opener s t taken from left index parent r → signs taken ≡ true → Member text limits forms opener s from left index parent r
       member_taken z y q =
           let k = got_token text s.at e x in
@@ -460,6 +452,19 @@ module _ (text : List ℕ) (limits : Limits) (forms : Forms) where
 -- ---- a bracket
 
 -- ---- numbers
+
+-- what a start says of itself, and what is asked of it in the text
+pub fit_of : {text : List ℕ} (s : Start.Start) → Within text s → Fit text s.token s.index s.parent
+fit_of s w = record { short = w.short; some_byte = s.some_byte; inside_text = w.inside_text; index_fits = s.index_fits; parent_fits = s.parent_fits }
+
+pub within_of : {text : List ℕ} {s : Start.Start} → Fit text s.token s.index s.parent → Within text s
+within_of f = record { short = f.short; inside_text = f.inside_text }
+
+pub inner_of : {text : List ℕ} (s : Start.Start) {x : State.State} → Inside text s x → Inner text s.token x s.index s.parent
+inner_of s i = record { fit = fit_of s i.within; after = i.after; deep_fits = i.deep_fits; inside_text = i.inside_text }
+
+pub inside_of : {text : List ℕ} {s : Start.Start} {x : State.State} → Inner text s.token x s.index s.parent → Inside text s x
+inside_of i = record { within = within_of i.fit; after = i.after; deep_fits = i.deep_fits; inside_text = i.inside_text }
 
 pub inner_fit : {text : List ℕ} {opener t : Token.Token} {index parent d : ℕ} → Fit text opener index parent → d ≤ opener.first → Comes text opener.end (Next.Token t) →
     Fit text t index parent × (d + 1 ≤ t.first)
@@ -489,21 +494,21 @@ first_inner {text} f h k (a, b, c) =
     let y = token_bounds text k in
     record { fit = f; after = omega (arith, y.0, a); deep_fits = omega (arith, h, f.some_byte, y.0, y.1, b); inside_text = c }
 
-pub begin_from : {text : List ℕ} {limits : Limits} {forms : Forms} {d at index parent : ℕ} {t : Token.Token} {mode : Mode} (b : Begin) → Fit text t index parent → Starts text limits forms d t b → b ≡ Begin.Bracket mode at →
+pub begin_from : {text : List ℕ} {limits : Limits} {forms : Forms} {d at index parent : ℕ} {t : Token.Token} {mode : Mode} (b : Result Begin Refused) → Fit text t index parent → Starts text limits forms d t b → b ≡ Ok (Begin.Bracket mode at) →
     (t.end ≤ at) × (at ≤ length text)
-begin_from {text} {limits} {forms} {d} {t = t} b f x e = subst (λ (y : Begin). From text t y) e ((begins_so text limits forms d t x).from f.inside_text)
+begin_from {text} {limits} {forms} {d} {t = t} b f x e = subst (λ (y : Result Begin Refused). From text t y) e ((begins_so text limits forms d t x).from f.inside_text)
 
-pub begin_got : {text : List ℕ} {limits : Limits} {forms : Forms} {d index parent : ℕ} {t : Token.Token} {g : Got} (b : Begin) → Fit text t index parent → Starts text limits forms d t b → b ≡ Begin.Round g →
+pub begin_got : {text : List ℕ} {limits : Limits} {forms : Forms} {d index parent : ℕ} {t : Token.Token} {g : Result Token.Token Refused} (b : Result Begin Refused) → Fit text t index parent → Starts text limits forms d t b → b ≡ Ok (Begin.Round g) →
     Gets text t.end g
-begin_got {text} {limits} {forms} {d} {t = t} b f x e = subst (λ (y : Begin). From text t y) e ((begins_so text limits forms d t x).from f.inside_text)
+begin_got {text} {limits} {forms} {d} {t = t} b f x e = subst (λ (y : Result Begin Refused). From text t y) e ((begins_so text limits forms d t x).from f.inside_text)
 
 pub turn_narrow : {text : List ℕ} {opener t : Token.Token} {s : State.State} {index parent : ℕ} → Inner text opener s index parent → Comes text s.at (Next.Token t) → Narrow s t index
 turn_narrow {text} i k =
     let y = token_bounds text k in
     record { after = omega (arith, i.after, i.fit.some_byte, i.fit.index_fits); token_after = y.0; token_byte = y.1; short = omega (arith, y.2, i.fit.short) }
 
-pub turn_outer : {text : List ℕ} {opener : Token.Token} {s : State.State} {index parent : ℕ} → Inner text opener s index parent → Outer opener s index parent
-turn_outer i = record { some_byte = i.fit.some_byte; index_fits = i.fit.index_fits; parent_fits = i.fit.parent_fits; after = i.after; deep_fits = i.deep_fits }
+pub turn_behind : {text : List ℕ} {start : Start.Start} {s : State.State} → Inside text start s → Behind start.token s
+turn_behind i = record { after = i.after; deep_fits = i.deep_fits }
 
 pub child_fit : {text : List ℕ} {t : Token.Token} {s : State.State} {index : ℕ} → Narrow s t index → t.end ≤ length text → length text ≤ widest → Fit text t (index + 1 + s.nodes) index
 child_fit n h l = record { short = l; some_byte = n.token_byte; inside_text = h; index_fits = omega (arith, n.after, n.token_after); parent_fits = omega arith }
@@ -528,29 +533,31 @@ pub record Going (text : List ℕ) (limits : Limits) (forms : Forms) (opener : T
   pub holds : (lent : List ℕ) (K : Stack) (c : Config) → Holds text limits forms opener lent from index K c entered → (d : Config) × Holds text limits forms opener lent left index K d s
 
 module _ {text : List ℕ} {limits : Limits} {forms : Forms} {opener : Token.Token} {from : List ℕ} {index parent : ℕ} {entered s : State.State} {left last : List ℕ} (g : Going text limits forms opener from index parent entered left s)
-    (r : Turn) (m : Member text limits forms opener s left last index parent r) where
-  turned_as : (z : Turn) → r ≡ z → Turned text opener s z
-  turned_as z e = subst (λ (y : Turn). Turned text opener s y) e m.turned
+    (r : Result Turn Refused) (m : Member text limits forms opener s left last index parent r) where
+  turned_as : (z : Result Turn Refused) → r ≡ z → Turned text opener s z
+  turned_as z e = subst (λ (y : Result Turn Refused). Turned text opener s y) e m.turned
 
-  pub going_less : {n : State.State} → r ≡ Turn.On n → length text - n.at < length text - s.at
-  going_less {n} e = let z = turned_as (Turn.On n) e in omega (arith, z.2, z.3)
+  turns_as : (z : Result Turn Refused) → r ≡ z → (lent : List ℕ) (K : Stack) (c : Config) → Holds text limits forms opener lent from index K c entered → Turns text limits forms opener lent last index parent K z
+  turns_as z e lent K c h = let x = g.holds lent K c h in subst (λ (y : Result Turn Refused). Turns text limits forms opener lent last index parent K y) e (m.turns lent K x.0 x.1)
 
-  pub going_on : {n : State.State} → r ≡ Turn.On n → length last ≡ length left → Going text limits forms opener from index parent entered last n
+  pub going_less : {n : State.State} → r ≡ Ok (Turn.On n) → length text - n.at < length text - s.at
+  going_less {n} e = let z = turned_as (Ok (Turn.On n)) e in omega (arith, z.2, z.3)
+
+  pub going_on : {n : State.State} → r ≡ Ok (Turn.On n) → length last ≡ length left → Going text limits forms opener from index parent entered last n
   going_on {n} e l =
-      let z = turned_as (Turn.On n) e in
+      let z = turned_as (Ok (Turn.On n)) e in
       record {
         inner = record { fit = g.inner.fit; after = z.0; deep_fits = z.1; inside_text = z.3 };
         onward = omega (arith, g.onward, z.2);
         length_is = l ∙ g.length_is;
-        holds = λ lent K c h. let x = g.holds lent K c h in subst (λ (y : Turn). Turns text limits forms opener lent last index parent K y) e (m.turns lent K x.0 x.1);
+        holds = turns_as (Ok (Turn.On n)) e;
       }
 
-  pub going_ends : {z : Read} → r ≡ Turn.Ended z → Bracketed text limits forms opener entered from last index parent z
-  going_ends {z} e =
-      record {
-        sized = turned_as (Turn.Ended z) e;
-        outcome = λ lent K c h. let x = g.holds lent K c h in subst (λ (y : Turn). Turns text limits forms opener lent last index parent K y) e (m.turns lent K x.0 x.1);
-      }
+  pub going_ends : {v : Read} → r ≡ Ok (Turn.Ended v) → Bracketed text limits forms opener entered from last index parent (Ok v)
+  going_ends {v} e = record { sized = turned_as (Ok (Turn.Ended v)) e; outcome = turns_as (Ok (Turn.Ended v)) e }
+
+  pub going_refused : {f : Refused} → r ≡ Err f → Bracketed text limits forms opener entered from last index parent (Err f)
+  going_refused {f} e = record { sized = tt; outcome = turns_as (Err f) e }
 
 pub going_starts : {text : List ℕ} {limits : Limits} {forms : Forms} {opener : Token.Token} {from : List ℕ} {index parent : ℕ} {s : State.State} → Inner text opener s index parent → Going text limits forms opener from index parent s from s
 going_starts i = record { inner = i; onward = omega arith; length_is = refl; holds = λ lent K c h. (c, h) }

@@ -4,7 +4,7 @@ use mathlib.Core.Bool.{Bool, true, false, false≢true}
 use mathlib.Core.Logic.{◌⊎◌, inl, inr}
 use mathlib.Core.List.{List, [], ◌∷◌, ◌++◌}
 use mathlib.Core.Option.{none, some}
-use Prim.Native.Nat.{ℕ, zero, suc, pred, ◌+◌, ◌≤◌}
+use Prim.Native.Nat.{ℕ, zero, suc, pred, ◌+◌, ◌≤◌, ◌<◌}
 use native.Mathlib.Omega.{arith}
 use lib.ListN.{length, length-append}
 use Rattle.rules.proofs.Bools.{clash, decide}
@@ -41,7 +41,10 @@ use Rattle.moves.proofs.Steps.{paired_held, paired_named}
 use Rattle.table.specs.Over.{Written, Stored, Assigned, Put, entry_words}
 use Rattle.table.proofs.Words.{roled_length}
 use Rattle.table.proofs.Written.{told_put, written_more, written_node, written_front, written_role, written_first}
-use Rattle.look.specs.declared.answer.Read.TheVariants as Read
+use Rattle.std.specs.Prelude.{Result, Ok, Err}
+use Rattle.reading.specs.declared.Refusal.{Refusal}
+use Rattle.reading.specs.declared.Refused.{Refused}
+use Rattle.begin.specs.Begins.{refused_at}
 use Rattle.tree.specs.declared.bracket.State as State
 use Rattle.tree.specs.declared.bracket.Turn.{Turn}
 use Rattle.begin.specs.Signs.{is_close_of}
@@ -49,7 +52,7 @@ use Rattle.tree.specs.declared.leaf.Telling as Telling
 use Rattle.tree.specs.Tellings.{leaf_detail, LeafTold}
 use Rattle.tree.specs.Readers.{span_of, Ends, Taken, signs, Holds, Turns}
 use Rattle.tree.proofs.Leaves.{atom_tells}
-use Rattle.tree.specs.Turning.{Narrow, Outer, count_entry, close_entry, Led, Leading, Tupled, Counted, Deepened, Shuts, Closed}
+use Rattle.tree.specs.Turning.{Narrow, Behind, count_entry, close_entry, Led, Leading, Tupled, Counted, Deepened, Shuts, Closed}
 
 -- ---- roles of the value that was read last
 
@@ -205,9 +208,9 @@ module _ (text : List ℕ) (limits : Limits) (forms : Forms) where
       (h : Holds text limits forms opener lent from index K c s) (k : Comes text s.at (Next.Token t)) where
     -- a sign leads on, in the same depth
     led_on : {left : List ℕ} {mode : Mode} {role : Role} (r : Turn) (parent : ℕ) → Does (level_of forms) c (seen t) (Move.To mode role) → length left ≡ length from →
-        (Retired limits t → ⊥) → Led s t mode role from left r → Turns text limits forms opener lent left index parent K r
+        (Retired limits t → ⊥) → Led s t mode role from left r → Turns text limits forms opener lent left index parent K (Ok r)
     led_on {left} {mode} {role} r parent (m, u, g) e x l =
-        subst (Turns text limits forms opener lent left index parent K) (sym l.turn_is) (
+        subst (λ (x : Turn). Turns text limits forms opener lent left index parent K (Ok x)) (sym l.turn_is) (
           g.to,
           leads_holds t h g
               (subst (λ (d : ℕ). At limits (level_of forms) text d t.end g.to) (flat_depth m.sign s.deep m.flat_is) (sign_on limits (level_of forms) text h.stands t k m.sign m.class_is x g.steps))
@@ -216,17 +219,18 @@ module _ (text : List ℕ) (limits : Limits) (forms : Forms) where
         )
 
     -- or is refused, where it is retired
-    pub leading_on : {left : List ℕ} {mode : Mode} {role : Role} (r : Turn) (parent : ℕ) → Does (level_of forms) c (seen t) (Move.To mode role) → length left ≡ length from →
+    pub leading_on : {left : List ℕ} {mode : Mode} {role : Role} (r : Result Turn Refused) (parent : ℕ) → Does (level_of forms) c (seen t) (Move.To mode role) → length left ≡ length from →
         Leading s t limits mode role from left r → Turns text limits forms opener lent left index parent K r
     leading_on {left} r parent (m, u, g) e (inl (x, q)) =
         subst (Turns text limits forms opener lent left index parent K) (sym q) (retired_here limits (level_of forms) text h.stands t k x g.steps)
-    leading_on r parent d e (inr (x, l)) = led_on r parent d e x l
+    leading_on {left} r parent d e (inr (x, u)) =
+        subst (Turns text limits forms opener lent left index parent K) (sym u.1) (led_on u.0 parent d e x u.2)
 
     -- `}` of a counted collection
     pub shut_on : {left : List ℕ} {style : Style} {role : Role} (r : Turn) (parent : ℕ) → Does (level_of forms) c (seen t) (Move.Shut style role) → length left ≡ length from →
-        Shuts s t style role from left r → Turns text limits forms opener lent left index parent K r
+        Shuts s t style role from left r → Turns text limits forms opener lent left index parent K (Ok r)
     shut_on {left} {style} {role} r parent (m, u, g) e l =
-        subst (Turns text limits forms opener lent left index parent K) (sym l.turn_is) (
+        subst (λ (x : Turn). Turns text limits forms opener lent left index parent K (Ok x)) (sym l.turn_is) (
           g.to,
           leads_holds t h g (sign_on limits (level_of forms) text h.stands t k Tokens.curly_close m (λ x. not_arrow t (ap is_arrow m) x) g.steps)
               e (h.count_is ∙ sym (told_length c (role_of role) index))
@@ -235,12 +239,12 @@ module _ (text : List ℕ) (limits : Limits) (forms : Forms) where
 
     -- the comma behind `(name:value`
     pub tuple_on : {left : List ℕ} (r : Turn) (parent : ℕ) → Does (level_of forms) c (seen t) Move.Tuple → (d : Tupled s t from left index r) →
-        length left ≡ length from → Turns text limits forms opener lent left index parent K r
+        length left ≡ length from → Turns text limits forms opener lent left index parent K (Ok r)
     tuple_on {left} r parent (m, p, g) d e =
         let u = paired_held p in
         let ns = before c index in
         let same = roled_length Nodes.name ns in
-        subst (Turns text limits forms opener lent left index parent K) (sym d.led.turn_is) (
+        subst (λ (x : Turn). Turns text limits forms opener lent left index parent K (Ok x)) (sym d.led.turn_is) (
           g.to,
           leads_holds t h g
               (subst (λ (y : ℕ). At limits (level_of forms) text y t.end g.to) (flat_depth m.sign s.deep m.flat_is) (sign_on limits (level_of forms) text h.stands t k m.sign m.class_is (λ x. arrow_paired p g.steps x.arrow) g.steps))
@@ -255,7 +259,7 @@ module _ (text : List ℕ) (limits : Limits) (forms : Forms) where
         )
 
     -- `{` behind a head
-    pub deeper_on : {style : Style} (r : Turn) (parent : ℕ) → Does (level_of forms) c (seen t) (Move.Deeper style) → Deepened s t limits style r → Turns text limits forms opener lent from index parent K r
+    pub deeper_on : {style : Style} (r : Result Turn Refused) (parent : ℕ) → Does (level_of forms) c (seen t) (Move.Deeper style) → Deepened s t limits style r → Turns text limits forms opener lent from index parent K r
     deeper_on {style} r parent (m, g) (inl (d, e)) =
         subst (Turns text limits forms opener lent from index parent K) (sym e)
         (deep_here limits (level_of forms) text h.stands t k (ap opens m) (curly_known limits (level_of forms) text h.stands t m) d g.steps)
@@ -268,7 +272,7 @@ module _ (text : List ℕ) (limits : Limits) (forms : Forms) where
         )
 
     -- no sign takes the token
-    pub wrong_here : (r : Turn) (left : List ℕ) (parent : ℕ) → Does (level_of forms) c (seen t) Move.Wrong → r ≡ Turn.Ended (Read.Refused 6 t.first) → Turns text limits forms opener lent left index parent K r
+    pub wrong_here : (r : Result Turn Refused) (left : List ℕ) (parent : ℕ) → Does (level_of forms) c (seen t) Move.Wrong → r ≡ Err (refused_at Refusal.WrongPlace t) → Turns text limits forms opener lent left index parent K r
     wrong_here r left parent (e, inl n) q =
         subst (Turns text limits forms opener lent left index parent K) (sym q) (not_here limits (level_of forms) text h.stands t k n e)
     wrong_here r left parent (e, inr (m, x)) q =
@@ -276,7 +280,7 @@ module _ (text : List ℕ) (limits : Limits) (forms : Forms) where
 
     -- a count, which is a node by itself
     pub count_on : {left : List ℕ} {style : Style} (r : Turn) (parent : ℕ) → Does (level_of forms) c (seen t) (Move.Count style) → length left ≡ length from →
-        Counted s t style from left index r → Turns text limits forms opener lent left index parent K r
+        Counted s t style from left index r → Turns text limits forms opener lent left index parent K (Ok r)
     count_on {left} {style} r parent n e d =
         let g = n.leads in
         let tells = atom_tells t.kind n.class_is in
@@ -284,7 +288,7 @@ module _ (text : List ℕ) (limits : Limits) (forms : Forms) where
         let put : Put from left (index + 1 + s.nodes) node =
         told_put {e = count_entry t (index + 1 + s.nodes) index} {n = node}
         (record { kind = sym tells.kind_is; first = refl; end = refl; parent = refl; role = refl; detail = sym tells.detail_is; skip = refl }) d.stored in
-        subst (Turns text limits forms opener lent left index parent K) (sym d.turn_is) (
+        subst (λ (x : Turn). Turns text limits forms opener lent left index parent K (Ok x)) (sym d.turn_is) (
           g.to,
           leads_holds t h g
               (literal_on limits (level_of forms) text h.stands t k (ap plain n.class_is)
@@ -295,7 +299,7 @@ module _ (text : List ℕ) (limits : Limits) (forms : Forms) where
 
     -- the bracket's end
     pub close_on : {left : List ℕ} {kind : NodeKind} {detail : ℕ} {role : Role} (r : Turn) (parent : ℕ) → Does (level_of forms) c (seen t) (Move.Close kind detail role) →
-        (d : Closed s t opener.first kind detail role from left index parent r) → Turns text limits forms opener lent left index parent K r
+        (d : Closed s t opener.first kind detail role from left index parent r) → Turns text limits forms opener lent left index parent K (Ok r)
     close_on {left} {kind} {detail} {role} r parent (m, u, g) d =
         let v = g.value in
         let members = before c index ++ roled (role_of role) (last c index) in
@@ -310,7 +314,7 @@ module _ (text : List ℕ) (limits : Limits) (forms : Forms) where
           detail = refl;
           skip = omega (arith, h.count_is, told_length c (role_of role) index);
         }) d.stored in
-        subst (Turns text limits forms opener lent left index parent K) (sym d.turn_is)
+        subst (λ (x : Turn). Turns text limits forms opener lent left index parent K (Ok x)) (sym d.turn_is)
         (record {
           tree = v;
           depth = open_mark m.sign s.deep;
@@ -340,7 +344,7 @@ count_stored {from} {left} {i} {index} t tells says d =
 
 -- ---- a turn, by its move
 
-abbrev Promise : Limits → Token.Token → State.State → Token.Token → Move → List ℕ → List ℕ → ℕ → ℕ → Turn → Type 0
+abbrev Promise : Limits → Token.Token → State.State → Token.Token → Move → List ℕ → List ℕ → ℕ → ℕ → Result Turn Refused → Type 0
 Promise limits opener s t taken from left index parent r = Ends opener t r × Taken limits opener s t taken from left index parent r
 
 pred_fits : (d : ℕ) {m : ℕ} → d ≤ m → pred d ≤ m
@@ -348,56 +352,65 @@ pred_fits zero h = h
 pred_fits (suc d) h = omega (arith, h)
 
 -- the state behind a sign
-advanced : {opener t : Token.Token} {s : State.State} {index parent : ℕ} → Narrow s t index → Outer opener s index parent → (opener.end + s.nodes ≤ t.end) × (s.deep ≤ t.end) × (t.end ≡ t.end)
+advanced : {opener t : Token.Token} {s : State.State} {index : ℕ} → Narrow s t index → Behind opener s → (opener.end + s.nodes ≤ t.end) × (s.deep ≤ t.end) × (t.end ≡ t.end)
 advanced n o = (omega (arith, o.after, n.token_after, n.token_byte), omega (arith, o.deep_fits, n.token_after, n.token_byte), refl)
 
-module _ {limits : Limits} {opener t : Token.Token} {s : State.State} {index parent : ℕ} (n : Narrow s t index) (o : Outer opener s index parent) {taken : Move} {from left : List ℕ} {r : Turn} where
+module _ {limits : Limits} {opener t : Token.Token} {s : State.State} {index parent : ℕ} (n : Narrow s t index) (o : Behind opener s) (b : opener.first < opener.end) {taken : Move} {from left : List ℕ} where
   -- the promise, from what the move does
-  taking : {move : Move} {turn : Turn} → taken ≡ move → r ≡ turn → Ends opener t turn →
+  taking : {r : Result Turn Refused} {move : Move} {turn : Result Turn Refused} → taken ≡ move → r ≡ turn → Ends opener t turn →
       ((text : List ℕ) (forms : Forms) (lent : List ℕ) (K : Stack) (c : Config) → Holds text limits forms opener lent from index K c s →
       Comes text s.at (Next.Token t) → Does (level_of forms) c (seen t) move → Turns text limits forms opener lent left index parent K r) → Promise limits opener s t taken from left index parent r
-  taking {move} {turn} e q x f = (
-    subst (λ (y : Turn). Ends opener t y) (sym q) x,
+  taking {r} {move} {turn} e q x f = (
+    subst (λ (y : Result Turn Refused). Ends opener t y) (sym q) x,
     record { turns = λ text forms lent K c h k d g. f text forms lent K c h k (subst (λ (y : Move). Does (level_of forms) c (seen t) y) e d) },
   )
 
-  pub take_value : {f : Frame} → taken ≡ Move.Value f → r ≡ Turn.Ended (Read.Refused 6 t.first) → Promise limits opener s t taken from left index parent r
-  take_value e q = (subst (λ (y : Turn). Ends opener t y) (sym q) tt, record { turns = λ text forms lent K c h k d g. absurd (false≢true (sym (ap signs e) ∙ g)) })
+  module _ {r : Result Turn Refused} where
+    take_value : {f : Frame} → taken ≡ Move.Value f → r ≡ Err (refused_at Refusal.WrongPlace t) → Promise limits opener s t taken from left index parent r
+    take_value e q = (subst (λ (y : Result Turn Refused). Ends opener t y) (sym q) tt, record { turns = λ text forms lent K c h k d g. absurd (false≢true (sym (ap signs e) ∙ g)) })
 
-  pub take_leading : {mode : Mode} {role : Role} → taken ≡ Move.To mode role → length left ≡ length from → Leading s t limits mode role from left r → Promise limits opener s t taken from left index parent r
-  take_leading {mode} {role} e x l = go l
-    where
-      go : Leading s t limits mode role from left r → Promise limits opener s t taken from left index parent r
-      go (inl (y, q)) = taking e q tt (λ text forms lent K c h k d. leading_on text limits forms t h k r parent d x (inl (y, q)))
-      go (inr (y, d')) = taking e d'.turn_is (advanced n o) (λ text forms lent K c h k d. leading_on text limits forms t h k r parent d x (inr (y, d')))
+    pub take_leading : {mode : Mode} {role : Role} → taken ≡ Move.To mode role → length left ≡ length from → Leading s t limits mode role from left r → Promise limits opener s t taken from left index parent r
+    take_leading {mode} {role} e x l = go l
+      where
+        go : Leading s t limits mode role from left r → Promise limits opener s t taken from left index parent r
+        go (inl (y, q)) = taking e q tt (λ text forms lent K c h k d. leading_on text limits forms t h k r parent d x (inl (y, q)))
+        go (inr (y, u)) = taking e (u.1 ∙ ap (λ (z : Turn). Ok z) u.2.turn_is) (advanced n o) (λ text forms lent K c h k d. leading_on text limits forms t h k r parent d x (inr (y, u)))
 
-  pub take_tuple : taken ≡ Move.Tuple → length left ≡ length from → Tupled s t from left index r → Promise limits opener s t taken from left index parent r
-  take_tuple e x l = taking e l.led.turn_is (advanced n o) (λ text forms lent K c h k d. tuple_on text limits forms t h k r parent d l x)
+    take_group : taken ≡ Move.Group → r ≡ Err (refused_at Refusal.WrongPlace t) → Promise limits opener s t taken from left index parent r
+    take_group e q = taking e q tt (λ text forms lent K c h k d. absurd (group_never text limits forms t h k d))
 
-  pub take_count : {style : Style} → taken ≡ Move.Count style → length left ≡ length from → Counted s t style from left index r → Promise limits opener s t taken from left index parent r
-  take_count e x l =
-      taking e l.turn_is (omega (arith, o.after, n.token_after, n.token_byte), omega (arith, o.deep_fits, n.token_after, n.token_byte), refl) (λ text forms lent K c h k d. count_on text limits forms t h k r parent d x l)
+    take_wrong : taken ≡ Move.Wrong → r ≡ Err (refused_at Refusal.WrongPlace t) → Promise limits opener s t taken from left index parent r
+    take_wrong e q = taking e q tt (λ text forms lent K c h k d. wrong_here text limits forms t h k r left parent d q)
 
-  pub take_shut : {style : Style} {role : Role} → taken ≡ Move.Shut style role → length left ≡ length from → Shuts s t style role from left r → Promise limits opener s t taken from left index parent r
-  take_shut e x l =
-      taking e l.turn_is ((advanced n o).0, pred_fits s.deep (omega (arith, o.deep_fits, n.token_after, n.token_byte)), refl) (λ text forms lent K c h k d. shut_on text limits forms t h k r parent d x l)
+    -- what takes no token
+    pub take_none : ((f : Frame) × (taken ≡ Move.Value f)) ⊎ ((taken ≡ Move.Group) ⊎ (taken ≡ Move.Wrong)) → r ≡ Err (refused_at Refusal.WrongPlace t) → Promise limits opener s t taken from left index parent r
+    take_none (inl x) q = take_value x.1 q
+    take_none (inr (inl e)) q = take_group e q
+    take_none (inr (inr e)) q = take_wrong e q
 
-  pub take_close : {kind : NodeKind} {detail : ℕ} {role : Role} → taken ≡ Move.Close kind detail role → Closed s t opener.first kind detail role from left index parent r → Promise limits opener s t taken from left index parent r
-  take_close e l =
-      taking e l.turn_is (omega (arith, o.after, o.some_byte, n.token_after, n.token_byte), refl) (λ text forms lent K c h k d. close_on text limits forms t h k r parent d l)
+  -- moves that are never refused
+  module _ {r : Turn} where
+    pub take_tuple : taken ≡ Move.Tuple → length left ≡ length from → Tupled s t from left index r → Promise limits opener s t taken from left index parent (Ok r)
+    take_tuple e x l = taking e (ap (λ (z : Turn). Ok z) l.led.turn_is) (advanced n o) (λ text forms lent K c h k d. tuple_on text limits forms t h k r parent d l x)
 
-  pub take_group : taken ≡ Move.Group → r ≡ Turn.Ended (Read.Refused 6 t.first) → Promise limits opener s t taken from left index parent r
-  take_group e q = taking e q tt (λ text forms lent K c h k d. absurd (group_never text limits forms t h k d))
+    pub take_count : {style : Style} → taken ≡ Move.Count style → length left ≡ length from → Counted s t style from left index r → Promise limits opener s t taken from left index parent (Ok r)
+    take_count e x l =
+        taking e (ap (λ (z : Turn). Ok z) l.turn_is) (omega (arith, o.after, n.token_after, n.token_byte), omega (arith, o.deep_fits, n.token_after, n.token_byte), refl) (λ text forms lent K c h k d. count_on text limits forms t h k r parent d x l)
 
-  pub take_wrong : taken ≡ Move.Wrong → r ≡ Turn.Ended (Read.Refused 6 t.first) → Promise limits opener s t taken from left index parent r
-  take_wrong e q = taking e q tt (λ text forms lent K c h k d. wrong_here text limits forms t h k r left parent d q)
+    pub take_shut : {style : Style} {role : Role} → taken ≡ Move.Shut style role → length left ≡ length from → Shuts s t style role from left r → Promise limits opener s t taken from left index parent (Ok r)
+    take_shut e x l =
+        taking e (ap (λ (z : Turn). Ok z) l.turn_is) ((advanced n o).0, pred_fits s.deep (omega (arith, o.deep_fits, n.token_after, n.token_byte)), refl) (λ text forms lent K c h k d. shut_on text limits forms t h k r parent d x l)
+
+    pub take_close : {kind : NodeKind} {detail : ℕ} {role : Role} → taken ≡ Move.Close kind detail role → Closed s t opener.first kind detail role from left index parent r → Promise limits opener s t taken from left index parent (Ok r)
+    take_close e l =
+        taking e (ap (λ (z : Turn). Ok z) l.turn_is) (omega (arith, o.after, b, n.token_after, n.token_byte), refl) (λ text forms lent K c h k d. close_on text limits forms t h k r parent d l)
 
 -- moves that write nothing
-module _ {limits : Limits} {opener t : Token.Token} {s : State.State} {index parent : ℕ} (n : Narrow s t index) (o : Outer opener s index parent) {taken : Move} {from : List ℕ} {r : Turn} where
+module _ {limits : Limits} {opener t : Token.Token} {s : State.State} {index parent : ℕ} (n : Narrow s t index) (o : Behind opener s) (b : opener.first < opener.end) {taken : Move} {from : List ℕ} {r : Result Turn Refused} where
   pub take_deeper : {style : Style} → taken ≡ Move.Deeper style → Deepened s t limits style r → Promise limits opener s t taken from from index parent r
   take_deeper {style} e d = go d
     where
       go : Deepened s t limits style r → Promise limits opener s t taken from from index parent r
-      go (inl (x, q)) = taking n o e q tt (λ text forms lent K c h k f. deeper_on text limits forms t h k r parent f (inl (x, q)))
+      go (inl (x, q)) = taking n o b e q tt (λ text forms lent K c h k f. deeper_on text limits forms t h k r parent f (inl (x, q)))
       go (inr (x, q)) =
-          taking n o e q (omega (arith, o.after, n.token_after, n.token_byte), omega (arith, o.deep_fits, n.token_after, n.token_byte), refl) (λ text forms lent K c h k f. deeper_on text limits forms t h k r parent f (inr (x, q)))
+          taking n o b e q (omega (arith, o.after, n.token_after, n.token_byte), omega (arith, o.deep_fits, n.token_after, n.token_byte), refl) (λ text forms lent K c h k f. deeper_on text limits forms t h k r parent f (inr (x, q)))

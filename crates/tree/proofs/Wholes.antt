@@ -7,8 +7,9 @@ use native.Mathlib.Omega.{arith}
 use lib.ListN.{length, drop}
 use Rattle.lexicon.specs.declared.Token as Token
 use Rattle.lexicon.specs.declared.Next.TheVariants as Next
-use Rattle.lexicon.specs.declared.Encoding.{Encoding}
-use Rattle.lexicon.specs.Utf8.{Encoded}
+use Rattle.std.specs.Result.{MatchResult}
+use Rattle.lexicon.specs.declared.NotUtf8.{NotUtf8}
+use Rattle.lexicon.specs.Utf8.{WellFormed, BadAt, Encoded}
 use Rattle.lexicon.specs.Front.{Front}
 use Rattle.lexicon.specs.Token.{Comes}
 use Rattle.lexicon.proofs.Pieces.{token_bounds}
@@ -23,25 +24,25 @@ use Rattle.reading.specs.declared.Answer.{Answer}
 use Rattle.reading.specs.declared.Limits.{Limits}
 use Rattle.reading.specs.declared.Rules.{Rules}
 use Rattle.reading.specs.Sizes.{room, widest}
-use Rattle.reading.specs.Answers.{LevelOf, Accepted, Answers, answer, no_level, too_long, not_utf8, faulty, no_room, accepted}
+use Rattle.reading.specs.Refusals.{answer_of}
+use Rattle.reading.specs.Answers.{Accepted, Answers, answer, no_level, too_long, not_utf8, faulty, no_room, accepted}
 use Rattle.reading.proofs.First.{all_or_fault}
 use Rattle.reading.proofs.Unique.{one_tree_lem}
 use Rattle.reading.proofs.At as At
 use Rattle.reading.proofs.At.{class_kind_lem, at_start, none_here, not_here, not_wanting}
 use Rattle.moves.specs.declared.Forms.{Forms}
-use Rattle.moves.specs.declared.Shape.{Shape}
 use Rattle.moves.specs.Means.{level_of}
 use Rattle.table.specs.Over.{Written}
 use Rattle.table.proofs.Written.{written_whole}
 use Rattle.look.specs.declared.answer.Read.{Read}
-use Rattle.look.specs.declared.answer.Got.{Got}
-use Rattle.level.specs.declared.Leveled.{Leveled}
-use Rattle.look.specs.Looks.{Gets, handed_on, unformed_by}
+use Rattle.std.specs.Prelude.{Result, Ok, Err}
+use Rattle.reading.specs.declared.Refused.{Refused}
+use Rattle.look.specs.Looks.{Gets, unformed_by}
 use Rattle.look.specs.Ends.{Behind, further, nothing, at_end}
 use Rattle.look.proofs.Looking.{got_token}
-use Rattle.level.specs.Levels.{LevelFound, unleveled_by}
+use Rattle.level.specs.Levels.{LevelFound}
 use Rattle.tree.specs.Readers.{span_of, Faulty, Fit, IsValue, Outcome, Reads}
-use Rattle.tree.specs.Whole.{Whole, JudgedAs, Judged, Told, refusal}
+use Rattle.tree.specs.Whole.{Whole, JudgedAs, Judged, Told, answered}
 use Rattle.tree.proofs.Readings.{refused_here}
 
 -- what the room holds are words of the table
@@ -71,89 +72,90 @@ module _ (text : List ℕ) (limits : Limits) (forms : Forms) where
 
   -- ---- the value of a text
 
-  module _ {lent left : List ℕ} {p : ℕ} (f : Front text p) (g : Got) (x : Gets text p g) where
-    pub whole_missing : {n q : ℕ} (h : Read) → g ≡ Got.Refused n q → h ≡ handed_on g → Judged text limits forms lent left h
-    whole_missing h e y =
-        subst (Judged text limits forms lent left) (sym (y ∙ ap handed_on e)) (record { judged = refused_here text limits forms g (at_start limits (level_of forms) text f) refl x e })
+  module _ {lent left : List ℕ} {p : ℕ} (f : Front text p) {g : Result Token.Token Refused} (x : Gets text p g) where
+    pub whole_missing : {e : Refused} → g ≡ Err e → Judged text limits forms lent left (Err e)
+    whole_missing e = record { judged = refused_here text limits forms (at_start limits (level_of forms) text f) refl x e }
 
-    module _ {t : Token.Token} (e : g ≡ Got.Token t) where
-      module _ (r : Read) (y : Reads text limits forms 0 t lent left 0 0 r) where
-        value_read : (z : Read) → r ≡ z → Outcome text limits forms [] t lent left 0 0 z
-        value_read z q =
-            subst (λ (w : Read). Outcome text limits forms [] t lent left 0 0 w) q
-            (y.outcome [] p (record { stands = at_start limits (level_of forms) text f; comes = got_token text p e x; no_sign = λ m i. refl }))
+    module _ {t : Token.Token} (e : g ≡ Ok t) {r : Result Read Refused} (y : Reads text limits forms 0 t lent left 0 0 r) where
+      value_read : (z : Result Read Refused) → r ≡ z → Outcome text limits forms [] t lent left 0 0 z
+      value_read z q =
+          subst (λ (w : Result Read Refused). Outcome text limits forms [] t lent left 0 0 w) q
+          (y.outcome [] p (record { stands = at_start limits (level_of forms) text f; comes = got_token text p e x; no_sign = λ m i. refl }))
 
-        pub whole_refused : {n q : ℕ} → r ≡ Read.Refused n q → Judged text limits forms lent left r
-        whole_refused {n} {q} i = subst (Judged text limits forms lent left) (sym i) (record { judged = value_read (Read.Refused n q) i })
+      pub whole_refused : {n : Refused} → r ≡ Err n → Judged text limits forms lent left r
+      whole_refused {n} i = subst (Judged text limits forms lent left) (sym i) (record { judged = value_read (Err n) i })
 
-        pub whole_read : {end n : ℕ} {shape : Shape} (z : Read) → r ≡ Read.Value end n shape → Behind text end (Read.Value end n shape) z → Judged text limits forms lent left z
-        whole_read {end} {n} {shape} z i b = record { judged = go z b }
-          where
-            v : IsValue text limits forms [] t end n shape lent left 0 0
-            v = value_read (Read.Value end n shape) i
+      pub whole_read : {a : Read} (z : Result Read Refused) → r ≡ Ok a → Behind text a.end a z → Judged text limits forms lent left z
+      whole_read {a} z i b = record { judged = go z b }
+        where
+          v : IsValue text limits forms [] t a.end a.nodes a.shape lent left 0 0
+          v = value_read (Ok a) i
 
-            go : (w : Read) → Behind text end (Read.Value end n shape) w → JudgedAs text limits forms lent left w
-            go w (further {t = u} k) =
-                not_here limits (level_of forms) text v.stands u k (not_wanting refl)
-                (stuck (level_of forms) (class_kind u.kind) v.tree (span_of u) (λ q. v.stops u k (class_kind_lem u.kind q)))
-            go w (nothing {q = q} k) = none_here limits (level_of forms) text v.stands q k
-            go w (at_end {q = q} k) =
-                record { tree = v.tree; accepted = (At.accepted limits (level_of forms) text v.stands q k).0; count_is = v.count_is; written = v.written }
+          go : (w : Result Read Refused) → Behind text a.end a w → JudgedAs text limits forms lent left w
+          go w (further {t = u} k) =
+              not_here limits (level_of forms) text v.stands u k (not_wanting refl)
+              (stuck (level_of forms) (class_kind u.kind) v.tree (span_of u) (λ q. v.stops u k (class_kind_lem u.kind q)))
+          go w (nothing {q = q} k) = none_here limits (level_of forms) text v.stands q k
+          go w (at_end {q = q} k) =
+              record { tree = v.tree; accepted = (At.accepted limits (level_of forms) text v.stands q k).0; count_is = v.count_is; written = v.written }
 
 -- ---- the answer
 
 module _ (text : List ℕ) (forms : Forms) (rules : Rules) (lent : List ℕ) (h : length text ≤ rules.text) where
-  pub told_refused : {none left' : List ℕ} {n q : ℕ} {r : Answer} (z : Read) → Judged text rules.limits forms none left' z → z ≡ Read.Refused n q → r ≡ refusal z → Told text rules forms lent lent r
-  told_refused {none} {left'} z j e i =
-      let f = subst (λ (w : Read). JudgedAs text rules.limits forms none left' w) e j.judged in
-      record { answers = λ number o w. subst (λ (s : Answer). Answers rules text lent number s lent) (sym (i ∙ ap refusal e)) (record { tree = _; reading = faulty o h w f; left_is = refl }) }
+  pub told_refused : {none left' : List ℕ} {e : Refused} {z : Result Read Refused} → Judged text rules.limits forms none left' z → z ≡ Err e → Told text rules forms lent lent (Err e)
+  told_refused {none} {left'} j i =
+      let f = subst (λ (w : Result Read Refused). JudgedAs text rules.limits forms none left' w) i j.judged in
+      record { answers = λ number o w. record { tree = _; reading = faulty o h w f; left_is = refl } }
 
-  module _ {none left' : List ℕ} {end n : ℕ} {shape : Shape} (z : Read) (j : Judged text rules.limits forms none left' z) (e : z ≡ Read.Value end n shape) where
-    judged_whole : Whole text rules.limits forms none left' n
-    judged_whole = subst (λ (w : Read). JudgedAs text rules.limits forms none left' w) e j.judged
+  module _ {none left' : List ℕ} {a : Read} {z : Result Read Refused} (j : Judged text rules.limits forms none left' z) (e : z ≡ Ok a) where
+    judged_whole : Whole text rules.limits forms none left' a.nodes
+    judged_whole = subst (λ (w : Result Read Refused). JudgedAs text rules.limits forms none left' w) e j.judged
 
-    pub told_full : {m : ℕ} → m ≡ room rules (length lent) → m < n → Told text rules forms lent lent (answer 8 (length text) n)
-    told_full q l =
+    pub told_full : {m : ℕ} {r : Answer} → m ≡ room rules (length lent) → m < a.nodes → r ≡ answer 8 (length text) a.nodes → Told text rules forms lent lent (Ok r)
+    told_full q l i =
         let v = judged_whole in
         record {
           answers = λ number o w.
-              subst (λ (c : ℕ). Answers rules text lent number (answer 8 (length text) c) lent) (sym v.count_is)
+              subst (λ (s : Answer). Answers rules text lent number s lent) (sym (i ∙ ap (λ (c : ℕ). answer 8 (length text) c) v.count_is))
               (record { tree = _; reading = no_room o h w v.accepted (omega (arith, q, l, v.count_is)); left_is = refl });
         }
 
-    written_as : {m : ℕ} {left : List ℕ} (y : Read) → m ≡ room rules (length lent) → n ≤ m → JudgedAs text rules.limits forms lent left y → Told text rules forms lent left (answer 0 (length text) n)
-    written_as {m} {left} (Read.Refused c q) i l d = absurd (accepted_faultless text rules.limits forms judged_whole.accepted c q d)
-    written_as {m} {left} (Read.Value end' c shape') i l d =
+    written_as : {m : ℕ} {left : List ℕ} {r : Answer} (y : Result Read Refused) → m ≡ room rules (length lent) → a.nodes ≤ m → JudgedAs text rules.limits forms lent left y → r ≡ answer 0 (length text) a.nodes →
+        Told text rules forms lent left (Ok r)
+    written_as (Err f) i l d x = absurd (accepted_faultless text rules.limits forms judged_whole.accepted _ _ d)
+    written_as {m} {left} (Ok b) i l d x =
         let v = judged_whole in
         let same : v.tree ≡ d.tree = one_tree_lem rules.limits text refl v.accepted d.accepted in
-        let fits : n ≤ room rules (length lent) = omega (arith, i, l) in
+        let fits : a.nodes ≤ room rules (length lent) = omega (arith, i, l) in
         let w : left ≡ table_words (table v.tree) ++ drop (node_words * length (table v.tree)) lent =
         written_whole (subst (λ (t : Value). Written lent left 0 (table t)) (sym same) d.written) (roomy rules (length (table v.tree)) (length lent) (omega (arith, fits, v.count_is))) in
         record {
           answers = λ number o u.
-              subst (λ (x : ℕ). Answers rules text lent number (answer 0 (length text) x) left) (sym v.count_is)
+              subst (λ (s : Answer). Answers rules text lent number s left) (sym (x ∙ ap (λ (c : ℕ). answer 0 (length text) c) v.count_is))
               (record { tree = some v.tree; reading = accepted o h u v.accepted (omega (arith, fits, v.count_is)); left_is = w });
         }
 
-    pub told_written : {m : ℕ} {left : List ℕ} (y : Read) → m ≡ room rules (length lent) → n ≤ m → Judged text rules.limits forms lent left y → Told text rules forms lent left (answer 0 (length text) n)
-    told_written y i l d = written_as y i l d.judged
+    pub told_written : {m : ℕ} {left : List ℕ} {r : Answer} {y : Result Read Refused} → m ≡ room rules (length lent) → a.nodes ≤ m → Judged text rules.limits forms lent left y → r ≡ answer 0 (length text) a.nodes →
+        Told text rules forms lent left (Ok r)
+    told_written {y = y} i l d x = written_as y i l d.judged x
 
 -- ---- the tests over the whole text
 
-module _ (rules : Rules) (text lent : List ℕ) (number : ℕ) (l : Leveled) (x : LevelFound number l) where
-  pub read_no_level : {r : Answer} → l ≡ Leveled.Nothing → r ≡ unleveled_by l → Answers rules text lent number r lent
-  read_no_level e q = subst (λ (s : Answer). Answers rules text lent number s lent) (sym (q ∙ ap unleveled_by e)) (record { tree = _; reading = no_level (subst (λ (y : Leveled). LevelFound number y) e x); left_is = refl })
+-- what the UTF-8 test refuses, as a refusal
+pub unformed_at : {text : List ℕ} (r : Result (Unit {0}) NotUtf8) {e : Refused} → MatchResult r (λ x. ⊥) (λ f. e ≡ unformed_by f) → Encoded text r → (f : NotUtf8) × (e ≡ unformed_by f) × BadAt text f.at
+unformed_at (Ok x) m y = absurd m
+unformed_at (Err f) m y = (f, m, y)
 
-  module _ {forms : Forms} (e : l ≡ Leveled.Has forms) where
-    of_level : LevelOf number (level_of forms)
-    of_level = subst (λ (y : Leveled). LevelFound number y) e x
+module _ (rules : Rules) (text lent : List ℕ) (number : ℕ) where
+  pub read_no_level : {e : Refused} → LevelFound number (Err e) → Answers rules text lent number (answer_of e) lent
+  read_no_level x = subst (λ (s : Refused). Answers rules text lent number (answer_of s) lent) (sym x.0) (record { tree = _; reading = no_level x.1; left_is = refl })
 
-    pub read_long : {r : Answer} → rules.text < length text → r ≡ answer 2 0 0 → Answers rules text lent number r lent
-    read_long h q = subst (λ (s : Answer). Answers rules text lent number s lent) (sym q) (record { tree = _; reading = too_long of_level h; left_is = refl })
+  module _ {forms : Forms} (l : LevelFound number (Ok forms)) where
+    pub read_long : rules.text < length text → Answers rules text lent number (answer 2 0 0) lent
+    read_long h = record { tree = _; reading = too_long l h; left_is = refl }
 
-    module _ (h : length text ≤ rules.text) (c : Encoding) (y : Encoded text c) where
-      pub read_bad : {p : ℕ} {r : Answer} → c ≡ Encoding.BadAt p → r ≡ unformed_by c → Answers rules text lent number r lent
-      read_bad i q = subst (λ (s : Answer). Answers rules text lent number s lent) (sym (q ∙ ap unformed_by i)) (record { tree = _; reading = not_utf8 of_level h (subst (λ (z : Encoding). Encoded text z) i y); left_is = refl })
+    pub read_bad : length text ≤ rules.text → {p : ℕ} → BadAt text p → Answers rules text lent number (answer 3 p 0) lent
+    read_bad h b = record { tree = _; reading = not_utf8 l h b; left_is = refl }
 
-      pub read_told : {left : List ℕ} {r : Answer} → c ≡ Encoding.WellFormed → Told text rules forms lent left r → Answers rules text lent number r left
-      read_told i d = d.answers number of_level (subst (λ (z : Encoding). Encoded text z) i y)
+    pub read_told : {left : List ℕ} {r : Result Answer Refused} → WellFormed text → Told text rules forms lent left r → Answers rules text lent number (answered r) left
+    read_told w d = d.answers number l w

@@ -1,5 +1,5 @@
 -- What a reader of a value, and of a bracket's members, leaves behind. Assumes nothing.
-use Rattle.std.specs.Prelude.{◌≡◌, Bool, true, false, List, ◌∷◌, ℕ, suc, ◌+◌, ◌≤◌, ◌<◌, length}
+use Rattle.std.specs.Prelude.{◌≡◌, Bool, true, false, List, ◌∷◌, ℕ, suc, ◌+◌, ◌≤◌, ◌<◌, length, Result, Ok, Err}
 use Rattle.std.proofs.Math.Option.{none}
 use Rattle.lexicon.specs.declared.Head.{Head}
 use Rattle.lexicon.specs.declared.Form.TheVariants as Form
@@ -16,6 +16,8 @@ use Rattle.grammar.proofs.Frames as Frames
 use Rattle.grammar.proofs.Frames.{Config, Stack, want, have, names_of}
 use Rattle.grammar.proofs.Machine.{want_mark}
 use Rattle.reading.specs.declared.Limits.{Limits}
+use Rattle.reading.specs.declared.Refused.{Refused}
+use Rattle.reading.specs.Refusals.{number_of}
 use Rattle.reading.specs.Sizes.{widest}
 use Rattle.reading.specs.Tokens.{seen}
 use Rattle.reading.specs.Faults.{FirstFault}
@@ -30,15 +32,16 @@ use Rattle.moves.specs.Effects.{head_bare, nested, held, opening, Does, Begins}
 use Rattle.table.specs.Over.{Written}
 use Rattle.look.specs.declared.answer.Read.{Read}
 use Rattle.tree.specs.declared.bracket.State as State
+use Rattle.tree.specs.declared.start.Start as Start
 use Rattle.tree.specs.declared.bracket.Turn.{Turn}
 use Rattle.look.specs.Looks.{NotNext, NoHead}
 use Rattle.begin.specs.Signs.{no_mark, is_close_of, literal}
 
 -- the numbers of a turn that reads no value
-abbrev pub Ends : Token.Token → Token.Token → Turn → Type 0
-Ends opener t (Turn.On n) = (opener.end + n.nodes ≤ n.at) × (n.deep ≤ n.at) × (n.at ≡ t.end)
-Ends opener t (Turn.Ended (Read.Value end n shape)) = (opener.first + n ≤ end) × (end ≡ t.end)
-Ends opener t (Turn.Ended (Read.Refused n q)) = Unit {0}
+abbrev pub Ends : Token.Token → Token.Token → Result Turn Refused → Type 0
+Ends opener t (Ok (Turn.On n)) = (opener.end + n.nodes ≤ n.at) × (n.deep ≤ n.at) × (n.at ≡ t.end)
+Ends opener t (Ok (Turn.Ended v)) = (opener.first + v.nodes ≤ v.end) × (v.end ≡ t.end)
+Ends opener t (Err e) = Unit {0}
 
 -- the state in which a bracket is entered
 abbrev pub entering : Mode → ℕ → ℕ → ℕ → State.State
@@ -74,9 +77,14 @@ module _ (text : List ℕ) where
     pub index_fits : index ≤ t.first
     pub parent_fits : parent ≤ index
 
-  abbrev pub Sized : Token.Token → Read → Type 0
-  Sized t (Read.Value end n shape) = (t.first + n ≤ end) × (t.end ≤ end) × (end ≤ length text)
-  Sized t (Read.Refused n q) = Unit {0}
+  -- a value's start in the text
+  pub record Within (start : Start.Start) : Type 0 where
+    pub short : length text ≤ widest
+    pub inside_text : start.token.end ≤ length text
+
+  abbrev pub Sized : Token.Token → Result Read Refused → Type 0
+  Sized t (Ok v) = (t.first + v.nodes ≤ v.end) × (t.end ≤ v.end) × (v.end ≤ length text)
+  Sized t (Err e) = Unit {0}
 
   -- a bracket's members so far
   pub record Inner (opener : Token.Token) (s : State.State) (index parent : ℕ) : Type 0 where
@@ -85,20 +93,25 @@ module _ (text : List ℕ) where
     pub deep_fits : s.deep ≤ s.at
     pub inside_text : s.at ≤ length text
 
-  abbrev pub Refuses : Read → Type 0
-  Refuses (Read.Value end n shape) = ⊥
-  Refuses (Read.Refused n q) = Unit {0}
+  -- the same of a bracket that begins there
+  pub record Inside (start : Start.Start) (s : State.State) : Type 0 where
+    pub within : Within start
+    pub after : start.token.end + s.nodes ≤ s.at
+    pub deep_fits : s.deep ≤ s.at
+    pub inside_text : s.at ≤ length text
 
   -- one turn leads on
-  abbrev pub Turned : Token.Token → State.State → Turn → Type 0
-  Turned opener s (Turn.On n) = (opener.end + n.nodes ≤ n.at) × (n.deep ≤ n.at) × (s.at < n.at) ×
+  abbrev pub Turned : Token.Token → State.State → Result Turn Refused → Type 0
+  Turned opener s (Ok (Turn.On n)) = (opener.end + n.nodes ≤ n.at) × (n.deep ≤ n.at) × (s.at < n.at) ×
       (n.at ≤ length text)
-  Turned opener s (Turn.Ended r) = Sized opener r
+  Turned opener s (Ok (Turn.Ended v)) = Sized opener (Ok v)
+  Turned opener s (Err e) = Unit {0}
 
-  abbrev pub Born : State.State → Token.Token → Turn → Type 0
-  Born s t (Turn.On n) = (t.first + n.nodes ≤ n.at + s.nodes) × (n.deep ≡ s.deep) × (t.end ≤ n.at) ×
+  abbrev pub Born : State.State → Token.Token → Result Turn Refused → Type 0
+  Born s t (Ok (Turn.On n)) = (t.first + n.nodes ≤ n.at + s.nodes) × (n.deep ≡ s.deep) × (t.end ≤ n.at) ×
       (n.at ≤ length text)
-  Born s t (Turn.Ended r) = Refuses r
+  Born s t (Ok (Turn.Ended v)) = ⊥
+  Born s t (Err e) = Unit {0}
 
   module _ (limits : Limits) (forms : Forms) where
     abbrev pub Stands : ℕ → ℕ → Config → Type 0
@@ -131,12 +144,12 @@ module _ (text : List ℕ) where
       pub count_is : n ≡ length (nodes tree parent Nodes.root index)
       pub written : Written lent left index (nodes tree parent Nodes.root index)
 
-    abbrev pub Outcome : Stack → Token.Token → List ℕ → List ℕ → ℕ → ℕ → Read → Type 0
-    Outcome K t lent left index parent (Read.Value end n shape) = IsValue K t end n shape lent left index parent
-    Outcome K t lent left index parent (Read.Refused n q) = Faulty n q
+    abbrev pub Outcome : Stack → Token.Token → List ℕ → List ℕ → ℕ → ℕ → Result Read Refused → Type 0
+    Outcome K t lent left index parent (Ok v) = IsValue K t v.end v.nodes v.shape lent left index parent
+    Outcome K t lent left index parent (Err e) = Faulty (number_of e.refusal) e.place
 
     -- the promise of the value reader
-    pub record Reads (d : ℕ) (t : Token.Token) (lent left : List ℕ) (index parent : ℕ) (r : Read) : Type 0 where
+    pub record Reads (d : ℕ) (t : Token.Token) (lent left : List ℕ) (index parent : ℕ) (r : Result Read Refused) : Type 0 where
       pub sized : Sized t r
       pub outcome : (K : Stack) (at : ℕ) → Asks K d at t → Outcome K t lent left index parent r
 
@@ -164,13 +177,14 @@ module _ (text : List ℕ) where
       pub written : Written lent left (index + 1) (children c index)
 
     -- one turn: the bracket goes on, or ends as the value that the opener begins
-    abbrev pub Turns : Token.Token → List ℕ → List ℕ → ℕ → ℕ → Stack → Turn → Type 0
-    Turns opener lent left index parent K (Turn.On s) = (c : Config) × Holds opener lent left index K c s
-    Turns opener lent left index parent K (Turn.Ended r) = Outcome K opener lent left index parent r
+    abbrev pub Turns : Token.Token → List ℕ → List ℕ → ℕ → ℕ → Stack → Result Turn Refused → Type 0
+    Turns opener lent left index parent K (Ok (Turn.On s)) = (c : Config) × Holds opener lent left index K c s
+    Turns opener lent left index parent K (Ok (Turn.Ended v)) = Outcome K opener lent left index parent (Ok v)
+    Turns opener lent left index parent K (Err e) = Faulty (number_of e.refusal) e.place
 
     -- the promise of a turn that reads a value
     pub record Bore (s : State.State) (t : Token.Token) (frame : Frame) (from left : List ℕ) (index : ℕ)
-        (r : Turn) : Type 0 where
+        (r : Result Turn Refused) : Type 0 where
       pub born : Born s t r
       pub turns : (opener : Token.Token) (parent : ℕ) (lent : List ℕ) (K : Stack) (c : Config) →
           Holds opener lent from index K c s → Comes text s.at (Next.Token t) →
@@ -178,20 +192,20 @@ module _ (text : List ℕ) where
 
     -- of any
     pub record Member (opener : Token.Token) (s : State.State) (from left : List ℕ) (index parent : ℕ)
-        (r : Turn) : Type 0 where
+        (r : Result Turn Refused) : Type 0 where
       pub turned : Turned opener s r
       pub turns : (lent : List ℕ) (K : Stack) (c : Config) → Holds opener lent from index K c s →
           Turns opener lent left index parent K r
 
     -- of a bracket, from the state in which it is entered
     pub record Bracketed (opener : Token.Token) (s : State.State) (from left : List ℕ) (index parent : ℕ)
-        (r : Read) : Type 0 where
+        (r : Result Read Refused) : Type 0 where
       pub sized : Sized opener r
       pub outcome : (lent : List ℕ) (K : Stack) (c : Config) → Holds opener lent from index K c s →
           Outcome K opener lent left index parent r
 
     -- behind `(`
-    pub record Rounded (d : ℕ) (opener : Token.Token) (lent left : List ℕ) (index parent : ℕ) (r : Read) : Type 0 where
+    pub record Rounded (d : ℕ) (opener : Token.Token) (lent left : List ℕ) (index parent : ℕ) (r : Result Read Refused) : Type 0 where
       pub sized : Sized opener r
       pub outcome : (K : Stack) → Stands (suc d) opener.end (want (opened opener K)) → NoHead text opener.end →
           Outcome K opener lent left index parent r
@@ -199,16 +213,16 @@ module _ (text : List ℕ) where
 -- ---- literals and Nestings
 
 -- one node, from the token's first byte to its end
-abbrev pub Alone : Token.Token → Read → Type 0
-Alone t (Read.Value end n shape) = (n ≡ 1) × (end ≡ t.end)
-Alone t (Read.Refused n q) = Unit {0}
+abbrev pub Alone : Token.Token → Result Read Refused → Type 0
+Alone t (Ok v) = (v.nodes ≡ 1) × (v.end ≡ t.end)
+Alone t (Err e) = Unit {0}
 
-pub record Literal (text : List ℕ) (t : Token.Token) (lent left : List ℕ) (index parent : ℕ) (r : Read) : Type 0 where
+pub record Literal (text : List ℕ) (t : Token.Token) (lent left : List ℕ) (index parent : ℕ) (r : Result Read Refused) : Type 0 where
   pub sized : Alone t r
   pub outcome : (limits : Limits) (forms : Forms) (K : Stack) (d at : ℕ) → Asks text limits forms K d at t →
       literal (class_kind t.kind) ≡ true → Outcome text limits forms K t lent left index parent r
 
-pub record Nesting (text : List ℕ) (t : Token.Token) (lent left : List ℕ) (index parent : ℕ) (r : Read) : Type 0 where
+pub record Nesting (text : List ℕ) (t : Token.Token) (lent left : List ℕ) (index parent : ℕ) (r : Result Read Refused) : Type 0 where
   pub sized : Sized text t r
   pub outcome : (limits : Limits) (forms : Forms) (K : Stack) (d at : ℕ) → Asks text limits forms K d at t →
       t.kind ≡ Kind.TwoColons → Outcome text limits forms K t lent left index parent r
@@ -216,7 +230,7 @@ pub record Nesting (text : List ℕ) (t : Token.Token) (lent left : List ℕ) (i
 -- ---- the promise of a turn that reads no value
 
 pub record Taken (limits : Limits) (opener : Token.Token) (s : State.State) (t : Token.Token) (taken : Move)
-    (from left : List ℕ) (index parent : ℕ) (r : Turn) : Type 0 where
+    (from left : List ℕ) (index parent : ℕ) (r : Result Turn Refused) : Type 0 where
   pub turns : (text : List ℕ) (forms : Forms) (lent : List ℕ) (K : Stack) (c : Config) →
       Holds text limits forms opener lent from index K c s → Comes text s.at (Next.Token t) →
       Does (level_of forms) c (seen t) taken → signs taken ≡ true →

@@ -1,8 +1,10 @@
 -- What the functions of one turn compute: the next state and the words written. Assumes nothing.
-use Rattle.std.specs.Prelude.{◌≡◌, ◌⊎◌, List, ℕ, ◌+◌, ◌≤◌, ◌<◌, pred, length}
+use Rattle.std.specs.Prelude.{◌≡◌, ◌⊎◌, List, ℕ, ◌+◌, ◌≤◌, ◌<◌, pred, length, Result, Ok, Err}
 use Rattle.lexicon.specs.declared.Token as Token
 use Rattle.grammar.specs.Nodes.{kind_number_of}
 use Rattle.reading.specs.declared.Limits.{Limits}
+use Rattle.reading.specs.declared.Refusal.{Refusal}
+use Rattle.reading.specs.declared.Refused.{Refused}
 use Rattle.reading.specs.Sizes.{widest}
 use Rattle.reading.specs.Faults.{Retired}
 use Rattle.moves.specs.declared.NodeKind.{NodeKind}
@@ -18,7 +20,7 @@ use Rattle.moves.specs.Means.{node_kind_of}
 use Rattle.table.specs.declared.Entry as Entry
 use Rattle.table.specs.Over.{Stored, entry_words, Assigned}
 use Rattle.tree.specs.Tellings.{leaf_kind, leaf_detail}
-use Rattle.look.specs.declared.answer.Read.TheVariants as Read
+use Rattle.begin.specs.Begins.{refused_at}
 use Rattle.tree.specs.declared.bracket.State as State
 use Rattle.tree.specs.declared.bracket.Turn.{Turn}
 
@@ -32,10 +34,7 @@ pub record Narrow (s : State.State) (t : Token.Token) (index : ℕ) : Type 0 whe
   pub short : t.end ≤ widest
 
 -- of the bracket's first token
-pub record Outer (opener : Token.Token) (s : State.State) (index parent : ℕ) : Type 0 where
-  pub some_byte : opener.first < opener.end
-  pub index_fits : index ≤ opener.first
-  pub parent_fits : parent ≤ index
+pub record Behind (opener : Token.Token) (s : State.State) : Type 0 where
   pub after : opener.end + s.nodes ≤ s.at
   pub deep_fits : s.deep ≤ s.at
 
@@ -74,10 +73,10 @@ module _ (s : State.State) (t : Token.Token) where
     pub role_is : Assigned from left s.last role
 
   -- unless the sign is retired
-  abbrev pub Leading : Limits → Mode → Role → List ℕ → List ℕ → Turn → Type 0
+  abbrev pub Leading : Limits → Mode → Role → List ℕ → List ℕ → Result Turn Refused → Type 0
   Leading limits mode role from left r =
-      (Retired limits t × (r ≡ Turn.Ended (Read.Refused 15 t.first))) ⊎
-      ((Retired limits t → ⊥) × Led mode role from left r)
+      (Retired limits t × (r ≡ Err (refused_at Refusal.RetiredArrow t))) ⊎
+      ((Retired limits t → ⊥) × ((turn : Turn) × (r ≡ Ok turn) × Led mode role from left turn))
 
   pub record Tupled (from left : List ℕ) (index : ℕ) (r : Turn) : Type 0 where
     pub named : List ℕ
@@ -89,12 +88,12 @@ module _ (s : State.State) (t : Token.Token) where
     pub turn_is : r ≡ Turn.On (behind s (Mode.Counted style) t s.deep (s.nodes + 1))
     pub stored : Stored from left (index + 1 + s.nodes) (entry_words (count_entry t (index + 1 + s.nodes) index))
 
-  abbrev pub Deepened : Limits → Style → Turn → Type 0
+  abbrev pub Deepened : Limits → Style → Result Turn Refused → Type 0
   Deepened limits style r =
-      ((limits.depth ≤ s.deep) × (r ≡ Turn.Ended (Read.Refused 11 t.first))) ⊎
+      ((limits.depth ≤ s.deep) × (r ≡ Err (refused_at Refusal.TooDeep t))) ⊎
       ((s.deep < limits.depth) ×
-      (r ≡ Turn.On (behind s (Mode.Want (Frame.Curly (Curly.Members style Front.Start))) t (s.deep + 1)
-      s.nodes)))
+      (r ≡ Ok (Turn.On (behind s (Mode.Want (Frame.Curly (Curly.Members style Front.Start))) t (s.deep + 1)
+      s.nodes))))
 
   pub record Shuts (style : Style) (role : Role) (from left : List ℕ) (r : Turn) : Type 0 where
     pub turn_is : r ≡ Turn.On (behind s (Mode.Headed style) t (pred s.deep) s.nodes)
@@ -102,7 +101,7 @@ module _ (s : State.State) (t : Token.Token) where
 
   pub record Closed (first : ℕ) (kind : NodeKind) (detail : ℕ) (role : Role) (from left : List ℕ)
       (index parent : ℕ) (r : Turn) : Type 0 where
-    pub turn_is : r ≡ Turn.Ended (Read.Value t.end (s.nodes + 1) Shape.Other)
+    pub turn_is : r ≡ Turn.Ended (record { end = t.end; nodes = s.nodes + 1; shape = Shape.Other })
     pub told : List ℕ
     pub length_is : length told ≡ length from
     pub role_is : Assigned from told s.last role

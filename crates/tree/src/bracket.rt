@@ -1,22 +1,23 @@
 // Inside a bracket: where the reader stands, and what a sign or a count does there.
 // A function with a `requires` is this crate's own: the numbers that it asks for hold in every text that is read.
-ghost use Rattle.std.specs.Prelude.{◌≡◌, pred, ◌≤◌};
+ghost use Rattle.std.specs.Prelude.{◌≡◌, ◌≤◌};
 ghost use Rattle.reading.specs.Sizes.{widest};
-ghost use Rattle.look.specs.declared.answer.Read.TheVariants as Read;
-ghost use Rattle.tree.specs.declared.bracket.Turn.TheVariants as Turn;
+ghost use Rattle.reading.specs.declared.Refusal.{Refusal};
+ghost use Rattle.begin.specs.Begins.{refused_at};
 ghost use Rattle.tree.specs.Readers.{entering as entering_of, Ends, Taken};
-ghost use Rattle.tree.specs.Turning.{Narrow, Outer, Led, Leading, Tupled, Counted, Deepened, Shuts, Closed};
+ghost use Rattle.tree.specs.Turning.{Narrow, Behind, Led, Leading, Tupled, Counted, Deepened, Shuts, Closed};
 
 use crate::leaf::told;
+use crate::start::Start;
 use begin::sign::is_retired;
 use lexicon::Token;
 use look::answer::Read;
 use moves::{CurlyFrame, Frame, Front, Mode, Move, NodeKind, Role, RoundFrame, Shape, Style};
-use reading::Limits;
+use reading::{Limits, Refusal, Refused};
 use table::{Entry, assign, put};
 
 // What is expected, from which place; the open brackets; the nodes of the members so far; the last member's first node.
-#[derive(Drop)]
+#[derive(Clone, Copy)]
 pub struct State {
     pub mode: Mode,
     pub at: usize,
@@ -26,7 +27,7 @@ pub struct State {
 }
 
 // The bracket goes on, or has ended.
-#[derive(Drop)]
+#[derive(Clone, Copy)]
 pub enum Turn {
     On(State),
     Ended(Read),
@@ -54,23 +55,28 @@ fn lead_on(s: State, mode: Mode, role: Role, t: Token, table: &mut [u32]) -> Tur
     Turn::On(State {
         mode,
         at: t.end,
-        deep: s.deep,
-        nodes: s.nodes,
-        last: s.last,
+        ..s
     })
 }
 
 // A sign that may be read leads on; one that is retired is refused where it would have led on.
-fn lead(limits: Limits, s: State, mode: Mode, role: Role, t: Token, table: &mut [u32]) -> Turn
+fn lead(
+    limits: Limits,
+    s: State,
+    mode: Mode,
+    role: Role,
+    t: Token,
+    table: &mut [u32],
+) -> Result<Turn, Refused>
     ensures { Leading s t limits mode role table.old table.new result }
 {
     if is_retired(limits, t) {
-        return Turn::Ended(Read::Refused {
-            number: 15,
+        return Err(Refused {
+            refusal: Refusal::RetiredArrow,
             place: t.first,
         });
     }
-    lead_on(s, mode, role, t, table)
+    Ok(lead_on(s, mode, role, t, table))
 }
 
 // The comma behind `(name:value`.
@@ -92,8 +98,7 @@ fn count(s: State, style: Style, t: Token, table: &mut [u32], index: usize) -> T
     requires { Narrow s t index }
     ensures { Counted s t style table.old table.new index result }
 {
-    let literal = t.kind;
-    let tells = told(literal);
+    let tells = told(t.kind);
     let place = index + 1 + s.nodes;
     put(
         table,
@@ -111,41 +116,30 @@ fn count(s: State, style: Style, t: Token, table: &mut [u32], index: usize) -> T
     Turn::On(State {
         mode: Mode::Counted(style),
         at: t.end,
-        deep: s.deep,
         nodes: s.nodes + 1,
-        last: s.last,
+        ..s
     })
 }
 
 // `{` behind a head, if there may be one bracket more.
-fn deeper(limits: Limits, s: State, style: Style, t: Token) -> Turn
+fn deeper(limits: Limits, s: State, style: Style, t: Token) -> Result<Turn, Refused>
     ensures { Deepened s t limits style result }
 {
     if s.deep >= limits.depth {
-        return Turn::Ended(Read::Refused {
-            number: 11,
+        return Err(Refused {
+            refusal: Refusal::TooDeep,
             place: t.first,
         });
     }
-    Turn::On(State {
+    Ok(Turn::On(State {
         mode: Mode::Want(Frame::Curly(CurlyFrame::Members {
             style,
             front: Front::Start,
         })),
         at: t.end,
         deep: s.deep + 1,
-        nodes: s.nodes,
-        last: s.last,
-    })
-}
-
-fn less(n: usize) -> usize
-    ensures { result ≡ pred n }
-{
-    if n == 0 {
-        return 0;
-    }
-    n - 1
+        ..s
+    }))
 }
 
 // `}` of a counted collection.
@@ -156,54 +150,51 @@ fn shut(s: State, style: Style, role: Role, t: Token, table: &mut [u32]) -> Turn
     Turn::On(State {
         mode: Mode::Headed(style),
         at: t.end,
-        deep: less(s.deep),
-        nodes: s.nodes,
-        last: s.last,
+        deep: s.deep.saturating_sub(1),
+        ..s
     })
 }
 
 // The bracket's end: its node, in front of its members'.
 fn close(
-    first: usize,
+    start: Start,
     s: State,
     t: Token,
     kind: NodeKind,
     detail: u32,
     role: Role,
     table: &mut [u32],
-    index: usize,
-    parent: usize,
 ) -> Turn
-    requires { Narrow s t index × (first ≤ t.first) × (parent ≤ index) }
-    ensures { Closed s t first kind detail role table.old table.new index parent result }
+    requires { Narrow s t start.index × (start.token.first ≤ t.first) }
+    ensures { Closed s t start.token.first kind detail role table.old table.new start.index start.parent result }
 {
     let nodes = s.nodes + 1;
     assign(table, s.last, role);
     put(
         table,
-        index,
+        start.index,
         Entry {
             kind: kind as u32,
-            first: first as u32,
+            first: start.token.first as u32,
             end: t.end as u32,
-            parent: parent as u32,
+            parent: start.parent as u32,
             role: Role::Root,
             detail,
-            skip: (index + nodes) as u32,
+            skip: (start.index + nodes) as u32,
         },
     );
-    Turn::Ended(Read::Value {
+    Turn::Ended(Read {
         end: t.end,
         nodes,
         shape: Shape::Other,
     })
 }
 
-fn wrong(t: Token) -> Turn
-    ensures { result ≡ Turn.Ended (Read.Refused 6 t.first) }
+fn wrong(t: Token) -> Result<Turn, Refused>
+    ensures { result ≡ Err (refused_at Refusal.WrongPlace t) }
 {
-    Turn::Ended(Read::Refused {
-        number: 6,
+    Err(Refused {
+        refusal: Refusal::WrongPlace,
         place: t.first,
     })
 }
@@ -211,37 +202,23 @@ fn wrong(t: Token) -> Turn
 // Carries out the move of a token that begins no value. A group does not come here: its end is looked for behind its value.
 pub(crate) fn take(
     limits: Limits,
-    opener: Token,
+    start: Start,
     s: State,
     t: Token,
     taken: Move,
     table: &mut [u32],
-    index: usize,
-    parent: usize,
-) -> Turn
-    requires { Narrow s t index × Outer opener s index parent }
-    ensures numbers { Ends opener t result }
-    ensures turns { Taken limits opener s t taken table.old table.new index parent result }
+) -> Result<Turn, Refused>
+    requires { Narrow s t start.index × Behind start.token s }
+    ensures numbers { Ends start.token t result }
+    ensures turns { Taken limits start.token s t taken table.old table.new start.index start.parent result }
 {
     match taken {
-        Move::Value(_) => wrong(t),
         Move::To { mode, role } => lead(limits, s, mode, role, t, table),
-        Move::Tuple => tuple(s, t, table, index),
-        Move::Count(style) => count(s, style, t, table, index),
+        Move::Tuple => Ok(tuple(s, t, table, start.index)),
+        Move::Count(style) => Ok(count(s, style, t, table, start.index)),
         Move::Deeper(style) => deeper(limits, s, style, t),
-        Move::Shut { style, role } => shut(s, style, role, t, table),
-        Move::Close { kind, detail, role } => close(
-            opener.first,
-            s,
-            t,
-            kind,
-            detail,
-            role,
-            table,
-            index,
-            parent,
-        ),
-        Move::Group => wrong(t),
-        Move::Wrong => wrong(t),
+        Move::Shut { style, role } => Ok(shut(s, style, role, t, table)),
+        Move::Close { kind, detail, role } => { Ok(close(start, s, t, kind, detail, role, table)) }
+        Move::Value(_) | Move::Group | Move::Wrong => wrong(t),
     }
 }

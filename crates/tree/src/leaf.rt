@@ -5,19 +5,21 @@ ghost use Rattle.grammar.specs.Tokens.{wording};
 ghost use Rattle.grammar.specs.Nodes.{kind_number_of};
 ghost use Rattle.moves.specs.Means.{node_kind_of};
 ghost use Rattle.moves.specs.declared.Shape.TheVariants as Shape;
-ghost use Rattle.tree.specs.Readers.{Fit, Literal, Nesting};
+ghost use Rattle.tree.specs.Readers.{Within, Literal, Nesting};
 ghost use Rattle.tree.specs.Tellings.{wording_detail, wording_shape, ToldAs, LeafTold};
 
-use lexicon::{Form, Kind, Token};
+use crate::start::Start;
+use lexicon::{Form, Kind};
 use look::answer::Read;
-use look::names::{Further, Named, name, nameless, two_colons};
+use look::names::{name, two_colons};
 use moves::{NodeKind, Role, Shape};
+use reading::{Refusal, Refused};
 use table::{Entry, put};
 use token::bad::bad_place;
 
 // What a literal's node tells, its kind as a word of the table, and what the literal is to a colon. A token that is no literal has no node,
 // and the word 0.
-#[derive(Drop)]
+#[derive(Clone, Copy)]
 pub struct Telling {
     pub kind: u32,
     pub detail: u32,
@@ -70,70 +72,68 @@ pub(crate) fn told(kind: Kind) -> Telling
 }
 
 // A literal by itself, if its value is not bad.
-pub(crate) fn leaf(text: &[u8], t: Token, table: &mut [u32], index: usize, parent: usize) -> Read
-    requires { Fit text.now t index parent }
-    ensures { Literal text.now t table.old table.new index parent result }
+pub(crate) fn leaf(text: &[u8], start: Start, table: &mut [u32]) -> Result<Read, Refused>
+    requires { Within text.now start }
+    ensures { Literal text.now start.token table.old table.new start.index start.parent result }
 {
+    let t = start.token;
     if t.bad {
-        return Read::Refused {
-            number: 5,
+        return Err(Refused {
+            refusal: Refusal::BadValue,
             place: bad_place(text, t),
-        };
+        });
     }
-    let literal = t.kind;
-    let tells = told(literal);
+    let tells = told(t.kind);
     put(
         table,
-        index,
+        start.index,
         Entry {
             kind: tells.kind,
             first: t.first as u32,
             end: t.end as u32,
-            parent: parent as u32,
+            parent: start.parent as u32,
             role: Role::Root,
             detail: tells.detail,
-            skip: (index + 1) as u32,
+            skip: (start.index + 1) as u32,
         },
     );
-    let shape = tells.shape;
-    Read::Value {
+    Ok(Read {
         end: t.end,
         nodes: 1,
-        shape,
-    }
+        shape: tells.shape,
+    })
 }
 
 // A Nesting: `::` and a Text, once or more.
-pub(crate) fn names(text: &[u8], t: Token, table: &mut [u32], index: usize, parent: usize) -> Read
-    requires { Fit text.now t index parent }
-    ensures { Nesting text.now t table.old table.new index parent result }
+pub(crate) fn names(text: &[u8], start: Start, table: &mut [u32]) -> Result<Read, Refused>
+    requires { Within text.now start }
+    ensures { Nesting text.now start.token table.old table.new start.index start.parent result }
 {
-    let mut at = t.end;
+    let mut at = start.token.end;
     loop {
         let named = name(text, at);
-        let Named::At(end) = named else {
-            return nameless(named);
+        let Ok(end) = named else {
+            return Err(named.unwrap_err());
         };
-        let more = two_colons(text, end);
-        let Further::At(next) = more else {
+        let Some(next) = two_colons(text, end) else {
             put(
                 table,
-                index,
+                start.index,
                 Entry {
                     kind: NodeKind::Nesting as u32,
-                    first: t.first as u32,
+                    first: start.token.first as u32,
                     end: end as u32,
-                    parent: parent as u32,
+                    parent: start.parent as u32,
                     role: Role::Root,
                     detail: 0,
-                    skip: (index + 1) as u32,
+                    skip: (start.index + 1) as u32,
                 },
             );
-            return Read::Value {
+            return Ok(Read {
                 end,
                 nodes: 1,
                 shape: Shape::Name,
-            };
+            });
         };
         at = next;
     }

@@ -4,4 +4,5 @@
 mod bracket;
 mod leaf;
 pub mod read;
+mod start;
 mod value;

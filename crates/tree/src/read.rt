@@ -1,93 +1,75 @@
 // The reading: tests 1, 2 and 3 over the whole text, then the tokens from left to right, last the room.
 // A function with a `requires` is this crate's own: the text's length is tested before it is called.
-ghost use Rattle.std.specs.Prelude.{◌≡◌, ◌≤◌, length};
+ghost use Rattle.std.specs.Prelude.{◌≤◌, length};
 ghost use Rattle.reading.specs.Sizes.{base, old_rules, widest};
-ghost use Rattle.reading.specs.Answers.{Answers, answer};
-ghost use Rattle.tree.specs.Whole.{Judged, Told, refusal};
+ghost use Rattle.reading.specs.Answers.{Answers};
+ghost use Rattle.tree.specs.Whole.{Judged, Told, answered};
 
+use crate::start::Start;
 use crate::value::value;
-use level::{Leveled, level_of, unleveled};
-use lexicon::Encoding;
-use look::answer::{Got, Read, get, handed, unformed};
+use begin::Reader;
+use level::level_of;
+use look::answer::{Read, get, unformed};
 use look::end::ended;
 use moves::Forms;
-use reading::{Answer, BASE, Limits, OLD_RULES, Rules};
+use reading::{Answer, BASE, OLD_RULES, Refusal, Refused, Rules};
 use table::room;
 use token::whole::{front, utf8};
 
-fn refused(number: u32, place: usize) -> Answer
-    ensures { result ≡ answer number place 0 }
-{
-    Answer {
-        number,
-        place,
-        count: 0,
-    }
-}
-
 // The value of a text, whose nodes stand from the table's start on.
-fn whole(text: &[u8], limits: Limits, forms: Forms, table: &mut [u32]) -> Read
-    requires { length text.now ≤ widest }
-    ensures { Judged text.now limits forms table.old table.new result }
+fn whole(reader: Reader<'_>, table: &mut [u32]) -> Result<Read, Refused>
+    requires { length reader.text.now ≤ widest }
+    ensures { Judged reader.entry.text.now reader.entry.limits reader.entry.forms table.old table.new result }
 {
-    let got = get(text, front(text));
-    let Got::Token(t) = got else {
-        return handed(got);
+    let got = get(reader.text, front(reader.text));
+    let Ok(t) = got else {
+        return Err(got.unwrap_err());
     };
-    let read = value(text, limits, forms, t, 0, table, 0, 0);
-    let Read::Value {
-        end,
-        nodes: _,
-        shape: _,
-    } = read
-    else {
+    let start = Start {
+        token: t,
+        index: 0,
+        parent: 0,
+    };
+    let read = value(reader, start, 0, table);
+    let Ok(first) = read else {
         return read;
     };
-    ended(text, end, read)
-}
-
-// A refusal of the value is the answer's.
-fn given(read: Read) -> Answer
-    ensures { result ≡ refusal read }
-{
-    match read {
-        Read::Value {
-            end,
-            nodes: _,
-            shape: _,
-        } => refused(6, end),
-        Read::Refused { number, place } => refused(number, place),
-    }
+    ended(reader.text, first.end, first)
 }
 
 // The text is judged and its nodes counted before the lent table is written.
-fn tokens(rules: Rules, text: &[u8], forms: Forms, table: &mut [u32]) -> Answer
+fn tokens(rules: Rules, text: &[u8], forms: Forms, table: &mut [u32]) -> Result<Answer, Refused>
     requires { (rules.text ≤ widest) × (length text.now ≤ rules.text) }
     ensures { Told text.now rules forms table.old table.new result }
 {
-    let mut none = [0; 0];
-    let judged = whole(text, rules.limits, forms, &mut none);
-    let Read::Value {
-        end: _,
-        nodes,
-        shape: _,
-    } = judged
-    else {
-        return given(judged);
+    let reader = Reader {
+        text,
+        limits: rules.limits,
+        forms,
     };
-    if nodes > room(rules, table) {
-        return Answer {
-            number: 8,
-            place: text.len(),
-            count: nodes,
-        };
+    let mut none = [0; 0];
+    let judged = whole(reader, &mut none)?;
+    if judged.nodes > room(rules, table) {
+        return Ok(Answer::no_room(text.len(), judged.nodes));
     }
-    let _written = whole(text, rules.limits, forms, table);
-    Answer {
-        number: 0,
-        place: text.len(),
-        count: nodes,
+    let _written = whole(reader, table);
+    Ok(Answer::accepted(text.len(), judged.nodes))
+}
+
+// The tests in their order; a text that is refused leaves the table as it is.
+fn tests(rules: Rules, number: u32, text: &[u8], table: &mut [u32]) -> Result<Answer, Refused>
+    requires { rules.text ≤ widest }
+    ensures { Answers rules text.now table.old number (answered result) table.new }
+{
+    let forms = level_of(number)?;
+    if text.len() > rules.text {
+        return Err(Refused {
+            refusal: Refusal::TooLong,
+            place: 0,
+        });
     }
+    utf8(text).map_err(unformed)?;
+    tokens(rules, text, forms, table)
 }
 
 // The reading of a text at a level, by rules that this reader can follow.
@@ -95,18 +77,7 @@ fn reading(rules: Rules, number: u32, text: &[u8], table: &mut [u32]) -> Answer
     requires { rules.text ≤ widest }
     ensures { Answers rules text.now table.old number result table.new }
 {
-    let named = level_of(number);
-    let Leveled::Has(forms) = named else {
-        return unleveled(named);
-    };
-    if text.len() > rules.text {
-        return refused(2, 0);
-    }
-    let encoding = utf8(text);
-    let Encoding::WellFormed = encoding else {
-        return unformed(encoding);
-    };
-    tokens(rules, text, forms, table)
+    tests(rules, number, text, table).unwrap_or_else(Answer::from)
 }
 
 // The reading of a text at a level by the rules of today: the answer, and the nodes in the lent table.

@@ -1,4 +1,5 @@
 // A value holds members and a member holds values: the readers call each other, and bytes are left fewer at each call.
+// Each reader takes an answer apart by let else and hands the refusal up, in 01's form.
 // A function with a `requires` is this crate's own: the numbers that it asks for hold in every text that is read.
 ghost use Rattle.std.specs.Prelude.{◌≡◌, true, ◌≤◌, length};
 ghost use Rattle.lexicon.specs.declared.Next.TheVariants as Next;
@@ -7,209 +8,193 @@ ghost use Rattle.grammar.specs.Tokens.{class_kind};
 ghost use Rattle.reading.specs.Sizes.{widest};
 ghost use Rattle.look.specs.Looks.{Gets};
 ghost use Rattle.begin.specs.Signs.{no_mark};
-ghost use Rattle.tree.specs.Readers.{Fit, Inner, Reads, Rounded, Bracketed, Member, Bore};
+ghost use Rattle.tree.specs.Readers.{Within, Inside, Reads, Rounded, Bracketed, Member, Bore};
 ghost use Rattle.tree.specs.Turning.{Narrow};
 
 use crate::bracket::{State, Turn, entering, take};
 use crate::leaf::{leaf, names};
+use crate::start::Start;
 use begin::sign::{begins_value, is_close};
-use begin::{Begin, begins};
+use begin::{Begin, Reader};
 use lexicon::Token;
-use look::answer::{Got, Read, get, handed};
-use moves::{Forms, Frame, Mode, Move, RoundFrame, Shape};
-use reading::Limits;
+use look::answer::{Read, get};
+use moves::{Frame, Mode, Move, RoundFrame, Shape};
+use reading::Refused;
 use step::step::step;
 use table::raise;
 
-// The value that the token t begins, at a place for a value; its nodes stand from the index on, under the parent.
+// The value that the start begins, at a place for a value; its nodes stand from the start's index on.
 #[cycle(bracket_child_first_value_member_round_value)]
 pub(crate) fn value(
-    text: &[u8],
-    limits: Limits,
-    forms: Forms,
-    t: Token,
+    reader: Reader<'_>,
+    start: Start,
     depth: usize,
     table: &mut [u32],
-    index: usize,
-    parent: usize,
-) -> Read
-    requires { Fit text.now t index parent × (depth ≤ t.first) }
-    ensures { Reads text.now limits forms depth t table.old table.new index parent result }
+) -> Result<Read, Refused>
+    requires { Within reader.text.now start × (depth ≤ start.token.first) }
+    ensures { Reads reader.entry.text.now reader.entry.limits reader.entry.forms depth start.token table.old table.new start.index start.parent result }
 {
-    let begun = begins(text, limits, forms, t, depth);
-    match begun {
-        Begin::Literal => leaf(text, t, table, index, parent),
-        Begin::Names => names(text, t, table, index, parent),
-        Begin::Round(first) => round(text, limits, forms, t, first, depth, table, index, parent),
+    let begun = reader.begins(start.token, depth);
+    let Ok(begin) = begun else {
+        return Err(begun.unwrap_err());
+    };
+    match begin {
+        Begin::Literal => leaf(reader.text, start, table),
+        Begin::Names => names(reader.text, start, table),
+        Begin::Round(first) => round(reader, start, first, depth, table),
         Begin::Bracket { mode, at } => {
-            let entered = entering(mode, at, depth, index);
-            bracket(text, limits, forms, t, entered, table, index, parent)
+            let entered = entering(mode, at, depth, start.index);
+            bracket(reader, start, entered, table)
         }
-        Begin::Refused { number, place } => Read::Refused { number, place },
     }
 }
 
 // Behind `(` without a head.
 #[cycle(bracket_child_first_value_member_round_value)]
 fn round(
-    text: &[u8],
-    limits: Limits,
-    forms: Forms,
-    opener: Token,
-    first: Got,
+    reader: Reader<'_>,
+    start: Start,
+    first: Result<Token, Refused>,
     depth: usize,
     table: &mut [u32],
-    index: usize,
-    parent: usize,
-) -> Read
-    requires { Fit text.now opener index parent × (depth ≤ opener.first) × Gets text.now opener.end first }
-    ensures { Rounded text.now limits forms depth opener table.old table.new index parent result }
+) -> Result<Read, Refused>
+    requires { Within reader.text.now start × (depth ≤ start.token.first) × Gets reader.text.now start.token.end first }
+    ensures { Rounded reader.entry.text.now reader.entry.limits reader.entry.forms depth start.token table.old table.new start.index start.parent result }
 {
-    let Got::Token(t) = first else {
-        return handed(first);
+    let Ok(t) = first else {
+        return Err(first.unwrap_err());
     };
-    let kind = t.kind;
-    if begins_value(kind) {
-        return first_value(text, limits, forms, opener, t, depth, table, index, parent);
+    if begins_value(t.kind) {
+        return first_value(reader, start, t, depth, table);
     }
     let entered = entering(
         Mode::Want(Frame::Round(RoundFrame::Opened)),
-        opener.end,
+        start.token.end,
         depth,
-        index,
+        start.index,
     );
-    bracket(text, limits, forms, opener, entered, table, index, parent)
+    bracket(reader, start, entered, table)
 }
 
 // The first value behind `(`. A group makes no node, so the value is written as if it stood in one; where it does not, its nodes are moved
 // up by one for the bracket's own.
 #[cycle(bracket_child_first_value_member_round_value)]
 fn first_value(
-    text: &[u8],
-    limits: Limits,
-    forms: Forms,
-    opener: Token,
+    reader: Reader<'_>,
+    start: Start,
     t: Token,
     depth: usize,
     table: &mut [u32],
-    index: usize,
-    parent: usize,
-) -> Read
-    requires { Fit text.now opener index parent × (depth ≤ opener.first) × Comes text.now opener.end (Next.Token t) × (no_mark (class_kind t.kind) ≡ true) }
-    ensures { Rounded text.now limits forms depth opener table.old table.new index parent result }
+) -> Result<Read, Refused>
+    requires { Within reader.text.now start × (depth ≤ start.token.first) × Comes reader.text.now start.token.end (Next.Token t) × (no_mark (class_kind t.kind) ≡ true) }
+    ensures { Rounded reader.entry.text.now reader.entry.limits reader.entry.forms depth start.token table.old table.new start.index start.parent result }
 {
-    let read = value(text, limits, forms, t, depth + 1, table, index, parent);
-    let Read::Value { end, nodes, shape } = read else {
+    let inner = Start {
+        token: t,
+        index: start.index,
+        parent: start.parent,
+    };
+    let read = value(reader, inner, depth + 1, table);
+    let Ok(first) = read else {
         return read;
     };
-    let then = get(text, end);
-    let Got::Token(u) = then else {
-        return handed(then);
+    let then = get(reader.text, first.end);
+    let Ok(u) = then else {
+        return Err(then.unwrap_err());
     };
-    let sign = u.kind;
-    if is_close(sign) {
-        return Read::Value {
+    if is_close(u.kind) {
+        return Ok(Read {
             end: u.end,
-            nodes,
+            nodes: first.nodes,
             shape: Shape::Other,
-        };
+        });
     }
-    raise(table, index, nodes);
+    raise(table, start.index, first.nodes);
     let behind = State {
         mode: Mode::Have {
             frame: Frame::Round(RoundFrame::Opened),
-            shape,
+            shape: first.shape,
         },
-        at: end,
+        at: first.end,
         deep: depth + 1,
-        nodes,
-        last: index + 1,
+        nodes: first.nodes,
+        last: start.index + 1,
     };
-    bracket(text, limits, forms, opener, behind, table, index, parent)
+    bracket(reader, start, behind, table)
 }
 
 // What stands in a bracket from where it is entered, up to and with its end.
 #[cycle(bracket_child_first_value_member_round_value)]
 fn bracket(
-    text: &[u8],
-    limits: Limits,
-    forms: Forms,
-    opener: Token,
+    reader: Reader<'_>,
+    start: Start,
     entered: State,
     table: &mut [u32],
-    index: usize,
-    parent: usize,
-) -> Read
-    requires { Inner text.now opener entered index parent }
-    ensures { Bracketed text.now limits forms opener entered table.old table.new index parent result }
+) -> Result<Read, Refused>
+    requires { Inside reader.text.now start entered }
+    ensures { Bracketed reader.entry.text.now reader.entry.limits reader.entry.forms start.token entered table.old table.new start.index start.parent result }
 {
     let mut state = entered;
     loop {
-        let turn = member(text, limits, forms, opener, state, table, index, parent);
-        match turn {
-            Turn::On(next) => {
-                state = next;
-            }
-            Turn::Ended(read) => {
-                return read;
-            }
+        let turn = member(reader, start, state, table);
+        let Ok(turned) = turn else {
+            return Err(turn.unwrap_err());
+        };
+        match turned {
+            Turn::On(next) => state = next,
+            Turn::Ended(read) => return Ok(read),
         }
     }
 }
 
 // One value or one sign of a bracket.
 #[cycle(bracket_child_first_value_member_round_value)]
-fn member(
-    text: &[u8],
-    limits: Limits,
-    forms: Forms,
-    opener: Token,
-    s: State,
-    table: &mut [u32],
-    index: usize,
-    parent: usize,
-) -> Turn
-    requires { Inner text.now opener s index parent }
-    ensures { Member text.now limits forms opener s table.old table.new index parent result }
+fn member(reader: Reader<'_>, start: Start, s: State, table: &mut [u32]) -> Result<Turn, Refused>
+    requires { Inside reader.text.now start s }
+    ensures { Member reader.entry.text.now reader.entry.limits reader.entry.forms start.token s table.old table.new start.index start.parent result }
 {
-    let got = get(text, s.at);
-    let Got::Token(t) = got else {
-        return Turn::Ended(handed(got));
+    let got = get(reader.text, s.at);
+    let Ok(t) = got else {
+        return Err(got.unwrap_err());
     };
-    let mode = s.mode;
-    let kind = t.kind;
-    let taken = step(forms, mode, kind);
+    let taken = step(reader.forms, s.mode, t.kind);
     let Move::Value(frame) = taken else {
-        return take(limits, opener, s, t, taken, table, index, parent);
+        return take(reader.limits, start, s, t, taken, table);
     };
-    child(text, limits, forms, s, frame, t, table, index)
+    child(reader, s, frame, t, table, start.index)
 }
 
 // A value in a bracket: its role is told by what stands behind it.
 #[cycle(bracket_child_first_value_member_round_value)]
 fn child(
-    text: &[u8],
-    limits: Limits,
-    forms: Forms,
+    reader: Reader<'_>,
     s: State,
     frame: Frame,
     t: Token,
     table: &mut [u32],
     index: usize,
-) -> Turn
-    requires { Narrow s t index × (s.deep ≤ s.at) × (t.end ≤ length text.now) × (length text.now ≤ widest) }
-    ensures { Bore text.now limits forms s t frame table.old table.new index result }
+) -> Result<Turn, Refused>
+    requires { Narrow s t index × (s.deep ≤ s.at) × (t.end ≤ length reader.text.now) × (length reader.text.now ≤ widest) }
+    ensures { Bore reader.entry.text.now reader.entry.limits reader.entry.forms s t frame table.old table.new index result }
 {
     let last = index + 1 + s.nodes;
-    let read = value(text, limits, forms, t, s.deep, table, last, index);
-    let Read::Value { end, nodes, shape } = read else {
-        return Turn::Ended(read);
+    let start = Start {
+        token: t,
+        index: last,
+        parent: index,
     };
-    Turn::On(State {
-        mode: Mode::Have { frame, shape },
-        at: end,
+    let read = value(reader, start, s.deep, table);
+    let Ok(member) = read else {
+        return Err(read.unwrap_err());
+    };
+    Ok(Turn::On(State {
+        mode: Mode::Have {
+            frame,
+            shape: member.shape,
+        },
+        at: member.end,
         deep: s.deep,
-        nodes: s.nodes + nodes,
+        nodes: s.nodes + member.nodes,
         last,
-    })
+    }))
 }

@@ -2,8 +2,8 @@
 use Rattle.level.proofs.Levels.{first_level, second_level}
 use Rattle.level.proofs.level_of.Goals as goal
 
-pub returns-then-number-eq1 : goal.returns-then-number-eq1
-returns-then-number-eq1 c = first_level c.if-number-eq1.true
+pub returns-in-1 : goal.returns-in-1
+returns-in-1 c = first_level c.in-1.is
 
-pub returns-then-number-eq2 : goal.returns-then-number-eq2
-returns-then-number-eq2 c = second_level c.if-number-eq2.true
+pub returns-in-2 : goal.returns-in-2
+returns-in-2 c = second_level c.in-2.is

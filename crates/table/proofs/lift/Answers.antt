@@ -3,5 +3,4 @@ use Rattle.table.proofs.Lifts.{copied}
 use Rattle.table.proofs.lift.Goals as goal
 
 pub returns : goal.returns
-returns c = let a = c.args in
-    copied a.table.now a.index a.parent _ c.next-skip.ensures c.store.ensures
+returns c = copied _ _ _ _ c.requires c.copy_within.ensures.after c.next.ensures

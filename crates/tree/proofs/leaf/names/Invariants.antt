@@ -6,7 +6,7 @@ use Rattle.tree.proofs.Nestings.{Behind}
 use Rattle.tree.proofs.leaf.names.Given as goal
 
 abbrev pub invariant-loop-end : goal.invariant-loop-end
-invariant-loop-end l = Behind l.text l.t l.at × (l.table ≡ l.initial.table)
+invariant-loop-end l = Behind l.text l.start.token l.at × (l.table ≡ l.initial.table)
 
 abbrev pub decreases-loop-end : goal.decreases-loop-end
 decreases-loop-end l = length l.text - l.at
