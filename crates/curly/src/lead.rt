@@ -29,10 +29,10 @@ fn leading(style: Style, front: Front) -> Move
 pub fn lead(frame: CurlyFrame, sign: Sign) -> Move
     ensures { (forms : Forms) → Moves forms (Mode.Want (Frame.Curly frame)) (Kind.Symbol sign) result }
 {
-    match (frame, sign) {
-        (_, Sign::RoundOpen | Sign::CurlyOpen | Sign::SquareOpen) => Move::Value(frame.into()),
-        (CurlyFrame::Members { style, .. }, Sign::CurlyClose) => shut(style, Role::Root),
-        (CurlyFrame::Members { style, front }, Sign::Comma) => leading(style, front),
+    match (sign, frame) {
+        (Sign::RoundOpen | Sign::CurlyOpen | Sign::SquareOpen, _) => Move::Value(frame.into()),
+        (Sign::CurlyClose, CurlyFrame::Members { style, .. }) => shut(style, Role::Root),
+        (Sign::Comma, CurlyFrame::Members { style, front }) => leading(style, front),
         _ => Move::Wrong,
     }
 }

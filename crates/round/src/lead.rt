@@ -8,13 +8,13 @@ use moves::{Forms, Frame, Mode, Move, NodeKind, Role, RoundFrame};
 pub fn lead(frame: RoundFrame, sign: Sign) -> Move
     ensures { (forms : Forms) → Moves forms (Mode.Want (Frame.Round frame)) (Kind.Symbol sign) result }
 {
-    match (frame, sign) {
-        (_, Sign::RoundOpen | Sign::CurlyOpen | Sign::SquareOpen) => Move::Value(frame.into()),
-        (RoundFrame::Opened | RoundFrame::Row, Sign::RoundClose) => Move::ends(
+    match (sign, frame) {
+        (Sign::RoundOpen | Sign::CurlyOpen | Sign::SquareOpen, _) => Move::Value(frame.into()),
+        (Sign::RoundClose, RoundFrame::Opened | RoundFrame::Row) => Move::ends(
             NodeKind::Tuple,
             Role::Root,
         ),
-        (RoundFrame::Opened, Sign::Comma) => Move::want(RoundFrame::Led, Role::Root),
+        (Sign::Comma, RoundFrame::Opened) => Move::want(RoundFrame::Led, Role::Root),
         _ => Move::Wrong,
     }
 }

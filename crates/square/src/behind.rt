@@ -58,10 +58,10 @@ fn star(low: Bound, high: Bound) -> Move
 pub fn behind(frame: SquareFrame, sign: Sign) -> Move
     ensures { (forms : Forms) (shape : Shape) → Moves forms (Mode.Have (Frame.Square frame) shape) (Kind.Symbol sign) result }
 {
-    match (frame, sign) {
-        (_, Sign::SquareClose) => close(frame),
-        (SquareFrame::Opened, Sign::Dots) => between(Bounds::Dots),
-        (SquareFrame::Opened, Sign::Star { low, high }) => star(low, high),
+    match (sign, frame) {
+        (Sign::SquareClose, _) => close(frame),
+        (Sign::Dots, SquareFrame::Opened) => between(Bounds::Dots),
+        (Sign::Star { low, high }, SquareFrame::Opened) => star(low, high),
         _ => Move::Wrong,
     }
 }

@@ -23,19 +23,19 @@ fn star(high: Bound) -> Move
 pub fn lead(frame: SquareFrame, sign: Sign) -> Move
     ensures { (forms : Forms) → Moves forms (Mode.Want (Frame.Square frame)) (Kind.Symbol sign) result }
 {
-    match (frame, sign) {
-        (_, Sign::RoundOpen | Sign::CurlyOpen | Sign::SquareOpen) => Move::Value(frame.into()),
-        (SquareFrame::Opened, Sign::SquareClose) => Move::Close {
+    match (sign, frame) {
+        (Sign::RoundOpen | Sign::CurlyOpen | Sign::SquareOpen, _) => Move::Value(frame.into()),
+        (Sign::SquareClose, SquareFrame::Opened) => Move::Close {
             kind: NodeKind::Interval,
             detail: Bounds::Empty as u32,
             role: Role::Root,
         },
         (
-            SquareFrame::Opened,
             Sign::Star {
                 low: Bound::Open,
                 high,
             },
+            SquareFrame::Opened,
         ) => star(high),
         _ => Move::Wrong,
     }
