@@ -10,6 +10,7 @@ pub fn run<F: Fn(usize) -> bool>(text: &[u8], at: usize, test: F) -> usize
     requires tells { (c : Class) × TellsEights (F.post test) text.now c }
     ensures { (c : Class) → TellsEights (F.post test) text.now c → Longest text.now (many (unit 8 c)) at result }
 {
+    // By hand, which is plainer: a chain over chunks of eight would count them and make a place of the count.
     let mut i = at;
     while test(i) {
         i += 8;
