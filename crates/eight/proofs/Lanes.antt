@@ -9,15 +9,17 @@ use native.Mathlib.Nat.{add-zero}
 use lib.Bits.{bit_and, bit_or, bit_xor, and_block, or_block, xor_block}
 use lib.Dec.{eqb, leb}
 use lib.ListN.{length, get_or}
-use borrow.Author.Tests.{eqb-true, eq-eqb, leb-true, not-true}
+use borrow.Author.Tests.{eqb-true, eq-eqb, leb-true}
+use Rattle.std.proofs.Common.{Option, Some, None, MatchOption}
 use Rattle.rules.specs.Test.{Says}
 use Rattle.rules.specs.Class.{Class, has}
 use Rattle.rules.specs.Rule.{Takes, nothing, byte, both}
 use Rattle.rules.proofs.Bools.{and_left, and_right, below, all_below_lem}
-use Rattle.rules.proofs.Tests.{says_no, refuted}
+use Rattle.rules.proofs.Tests.{says_no}
 use Rattle.rules.proofs.Matches.{starting, ending}
 use Rattle.lexicon.specs.Literals.{unit}
 use Rattle.lexicon.proofs.Groups.{unit_at, unit_inside}
+use Rattle.text.proofs.Runs.{same, same_equal}
 use Rattle.eight.specs.Joined.{joined, Joins}
 
 pub data Operation : Type 0 where
@@ -113,15 +115,6 @@ together_none (result o x y) = ap₂ (of o) (together_none x) (together_none y) 
 
 -- ---- comparisons
 
-abbrev same : Bool → Bool → Bool
-same true b = b
-same false b = not b
-
-same_equal : (a b : Bool) → same a b ≡ true → a ≡ b
-same_equal true b e = sym e
-same_equal false true e = e
-same_equal false false e = refl
-
 -- the two results are equal exactly for the bytes of the class
 unfoldable pub tells : Lane → Lane → Class → ℕ → Bool
 tells x y c b = same (eqb (alone x b) (alone y b)) (has c b) && (fits x b && fits y b)
@@ -169,6 +162,8 @@ module _ (x y : Lane) (c : Class) (t : below (tells x y c) 256 ≡ true) (text :
   lanes_say {at} j =
       subst⁻¹ (λ (w : ℕ). Says (eqb (together 8 x w) (together 8 y w)) (Takes text (unit 8 c) at (at + 8))) j.number_is (says 8 at j.within j.bytes)
 
--- no eight bytes are left
-pub none_left : {text : List ℕ} (c : Class) {at : ℕ} {o : Bool} → Says o (at + 8 ≤ length text) → not o ≡ true → Says false (Takes text (unit 8 c) at (at + 8))
-none_left c {at} {o} s e = says_no (λ u. refuted s (not-true o e) (unit_inside 7 c u))
+  -- so does a test of the number, if eight bytes are left
+  pub lanes_tell : {at : ℕ} (r : Option ℕ) (o : Bool) → MatchOption r (length text < at + 8) (λ w. Joins text at 8 w) →
+      MatchOption r (o ≡ false) (λ w. o ≡ eqb (together 8 x w) (together 8 y w)) → Says o (Takes text (unit 8 c) at (at + 8))
+  lanes_tell {at} None o h e = subst⁻¹ (λ (b : Bool). Says b (Takes text (unit 8 c) at (at + 8))) e (says_no (λ u. omega (arith, h, unit_inside 7 c u)))
+  lanes_tell {at} (Some w) o j e = subst⁻¹ (λ (b : Bool). Says b (Takes text (unit 8 c) at (at + 8))) e (lanes_say j)

@@ -1,2 +1,3 @@
 -- The definitions that the contracts name.
 pub mod Joined
+pub mod Runs

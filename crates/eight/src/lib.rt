@@ -2,7 +2,9 @@
 // of each byte, since no sum of a byte reaches the next, and the answer stands in the bytes' high bits.
 #![tactic(auto)]
 
-ghost use Rattle.std.specs.Prelude.{◌+◌, ◌≤◌, length};
+pub mod run;
+
+ghost use Rattle.std.specs.Prelude.{◌+◌, ◌<◌, length, MatchOption};
 ghost use Rattle.rules.specs.Test.{Says};
 ghost use Rattle.rules.specs.Rule.{Takes};
 ghost use Rattle.lexicon.specs.Space.{not_grave};
@@ -28,68 +30,39 @@ const GRAVE: u64 = 0x60 * EACH;
 // Added to bytes below 0x80, it sets the high bit of those from the space on.
 const FROM_SPACE: u64 = (0x80 - 0x20) * EACH;
 
-// Whether eight bytes stand from `at` on.
-fn left(text: &[u8], at: usize) -> bool
-    ensures { Says result (at + 8 ≤ length text.now) }
+// The eight bytes from `at` on as one number, the first the least, if as many stand.
+fn eight(text: &[u8], at: usize) -> Option<u64>
+    ensures { MatchOption result (length text.now < at + 8) (λ w. Joins text.now at 8 w) }
 {
-    if text.len() < at {
-        return false;
-    }
-    8 <= text.len() - at
-}
-
-// The two bytes from `at` on as one number, the first the least. By twos, so that the compiler makes one load of eight.
-fn two(text: &[u8], at: usize) -> u64
-    requires { at + 2 ≤ length text.now }
-    ensures { Joins text.now at 2 result }
-{
-    text[at] as u64 + text[at + 1] as u64 * 0x100
-}
-
-fn four(text: &[u8], at: usize) -> u64
-    requires { at + 4 ≤ length text.now }
-    ensures { Joins text.now at 4 result }
-{
-    two(text, at) + two(text, at + 2) * 0x1_0000
-}
-
-fn eight(text: &[u8], at: usize) -> u64
-    requires { at + 8 ≤ length text.now }
-    ensures { Joins text.now at 8 result }
-{
-    four(text, at) + four(text, at + 4) * 0x1_0000_0000
+    let bytes = text.get(at..)?.first_chunk()?;
+    Some(u64::from_le_bytes(*bytes))
 }
 
 // Whether eight plain ASCII bytes stand from `at` on.
 pub fn ascii(text: &[u8], at: usize) -> bool
     ensures { Says result (Takes text.now Steps.eight at (at + 8)) }
 {
-    if !left(text, at) {
-        return false;
-    }
-    eight(text, at) & HIGH == 0
+    eight(text, at).is_some_and(|w| w & HIGH == 0)
 }
 
 // Whether eight bytes stand from `at` on, none of them the grave accent: a byte of `x` is 0 for that one only.
 pub fn no_grave(text: &[u8], at: usize) -> bool
     ensures { Says result (Takes text.now (unit 8 not_grave) at (at + 8)) }
 {
-    if !left(text, at) {
-        return false;
-    }
-    let x = eight(text, at) ^ GRAVE;
-    ((x & LOW) + LOW | x) & HIGH == HIGH
+    eight(text, at).is_some_and(|w| {
+        let x = w ^ GRAVE;
+        ((x & LOW) + LOW | x) & HIGH == HIGH
+    })
 }
 
 // Whether eight bytes stand from `at` on that may stand in any quoted text and mean themselves: ASCII from the space on, but three.
+#[tactic(auto, using(crate::proofs::Sums::sums))]
 pub fn plain(text: &[u8], at: usize) -> bool
     ensures { Says result (Takes text.now (unit 8 plain_byte) at (at + 8)) }
 {
-    if !left(text, at) {
-        return false;
-    }
-    let w = eight(text, at);
-    let v = w & LOW;
-    let others = (v ^ QUOTE) + LOW & (v ^ BACKSLASH) + LOW & (v ^ GRAVE) + LOW;
-    v + FROM_SPACE & others & (w ^ HIGH) & HIGH == HIGH
+    eight(text, at).is_some_and(|w| {
+        let v = w & LOW;
+        let others = (v ^ QUOTE) + LOW & (v ^ BACKSLASH) + LOW & (v ^ GRAVE) + LOW;
+        v + FROM_SPACE & others & (w ^ HIGH) & HIGH == HIGH
+    })
 }

@@ -1,7 +1,7 @@
 -- Bits and Blobs: the digits behind a mark, the choice between the marks, and what the padding tells. Assumes nothing.
-use mathlib.Core.Path.{◌≡◌, refl, sym, subst, subst⁻¹, ◌∙◌}
+use mathlib.Core.Path.{◌≡◌, refl, sym, ap, subst, subst⁻¹, ◌∙◌}
 use mathlib.Core.Bool.{Bool, true, false}
-use mathlib.Core.List.{List, [], ◌∷◌}
+use mathlib.Core.List.{List, [], ◌∷◌, foldl}
 use Prim.Native.Nat.{ℕ, suc, ◌+◌, ◌≤◌}
 use Prim.Native.String.{String}
 use native.Mathlib.Omega.{arith}
@@ -21,7 +21,6 @@ use Rattle.lexicon.specs.Bytes.{members, base64}
 use Rattle.lexicon.specs.Space.{sp, Skips}
 use Rattle.lexicon.specs.Literals.{maybe, bits, blob}
 use Rattle.lexicon.specs.Values.{Digits, Behind, mark_alone, mark_digits}
-use Rattle.lexicon.specs.Parts.{size}
 use Rattle.lexicon.specs.Bad.{NoBytes}
 use Rattle.std.proofs.Common.{Option, Some, None, Bor}
 use Rattle.std.specs.Option.{option_copied}
@@ -33,7 +32,10 @@ use Rattle.lexicon.proofs.Groups.{Clear, digits_most, digits_at, digits_unit, di
 use Rattle.lexicon.proofs.Numbers.{clear, clear_base64}
 use Rattle.lexicon.proofs.Unfit.{state_says, binary_bytes, hexadecimal_bytes}
 use Rattle.lexicon.proofs.Paddings.{unfit}
-use Rattle.number.specs.Tally.{tally_of, tallies}
+use Rattle.number.specs.declared.padding.Padding.{Padding}
+use Rattle.number.specs.declared.padding.Padding.TheVariants.{Start}
+use Rattle.number.specs.Padding.{next_of, unfit_of}
+use Rattle.number.proofs.Sums.{code_of, code_run, unfit_is}
 use Rattle.number.specs.Blob.{Marked, TailOf, digits_stand, none_stand}
 
 -- ---- the digits behind a mark
@@ -46,14 +48,14 @@ module _ (text : List ℕ) (set : Set) (m : ℕ) (cl : Clear (members set)) wher
   row_behind : {i g k j : ℕ} {ds : List ℕ} → Skips text i g → Takes text (opt sp) i k → Digits text (suc m) (members set) k j ds → Digits text (suc m) (members set) g j ds
   row_behind {j = j} {ds = ds} s t d = subst (λ (x : ℕ). Digits text (suc m) (members set) x j ds) (row_start s t d) d
 
-  pub tail_longest : {i j s : ℕ} → TailOf text set (suc m) i j s → Longest text (maybe (suc m) (members set)) i j
-  tail_longest {i} (digits_stand {g} {j} s r) = record { takes = left (both s.takes (of_row text (suc m) (members set) r.row.digits_are)); most = most }
+  pub tail_longest : {S : Type 0} (more : S → ℕ → S) (start : S) {i j : ℕ} {s : S} → TailOf more start text set (suc m) i j s → Longest text (maybe (suc m) (members set)) i j
+  tail_longest more start {i} (digits_stand {g} {j} s r) = record { takes = left (both s.takes (of_row text (suc m) (members set) r.row.digits_are)); most = most }
     where
       most : {k : ℕ} → Takes text (maybe (suc m) (members set)) i k → k ≤ j
       most (left (both t u)) =
           digits_most text m (members set) cl r.row.digits_are r.ended (row_behind s t (to_row text (suc m) (members set) u).1)
       most (right (nothing e)) = let a = forward s.takes in let b = digits_forward r.row.digits_are in omega arith
-  tail_longest {i} (none_stand {g} s f) = record { takes = right (nothing refl); most = most }
+  tail_longest more start {i} (none_stand {g} s f) = record { takes = right (nothing refl); most = most }
     where
       most : {k : ℕ} → Takes text (maybe (suc m) (members set)) i k → k ≤ i
       most (left (both t u)) = absurd (f.none (digits_unit (row_behind s t (to_row text (suc m) (members set) u).1)).1)
@@ -114,14 +116,14 @@ module _ (text : List ℕ) (a b c : Rule) where
 
 module _ (text : List ℕ) where
   -- the digits behind a mark, with the sum over them
-  tail_behind : (mark : String) (n : ℕ) (set : Set) {i j s : ℕ} → Takes text (lit mark) i (i + 3) → TailOf text set n (i + 3) j s → (ds : List ℕ) × Behind text mark n (members set) i j ds × (s ≡ tallies (size set) 0 ds)
-  unfolding tallies
-  tail_behind mark n set t (digits_stand k r) = (r.row.bytes, mark_digits (both t k.takes) r.row.digits_are, r.row.sum_is)
-  tail_behind mark n set t (none_stand k f) = ([], mark_alone t, refl)
+  tail_behind : {S : Type 0} (more : S → ℕ → S) (start : S) (mark : String) (n : ℕ) (set : Set) {i j : ℕ} {s : S} → Takes text (lit mark) i (i + 3) → TailOf more start text set n (i + 3) j s →
+      (ds : List ℕ) × Behind text mark n (members set) i j ds × (s ≡ foldl more start ds)
+  tail_behind more start mark n set t (digits_stand k r) = (r.row.bytes, mark_digits (both t k.takes) r.row.digits_are, r.row.sum_is)
+  tail_behind more start mark n set t (none_stand k f) = ([], mark_alone t, refl)
 
-  judged : {i j s : ℕ} {ds : List ℕ} → Behind text "0xy" 4 base64 i j ds → s ≡ tallies 0 0 ds → Says (eqb s unfit) (NoBytes text i j)
-  unfolding tallies tally_of
-  judged {i} {j} x e = subst⁻¹ (λ (k : ℕ). Says (eqb k unfit) (NoBytes text i j)) e (state_says x)
+  judged : {i j : ℕ} {s : Padding} {o : Bool} {ds : List ℕ} → Behind text "0xy" 4 base64 i j ds → s ≡ foldl next_of Start ds → o ≡ unfit_of s → Says o (NoBytes text i j)
+  judged {i} {j} {s} {ds = ds} x e f =
+      subst⁻¹ (λ (b : Bool). Says b (NoBytes text i j)) (f ∙ unfit_is s ∙ ap (λ (k : ℕ). eqb k unfit) (ap code_of e ∙ code_run Start ds)) (state_says x)
 
 -- ---- the marks
 
@@ -162,40 +164,40 @@ module _ (text : List ℕ) where
   Mark b c i = Takes text (row (0x30 ∷ b ∷ c ∷ [])) i (i + 3)
 
   -- a mark's literal, from the mark and the digits behind it
-  whole : (b c m : ℕ) (set : Set) → Clear (members set) → {i j s : ℕ} → Mark b c i → TailOf text set (suc m) (i + 3) j s → Longest text (part b c (suc m) set) i j
-  whole b c m set cl t d = behind_mark_lem text (0x30 ∷ b ∷ c ∷ []) (maybe (suc m) (members set)) t (tail_longest text set m cl d)
+  whole : (b c m : ℕ) (set : Set) → Clear (members set) → {S : Type 0} (more : S → ℕ → S) (start : S) {i j : ℕ} {s : S} → Mark b c i → TailOf more start text set (suc m) (i + 3) j s → Longest text (part b c (suc m) set) i j
+  whole b c m set cl more start t d = behind_mark_lem text (0x30 ∷ b ∷ c ∷ []) (maybe (suc m) (members set)) t (tail_longest text set m cl more start d)
 
   -- and none without it
   lacks : (b c n : ℕ) (set : Set) {i : ℕ} → (Mark b c i → ⊥) → (k : ℕ) → Takes text (part b c n set) i k → ⊥
   lacks b c n set m k t = no_mark_lem text (0x30 ∷ b ∷ c ∷ []) (maybe n (members set)) m t
 
-  pub bits_binary : {i j s : ℕ} → Mark 0x62 0x62 i → TailOf text Binary 1 (i + 3) j s → Longest text bits i j
+  pub bits_binary : {S : Type 0} (more : S → ℕ → S) (start : S) {i j : ℕ} {s : S} → Mark 0x62 0x62 i → TailOf more start text Binary 1 (i + 3) j s → Longest text bits i j
   unfolding covers apart apart_span
-  bits_binary t d = first_of text (part 0x62 0x62 1 Binary) (part 0x62 0x6F 1 Octal) (part 0x62 0x78 1 Hexadecimal) refl refl (whole 0x62 0x62 0 Binary (clear Two) t d)
+  bits_binary more start t d = first_of text (part 0x62 0x62 1 Binary) (part 0x62 0x6F 1 Octal) (part 0x62 0x78 1 Hexadecimal) refl refl (whole 0x62 0x62 0 Binary (clear Two) more start t d)
 
-  pub bits_octal : {i j s : ℕ} → Mark 0x62 0x6F i → TailOf text Octal 1 (i + 3) j s → Longest text bits i j
+  pub bits_octal : {S : Type 0} (more : S → ℕ → S) (start : S) {i j : ℕ} {s : S} → Mark 0x62 0x6F i → TailOf more start text Octal 1 (i + 3) j s → Longest text bits i j
   unfolding covers apart apart_span
-  bits_octal t d = second_of text (part 0x62 0x62 1 Binary) (part 0x62 0x6F 1 Octal) (part 0x62 0x78 1 Hexadecimal) refl refl (whole 0x62 0x6F 0 Octal (clear Eight) t d)
+  bits_octal more start t d = second_of text (part 0x62 0x62 1 Binary) (part 0x62 0x6F 1 Octal) (part 0x62 0x78 1 Hexadecimal) refl refl (whole 0x62 0x6F 0 Octal (clear Eight) more start t d)
 
-  pub bits_hexadecimal : {i j s : ℕ} → Mark 0x62 0x78 i → TailOf text Hexadecimal 1 (i + 3) j s → Longest text bits i j
+  pub bits_hexadecimal : {S : Type 0} (more : S → ℕ → S) (start : S) {i j : ℕ} {s : S} → Mark 0x62 0x78 i → TailOf more start text Hexadecimal 1 (i + 3) j s → Longest text bits i j
   unfolding covers apart apart_span
-  bits_hexadecimal t d = third_of text (part 0x62 0x62 1 Binary) (part 0x62 0x6F 1 Octal) (part 0x62 0x78 1 Hexadecimal) refl refl (whole 0x62 0x78 0 Hexadecimal (clear Sixteen) t d)
+  bits_hexadecimal more start t d = third_of text (part 0x62 0x62 1 Binary) (part 0x62 0x6F 1 Octal) (part 0x62 0x78 1 Hexadecimal) refl refl (whole 0x62 0x78 0 Hexadecimal (clear Sixteen) more start t d)
 
-  pub blob_binary : {i j s : ℕ} → Mark 0x78 0x62 i → TailOf text Binary 8 (i + 3) j s → Judges text blob (NoBytes text) i (Some (record { end = j; bad = false }))
+  pub blob_binary : {S : Type 0} (more : S → ℕ → S) (start : S) {i j : ℕ} {s : S} → Mark 0x78 0x62 i → TailOf more start text Binary 8 (i + 3) j s → Judges text blob (NoBytes text) i (Some (record { end = j; bad = false }))
   unfolding covers apart apart_span
-  blob_binary t d =
-      (first_of text (part 0x78 0x62 8 Binary) (part 0x78 0x78 2 Hexadecimal) (part 0x78 0x79 4 Base64) refl refl (whole 0x78 0x62 7 Binary (clear Two) t d), says_no (λ n. binary_bytes (tail_behind text "0xb" 8 Binary t d).1 n))
+  blob_binary more start t d =
+      (first_of text (part 0x78 0x62 8 Binary) (part 0x78 0x78 2 Hexadecimal) (part 0x78 0x79 4 Base64) refl refl (whole 0x78 0x62 7 Binary (clear Two) more start t d), says_no (λ n. binary_bytes (tail_behind text more start "0xb" 8 Binary t d).1 n))
 
-  pub blob_hexadecimal : {i j s : ℕ} → Mark 0x78 0x78 i → TailOf text Hexadecimal 2 (i + 3) j s → Judges text blob (NoBytes text) i (Some (record { end = j; bad = false }))
+  pub blob_hexadecimal : {S : Type 0} (more : S → ℕ → S) (start : S) {i j : ℕ} {s : S} → Mark 0x78 0x78 i → TailOf more start text Hexadecimal 2 (i + 3) j s → Judges text blob (NoBytes text) i (Some (record { end = j; bad = false }))
   unfolding covers apart apart_span
-  blob_hexadecimal t d =
-      (second_of text (part 0x78 0x62 8 Binary) (part 0x78 0x78 2 Hexadecimal) (part 0x78 0x79 4 Base64) refl refl (whole 0x78 0x78 1 Hexadecimal (clear Sixteen) t d), says_no (λ n. hexadecimal_bytes (tail_behind text "0xx" 2 Hexadecimal t d).1 n))
+  blob_hexadecimal more start t d =
+      (second_of text (part 0x78 0x62 8 Binary) (part 0x78 0x78 2 Hexadecimal) (part 0x78 0x79 4 Base64) refl refl (whole 0x78 0x78 1 Hexadecimal (clear Sixteen) more start t d), says_no (λ n. hexadecimal_bytes (tail_behind text more start "0xx" 2 Hexadecimal t d).1 n))
 
-  pub blob_base64 : {i j s : ℕ} → Mark 0x78 0x79 i → TailOf text Base64 4 (i + 3) j s → Judges text blob (NoBytes text) i (Some (record { end = j; bad = eqb s unfit }))
+  pub blob_base64 : {i j : ℕ} {s : Padding} {o : Bool} → Mark 0x78 0x79 i → TailOf next_of Start text Base64 4 (i + 3) j s → o ≡ unfit_of s → Judges text blob (NoBytes text) i (Some (record { end = j; bad = o }))
   unfolding covers apart apart_span
-  blob_base64 t d =
-      let x = tail_behind text "0xy" 4 Base64 t d in
-      (third_of text (part 0x78 0x62 8 Binary) (part 0x78 0x78 2 Hexadecimal) (part 0x78 0x79 4 Base64) refl refl (whole 0x78 0x79 3 Base64 clear_base64 t d), judged text x.1 x.2)
+  blob_base64 t d f =
+      let x = tail_behind text next_of Start "0xy" 4 Base64 t d in
+      (third_of text (part 0x78 0x62 8 Binary) (part 0x78 0x78 2 Hexadecimal) (part 0x78 0x79 4 Base64) refl refl (whole 0x78 0x79 3 Base64 clear_base64 next_of Start t d), judged text x.1 x.2 f)
 
   pub bits_none : {i : ℕ} → (Mark 0x62 0x62 i → ⊥) → (Mark 0x62 0x6F i → ⊥) → (Mark 0x62 0x78 i → ⊥) → Fails text bits i
   bits_none s t u = none_of text (part 0x62 0x62 1 Binary) (part 0x62 0x6F 1 Octal) (part 0x62 0x78 1 Hexadecimal) (lacks 0x62 0x62 1 Binary s) (lacks 0x62 0x6F 1 Octal t) (lacks 0x62 0x78 1 Hexadecimal u)

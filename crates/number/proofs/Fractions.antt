@@ -20,7 +20,7 @@ use Rattle.rules.proofs.Tests.{says_no, there, not_there}
 use Rattle.lexicon.specs.declared.Base.{Base}
 use Rattle.std.proofs.Common.{Option, Some, None}
 use Rattle.lexicon.specs.declared.Literal.{Literal}
-use Rattle.lexicon.specs.Bytes.{digits, digit_set_of, decimal, radix}
+use Rattle.lexicon.specs.Bytes.{digits, decimal, radix}
 use Rattle.lexicon.specs.Space.{Skips}
 use Rattle.lexicon.specs.Found.{Finds, Judges}
 use Rattle.lexicon.specs.Literals.{unit, integer, spaced, significand, power, fraction}
@@ -32,7 +32,7 @@ use Rattle.lexicon.proofs.Numbers.{clear, numeral, numeral_at, number_same, valu
 use Rattle.lexicon.proofs.Integers.{of_integer, to_integer, decimal_blank}
 use Rattle.lexicon.proofs.Fractions.{Significand, pointed, divided, Symbol, of_spaced, to_spaced, symbol_ahead, symbol_from, stops, some, ends_same, ahead_most, of_significand, to_significand, significand_start, align_point, align_ratio, behind_symbol, significand_cut, point_apart, slash_apart, star_apart, point_slash}
 use Rattle.lexicon.proofs.Powers.{Found, no_caret, no_exponent, whole_exponent, no_star, no_radix, no_power, whole_power, radix_is, small_power, power_ahead}
-use Rattle.number.specs.Groups.{Row}
+use Rattle.number.proofs.Marks.{DigitRow}
 use Rattle.number.specs.Number.{IsNumber, NoNumber}
 use Rattle.lexicon.specs.Bad.{BadFraction}
 use Rattle.number.specs.Fraction.{PointDigits, NoDigits, Pointed, Denominator, NoDenominator, Divided, ZeroRatio, Behind}
@@ -243,7 +243,7 @@ module _ (text : List ℕ) where
   pub digits_missing : {b : Base} {i p : ℕ} → Skips text i p → Fails text (unit 1 (digits b)) p → NoDigits text b i
   digits_missing {p = p} s f = record { from = p; skipped = s; none = f }
 
-  pub digits_found : {b : Base} {i p j v : ℕ} → Skips text i p → Row text (digit_set_of b) 1 p j v → PointDigits text b i j
+  pub digits_found : {b : Base} {i p j v : ℕ} → Skips text i p → DigitRow text b p j v → PointDigits text b i j
   digits_found {p = p} {v = v} s r = record { from = p; skipped = s; sum = v; row = r }
 
   pub point_answer : {b : Base} {i g e v m : ℕ} → Start text i g → IsNumber text b g e v → Skips text e m → At text (just 0x2E) m → (r : Option Literal) → Pointed text b (m + 1) r → Judges text significand (ZeroRatio text) i r

@@ -1,5 +1,5 @@
 -- The marks of the bases, and the numbers behind them. Assumes nothing.
-use mathlib.Core.Path.{◌≡◌, refl, sym, subst, subst⁻¹, ◌∙◌}
+use mathlib.Core.Path.{◌≡◌, refl, sym, ap, subst, subst⁻¹, ◌∙◌}
 use mathlib.Core.Logic.{⊎_elim}
 use mathlib.Core.List.{List}
 use Prim.Native.Nat.{ℕ, ◌+◌, ◌≤◌, ◌<◌, min}
@@ -15,9 +15,9 @@ use Rattle.lexicon.specs.declared.Set.{Set}
 use Rattle.lexicon.specs.Bytes.{members, digits, digit_set_of, radix, decimal}
 use Rattle.lexicon.specs.Space.{sp, Skips}
 use Rattle.lexicon.specs.Literals.{unit, plus_minus}
-use Rattle.lexicon.specs.Parts.{size, Start, behind, unsigned, letter, Numeral, marked, bare}
+use Rattle.lexicon.specs.Parts.{Start, behind, unsigned, letter, Numeral, marked, bare}
 use Rattle.lexicon.specs.Values.{Digits, value}
-use Rattle.lexicon.specs.Limited.{limit}
+use Rattle.lexicon.specs.Limited.{limit, limited}
 use Rattle.lexicon.proofs.Limits.{limited_value}
 use Rattle.lexicon.proofs.Spaces.{skips_same, landed}
 use Rattle.lexicon.proofs.Groups.{digits_most, digits_forward, digits_unit, digits_at}
@@ -26,7 +26,9 @@ use Rattle.std.proofs.Common.{Option, Some, None}
 use Rattle.std.specs.Option.{MatchOption}
 use Rattle.text.specs.Letters.{Letters}
 use Rattle.number.specs.declared.integer.Number.{Number}
-use Rattle.number.specs.Tally.{tally_of, tallies}
+use Rattle.number.specs.declared.tally.Value.{Value}
+use Rattle.number.specs.Tally.{value_more}
+use Rattle.number.proofs.Sums.{value_folds}
 use Rattle.number.specs.Groups.{Row}
 use Rattle.number.specs.Number.{HasMark, NoMark, Marks, OfBase, IsNumber, NoNumber, NoMarked, MarkedNumber, Numbered}
 
@@ -47,23 +49,18 @@ module _ (text : List ℕ) (i : ℕ) where
       go : {b : Base} → HasMark text b i → ⊥
       go {b} m = n b (g.1 ∙ just_is (letter b) (get_or text (i + 1) 0) m.letter_is.1)
 
--- ---- the sum of a base's digits is its value, up to the limit
-
-pub tallies_value : (b : Base) (ds : List ℕ) → tallies (size (digit_set_of b)) 0 ds ≡ min limit (value (radix b) ds)
-unfolding tallies tally_of
-tallies_value Two ds = limited_value 2 0 ds
-tallies_value Eight ds = limited_value 8 0 ds
-tallies_value Ten ds = limited_value 10 0 ds
-tallies_value Sixteen ds = limited_value 16 0 ds
-
 -- ---- the number
 
+-- the longest row of a base's digits, and their number up to the limit
+abbrev pub DigitRow : List ℕ → Base → ℕ → ℕ → ℕ → Type 0
+DigitRow text b i j v = Row (limited (radix b)) 0 text (digit_set_of b) 1 i j v
+
 module _ (text : List ℕ) (i : ℕ) where
-  row_value : (b : Base) {g j v : ℕ} (r : Row text (digit_set_of b) 1 g j v) → v ≡ min limit (value (radix b) r.row.bytes)
-  row_value b r = r.row.sum_is ∙ tallies_value b r.row.bytes
+  row_value : (b : Base) {g j v : ℕ} (r : DigitRow text b g j v) → v ≡ min limit (value (radix b) r.row.bytes)
+  row_value b r = r.row.sum_is ∙ limited_value (radix b) 0 r.row.bytes
 
   -- digits found behind a mark
-  pub marked_number : (b : Base) {g j v : ℕ} → HasMark text b i → Skips text (i + 2) g → Row text (digit_set_of b) 1 g j v → IsNumber text b i j v
+  pub marked_number : (b : Base) {g j v : ℕ} → HasMark text b i → Skips text (i + 2) g → DigitRow text b g j v → IsNumber text b i j v
   marked_number b {g} {j} {v} m s r =
       record { bytes = r.row.bytes; is = marked m.zero m.letter_is s.takes r.row.digits_are; value_is = row_value b r; most = λ n. go n.is }
     where
@@ -94,7 +91,7 @@ module _ (text : List ℕ) (i : ℕ) where
   no_mark_no_number f = record { none = λ m s d. f.none m }
 
   -- decimal digits without a mark
-  pub bare_number : {j v : ℕ} → NoMarked text i → Row text (digit_set_of Ten) 1 i j v → IsNumber text Ten i j v
+  pub bare_number : {j v : ℕ} → NoMarked text i → DigitRow text Ten i j v → IsNumber text Ten i j v
   bare_number {j} f r = record { bytes = r.row.bytes; is = bare r.row.digits_are; value_is = row_value Ten r; most = λ n. go n.is }
     where
       go : {c : Base} {k : ℕ} {ds : List ℕ} → Numeral text c i k ds → k ≤ j
@@ -121,8 +118,18 @@ module _ (text : List ℕ) (i : ℕ) where
   number_answer None (Some n) f d = subst (λ (x : Base). IsNumber text x i n.end n.value) (sym d.0) (bare_number f d.1)
   number_answer None None f g = no_number f g
 
-  pub row_found : (b : Base) {j v : ℕ} {s : Set} → s ≡ digit_set_of b → Row text s 1 i j v → Row text (digit_set_of b) 1 i j v
-  row_found b {j} {v} e r = subst (λ (x : Set). Row text x 1 i j v) e r
+  pub row_found : (b : Base) {j : ℕ} {s : Set} {v : Value} → s ≡ digit_set_of b → Row value_more (record { base = b; value = 0 }) text s 1 i j v → DigitRow text b i j v.value
+  row_found b {j} {v = v} e r =
+      subst (λ (x : Set). Row (limited (radix b)) 0 text x 1 i j v.value) e
+      (record {
+        row =
+            record {
+              bytes = r.row.bytes;
+              digits_are = r.row.digits_are;
+              sum_is = ap (λ (x : Value). x.value) (r.row.sum_is ∙ value_folds b 0 r.row.bytes);
+            };
+        ended = r.ended;
+      })
 
   pub row_missing : (b : Base) {s : Set} → s ≡ digit_set_of b → Fails text (unit 1 (members s)) i → Fails text (unit 1 (digits b)) i
   row_missing b e f = subst (λ (x : Set). Fails text (unit 1 (members x)) i) e f

@@ -3,7 +3,8 @@ use Rattle.std.specs.Prelude.{◌≡◌, Bool, false, List, ℕ, eqb, Option, So
 use Rattle.rules.specs.Rule.{Takes, Fails, ◌then◌}
 use Rattle.lexicon.specs.declared.Base.{Base}
 use Rattle.lexicon.specs.declared.Literal.{Literal}
-use Rattle.lexicon.specs.Bytes.{digits, digit_set_of}
+use Rattle.lexicon.specs.Bytes.{digits, digit_set_of, radix}
+use Rattle.lexicon.specs.Limited.{limited}
 use Rattle.lexicon.specs.Space.{Skips}
 use Rattle.lexicon.specs.Found.{Finds, Judges}
 use Rattle.lexicon.specs.Literals.{unit, integer, spaced, significand, fraction}
@@ -20,7 +21,7 @@ pub record PointDigits (text : List ℕ) (b : Base) (i j : ℕ) : Type 0 where
   pub from : ℕ
   pub skipped : Skips text i from
   pub sum : ℕ
-  pub row : Row text (digit_set_of b) 1 from j sum
+  pub row : Row (limited (radix b)) 0 text (digit_set_of b) 1 from j sum
 
 pub record NoDigits (text : List ℕ) (b : Base) (i : ℕ) : Type 0 where
   pub from : ℕ

@@ -7,7 +7,7 @@ use Rattle.lexicon.specs.Bytes.{digits, digit_set_of, radix}
 use Rattle.lexicon.specs.Space.{sp}
 use Rattle.lexicon.specs.Literals.{unit}
 use Rattle.lexicon.specs.Values.{Digits, value}
-use Rattle.lexicon.specs.Limited.{limit}
+use Rattle.lexicon.specs.Limited.{limit, limited}
 use Rattle.lexicon.specs.Parts.{letter, Numeral, SomeNumeral}
 use Rattle.number.specs.declared.integer.Number.{Number}
 use Rattle.number.specs.Groups.{Row}
@@ -26,7 +26,7 @@ Marks text i None = NoMark text i
 
 -- the longest row of a base's digits
 abbrev pub OfBase : List ℕ → Base → ℕ → Option Number → Type 0
-OfBase text b i (Some n) = (n.base ≡ b) × Row text (digit_set_of b) 1 i n.end n.value
+OfBase text b i (Some n) = (n.base ≡ b) × Row (limited (radix b)) 0 text (digit_set_of b) 1 i n.end n.value
 OfBase text b i None = Fails text (unit 1 (digits b)) i
 
 -- the longest number

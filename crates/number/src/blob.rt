@@ -8,17 +8,11 @@ ghost use Rattle.number.specs.Groups.{OfDigits};
 ghost use Rattle.number.specs.Blob.{Marked, TailOf};
 
 use crate::groups::{Groups, longest_row};
-use crate::padding::UNFIT;
+use crate::padding::Padding;
+use crate::tally::Tally;
 use lexicon::{Literal, Set};
 use space::space;
 use text::byte::stands;
-
-// The end of the digits behind a mark, and the sum over them; in base 64 it is the state of their padding.
-#[derive(Drop)]
-pub struct Tail {
-    pub end: usize,
-    pub sum: u32,
-}
 
 // The third byte of a mark at a place: of `0`, this letter and one more.
 fn third(text: &[u8], at: usize, letter: u8) -> Option<u8>
@@ -31,13 +25,16 @@ fn third(text: &[u8], at: usize, letter: u8) -> Option<u8>
 }
 
 // The digits behind a mark. Dividing space that leads to none is not taken.
-fn tail_at(text: &[u8], at: usize, set: Set, width: usize) -> Tail
+fn tail_at<T: Tally>(text: &[u8], at: usize, set: Set, width: usize, start: T) -> Groups<T>
     requires { (1 ≤ width) × OfDigits set }
-    ensures { TailOf text.now set width at result.end result.sum }
+    ensures { TailOf T.more start text.now set width at result.end result.sum }
 {
-    match longest_row(text, space(text, at), set, width) {
-        Some(Groups { end, sum }) => Tail { end, sum },
-        None => Tail { end: at, sum: 0 },
+    match longest_row(text, space(text, at), set, width, start) {
+        Some(groups) => groups,
+        None => Groups {
+            end: at,
+            sum: start,
+        },
     }
 }
 
@@ -46,9 +43,9 @@ pub fn bits(text: &[u8], at: usize) -> Option<usize>
     ensures { Finds text.now bits_of at result }
 {
     match third(text, at, b'b')? {
-        b'b' => Some(tail_at(text, at + 3, Set::Binary, 1).end),
-        b'o' => Some(tail_at(text, at + 3, Set::Octal, 1).end),
-        b'x' => Some(tail_at(text, at + 3, Set::Hexadecimal, 1).end),
+        b'b' => Some(tail_at(text, at + 3, Set::Binary, 1, ()).end),
+        b'o' => Some(tail_at(text, at + 3, Set::Octal, 1, ()).end),
+        b'x' => Some(tail_at(text, at + 3, Set::Hexadecimal, 1, ()).end),
         _ => None,
     }
 }
@@ -59,18 +56,18 @@ pub fn blob(text: &[u8], at: usize) -> Option<Literal>
 {
     match third(text, at, b'x')? {
         b'b' => Some(Literal {
-            end: tail_at(text, at + 3, Set::Binary, 8).end,
+            end: tail_at(text, at + 3, Set::Binary, 8, ()).end,
             bad: false,
         }),
         b'x' => Some(Literal {
-            end: tail_at(text, at + 3, Set::Hexadecimal, 2).end,
+            end: tail_at(text, at + 3, Set::Hexadecimal, 2, ()).end,
             bad: false,
         }),
         b'y' => {
-            let Tail { end, sum } = tail_at(text, at + 3, Set::Base64, 4);
+            let Groups { end, sum } = tail_at(text, at + 3, Set::Base64, 4, Padding::Start);
             Some(Literal {
                 end,
-                bad: sum == UNFIT,
+                bad: sum.is_unfit(),
             })
         }
         _ => None,

@@ -1,39 +1,23 @@
 // Digit groups: units of so many bytes of a set, side by side or joined by one `_` or one stretch of dividing space.
 // A function with a `requires` is this crate's own: the table that it is lent is the classes', made by its caller.
 ghost use Rattle.std.specs.Prelude.{◌≤◌};
-ghost use Rattle.rules.specs.Rule.{one, many, Longest};
+ghost use Rattle.rules.specs.Rule.{many, Longest};
 ghost use Rattle.lexicon.specs.Bytes.{members};
 ghost use Rattle.lexicon.specs.Literals.{unit};
 ghost use Rattle.text.specs.Classes.{IsTable};
 ghost use Rattle.number.specs.Groups.{OfDigits, Grouped};
 
-use crate::tally::tally_run;
+use crate::tally::Tally;
 use lexicon::Set;
 use space::joint::joint;
 use text::class::{classes, holds};
-use text::digit::radix;
+use text::run::run;
 
 // The end of the longest row of groups and the sum over its digits.
 #[derive(Drop)]
-pub struct Groups {
+pub struct Groups<T> {
     pub end: usize,
-    pub sum: u32,
-}
-
-// Where the bytes of the set that stand side by side end.
-fn run(text: &[u8], at: usize, set: Set, classes: &[u8; 256]) -> usize
-    requires { IsTable classes.now }
-    ensures { Longest text.now (many (one (members set))) at result }
-{
-    let mut i = at;
-    while i < text.len() {
-        let b = text[i] as usize;
-        if !holds(classes[b], set) {
-            return i;
-        }
-        i += 1;
-    }
-    i
+    pub sum: T,
 }
 
 // Where the units that stand side by side end: bytes that make no whole unit are left.
@@ -41,7 +25,7 @@ fn units(text: &[u8], at: usize, set: Set, width: usize, classes: &[u8; 256]) ->
     requires { (1 ≤ width) × IsTable classes.now }
     ensures { Longest text.now (many (unit width (members set))) at result }
 {
-    let end = run(text, at, set, classes);
+    let end = run(text, at, |b| holds(classes[b as usize], set));
     // Bytes are whole units: a number's digits cost no division.
     if width == 1 {
         return end;
@@ -50,17 +34,22 @@ fn units(text: &[u8], at: usize, set: Set, width: usize, classes: &[u8; 256]) ->
 }
 
 // The longest row of units from a place. The table of classes is made once, for all of them.
-pub(crate) fn longest_row(text: &[u8], at: usize, set: Set, width: usize) -> Option<Groups>
+pub(crate) fn longest_row<T: Tally>(
+    text: &[u8],
+    at: usize,
+    set: Set,
+    width: usize,
+    start: T,
+) -> Option<Groups<T>>
     requires { (1 ≤ width) × OfDigits set }
-    ensures { Grouped text.now set width at result }
+    ensures { Grouped T.more start text.now set width at result }
 {
-    let radix = radix(set);
     let classes = classes();
     let mut end = units(text, at, set, width, &classes);
     if end == at {
         return None;
     }
-    let mut sum = tally_run(text, at, end - at, radix, 0);
+    let mut sum = start.with(&text[at..end]);
     loop {
         let next = joint(text, end);
         // Without a joint the row ends here: no unit stands behind the last.
@@ -71,7 +60,7 @@ pub(crate) fn longest_row(text: &[u8], at: usize, set: Set, width: usize) -> Opt
         if stop == next {
             return Some(Groups { end, sum });
         }
-        sum = tally_run(text, next, stop - next, radix, sum);
+        sum = sum.with(&text[next..stop]);
         end = stop;
     }
 }

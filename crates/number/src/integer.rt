@@ -5,6 +5,7 @@ ghost use Rattle.lexicon.specs.Parts.{Start};
 ghost use Rattle.number.specs.Number.{Marks, OfBase, MarkedNumber, Numbered};
 
 use crate::groups::{Groups, longest_row};
+use crate::tally::Value;
 use lexicon::Base;
 use space::space;
 use text::byte::stands;
@@ -32,11 +33,12 @@ pub fn mark_at(text: &[u8], at: usize) -> Option<Base>
 pub(crate) fn digits(text: &[u8], at: usize, base: Base) -> Option<Number>
     ensures { OfBase text.now base at result }
 {
-    let Groups { end, sum } = longest_row(text, at, digit_set(base), 1)?;
+    let start = Value { base, value: 0 };
+    let Groups { end, sum } = longest_row(text, at, digit_set(base), 1, start)?;
     Some(Number {
         base,
         end,
-        value: sum,
+        value: sum.value,
     })
 }
 

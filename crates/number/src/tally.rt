@@ -1,29 +1,41 @@
-// What a literal's digits add up to, as far as the tokens need it: of a number its value, up to the limit; of base-64 characters,
-// the state of their padding. `tally_run` is this crate's own, and its caller has found the run.
-ghost use Rattle.std.specs.Prelude.{◌≡◌, ◌+◌, ◌≤◌, length};
-ghost use Rattle.lexicon.specs.Values.{read};
-ghost use Rattle.number.specs.Tally.{tallies};
+// What a literal's digits add up to, as far as the tokens need it: of a number its value, up to the limit; of base-64 characters, how
+// they are padded; of the other digits, nothing.
+ghost use Rattle.std.specs.Prelude.{◌≡◌, ℕ};
+ghost use mathlib.Core.List.{foldl};
+ghost use Rattle.number.specs.Tally.{value_more};
 
-use crate::padding::padding_run;
-use text::digit::{LIMIT, limited};
+use lexicon::Base;
+use text::digit::counted;
 
-// The sum with the bytes of a run more: digits of the radix, or base-64 characters if it is 0.
-pub(crate) fn tally_run(text: &[u8], from: usize, count: usize, radix: u32, sum: u32) -> u32
-    requires { from + count ≤ length text.now }
-    ensures { result ≡ tallies radix sum (read text.now from count) }
-{
-    if radix == 0 {
-        return padding_run(text, from, count, sum);
-    }
-    let mut total = sum;
-    let mut k = 0;
-    while k < count {
-        // A number at the limit stays there, whatever digits follow.
-        if total == LIMIT {
-            return total;
+pub trait Tally: Copy + Drop {
+    // With a digit more.
+    ghost more: { Self → ℕ → Self };
+
+    // With the digits of a run more.
+    fn with(self, digits: &[u8]) -> Self
+        ensures { result ≡ foldl more self digits.now };
+}
+
+impl Tally for () {
+    ghost more = { λ sum _. sum };
+
+    fn with(self, _digits: &[u8]) {}
+}
+
+// A number's base, and its value up to the limit.
+#[derive(Clone, Copy)]
+pub struct Value {
+    pub base: Base,
+    pub value: u32,
+}
+
+impl Tally for Value {
+    ghost more = { value_more };
+
+    fn with(self, digits: &[u8]) -> Value {
+        Value {
+            base: self.base,
+            value: counted(self.base, self.value, digits),
         }
-        total = limited(total, radix, text[from + k]);
-        k += 1;
     }
-    total
 }

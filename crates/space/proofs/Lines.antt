@@ -1,33 +1,36 @@
 -- The rest of a line ends behind its newline, or at the end of the text. Assumes nothing.
-use mathlib.Core.Path.{refl}
+use mathlib.Core.Path.{◌≡◌, refl}
+use mathlib.Core.Bool.{Bool, false}
 use mathlib.Core.List.{List}
 use Prim.Native.Nat.{ℕ, ◌+◌, ◌≤◌}
 use native.Mathlib.Omega.{arith}
-use lib.ListN.{length}
-use Rattle.rules.specs.Rule.{one, ◌then◌, many, opt, Takes, nothing, byte, both, left, right, Longest, Fails}
-use Rattle.rules.proofs.Classes.{apart, apart_span}
-use Rattle.rules.proofs.Chains.{reaches}
-use Rattle.rules.proofs.Matches.{forward}
-use Rattle.rules.proofs.Ways.{never}
+use Rattle.rules.specs.Test.{Says}
+use Rattle.rules.specs.Rule.{one, ◌then◌, many, opt, Takes, nothing, byte, both, left, right, stop, more, Longest}
+use Rattle.rules.proofs.Classes.{apart, apart_span, apart_no}
+use Rattle.rules.proofs.Chains.{reaches, snoc}
+use Rattle.rules.proofs.Matches.{byte_end, one_at, move_at}
+use Rattle.rules.proofs.Tests.{refuted}
 use Rattle.lexicon.specs.Front.{newline, not_newline}
 use Rattle.lexicon.proofs.Spaces.{byte_single}
-use Rattle.text.proofs.Searches.{fails, fails_end}
 
-module _ {text : List ℕ} where
-  newline_ends : {i : ℕ} → Takes text (one newline) i (i + 1) → Fails text (one not_newline) i
-  unfolding never apart apart_span
-  newline_ends t = fails refl t
-
-  pub line_ended : {at i : ℕ} → Takes text (many (one not_newline)) at i → Takes text (one newline) i (i + 1) → Longest text (many (one not_newline) then opt (one newline)) at (i + 1)
-  line_ended {at} {i} c t = record { takes = both c (left t); most = go }
+module _ {text : List ℕ} {at i : ℕ} (bytes : Longest text (many (one not_newline)) at i) where
+  pub line_ended : Takes text (one newline) i (i + 1) → Longest text (many (one not_newline) then opt (one newline)) at (i + 1)
+  line_ended t = record { takes = both bytes.takes (left t); most = most }
     where
-      go : {k : ℕ} → Takes text (many (one not_newline) then opt (one newline)) at k → k ≤ i + 1
-      go (both d (left (byte a e))) = let x = forward (reaches (byte_single not_newline) c (newline_ends t) d) in omega arith
-      go (both d (right (nothing e))) = let x = forward (reaches (byte_single not_newline) c (newline_ends t) d) in omega arith
+      most : {k : ℕ} → Takes text (many (one not_newline) then opt (one newline)) at k → k ≤ i + 1
+      most (both d (left (byte a e))) = omega (arith, bytes.most d)
+      most (both d (right (nothing e))) = omega (arith, bytes.most d)
 
-  pub line_unended : {at i : ℕ} → Takes text (many (one not_newline)) at i → length text ≤ i → Longest text (many (one not_newline) then opt (one newline)) at i
-  line_unended {at} {i} c h = record { takes = both c (right (nothing refl)); most = go }
+  -- where another byte stood it would go on with the line
+  pub line_unended : {o : Bool} → Says o (Takes text (one newline) i (i + 1)) → o ≡ false → Longest text (many (one not_newline) then opt (one newline)) at i
+  unfolding apart apart_span
+  line_unended s f = record { takes = both bytes.takes (right (nothing refl)); most = most }
     where
-      go : {k : ℕ} → Takes text (many (one not_newline) then opt (one newline)) at k → k ≤ i
-      go (both d (left (byte a e))) = omega (arith, a.0)
-      go (both d (right (nothing e))) = let x = forward (reaches (byte_single not_newline) c (fails_end refl h) d) in omega arith
+      -- no newline stands within it or behind it
+      inner : {m k : ℕ} → Takes text (many (one not_newline)) m i → Takes text (one newline) m k → ⊥
+      inner (stop e) (byte a x) = refuted s f (one_at (move_at text newline e a))
+      inner (more (byte b y) t) (byte a x) = apart_no not_newline newline _ refl b.1 a.1
+
+      most : {k : ℕ} → Takes text (many (one not_newline) then opt (one newline)) at k → k ≤ i
+      most (both d (left u)) = absurd (inner (reaches (byte_single not_newline) bytes.takes record { none = λ t. omega (arith, bytes.most (snoc bytes.takes t), byte_end t) } d) u)
+      most (both d (right (nothing e))) = omega (arith, bytes.most d)

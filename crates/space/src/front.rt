@@ -3,6 +3,7 @@ ghost use Rattle.rules.specs.Rule.{one, ◌then◌, many, opt, Longest};
 ghost use Rattle.lexicon.specs.Front.{byte_order_mark, newline, not_newline, first_line, Front};
 
 use text::byte::stands;
+use text::run::run;
 
 const NEWLINE: u8 = 0x0A;
 
@@ -26,14 +27,12 @@ fn mark(text: &[u8]) -> usize
 fn rest(text: &[u8], at: usize) -> usize
     ensures { Longest text.now (many (one not_newline) then opt (one newline)) at result }
 {
-    let mut i = at;
-    while i < text.len() {
-        if text[i] == NEWLINE {
-            return i + 1;
-        }
-        i += 1;
+    let end = run(text, at, |b| b != NEWLINE);
+    if stands(text, end, NEWLINE) {
+        end + 1
+    } else {
+        end
     }
-    i
 }
 
 // The end of the line that begins with `#!` at `at`: `at` itself if there is none.

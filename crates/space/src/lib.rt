@@ -4,24 +4,12 @@
 pub mod front;
 pub mod joint;
 
-ghost use Rattle.rules.specs.Rule.{many, Longest};
-ghost use Rattle.lexicon.specs.Literals.{unit};
-ghost use Rattle.lexicon.specs.Space.{not_grave, Skips};
+ghost use Rattle.lexicon.specs.Space.{Skips};
 
 use eight::no_grave;
+use eight::run::run;
 
 const GRAVE: u8 = b'`';
-
-// Where the eights of bytes at `at` end that have no grave accent among them.
-fn eights(text: &[u8], at: usize) -> usize
-    ensures { Longest text.now (many (unit 8 not_grave)) at result }
-{
-    let mut i = at;
-    while no_grave(text, i) {
-        i += 8;
-    }
-    i
-}
 
 // Where the dividing space at `at` ends: `at` itself if there is none.
 pub fn space(text: &[u8], at: usize) -> usize
@@ -41,7 +29,8 @@ pub fn space(text: &[u8], at: usize) -> usize
             }
         }
         // By eights first, since a comment may be long.
-        let mut i = eights(text, end + 1);
+        let eights = run(text, end + 1, |i| no_grave(text, i));
+        let mut i = eights;
         loop {
             // A grave accent without a partner is no space.
             if i == text.len() {

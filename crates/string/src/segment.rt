@@ -27,7 +27,11 @@ pub struct Walk {
 fn is_plain(b: u8) -> bool
     ensures { result ≡ has Literals.plain_byte b }
 {
-    matches!(b, b' '..=b'!' | b'#'..=b'[' | b']'..=b'_' | b'a'..=0x7F)
+    match b {
+        b'"' | b'\\' | b'`' => false,
+        0x20..=0x7F => true,
+        _ => false,
+    }
 }
 
 // Whether such a byte stands at the place.
@@ -39,20 +43,15 @@ fn plain_byte(text: &[u8], at: usize) -> bool
 
 // The end of the run of such bytes at the place: by eights first, since it may be long, but not where there is none, as between two
 // characters of several bytes.
+#[inline(always)]
 fn run(text: &[u8], at: usize) -> usize
     ensures { Longest text.now (many (one Literals.plain_byte)) at result }
 {
     if !plain_byte(text, at) {
         return at;
     }
-    let mut i = at;
-    while eight::plain(text, i) {
-        i += 8;
-    }
-    while plain_byte(text, i) {
-        i += 1;
-    }
-    i
+    let eights = eight::run::run(text, at, |i| eight::plain(text, i));
+    text::run::run(text, eights, |b| is_plain(b))
 }
 
 // A character that may stand inside quotes as it is, other than a backslash.

@@ -4,5 +4,6 @@ pub mod Sets
 pub mod Ranges
 pub mod Gets
 pub mod Searches
-pub mod Digits
 pub mod Letters
+pub mod Runs
+pub mod Counts

@@ -1,41 +1,44 @@
 -- A byte of a range, by its bounds. Assumes nothing.
-use mathlib.Core.Path.{◌≡◌, refl}
+use mathlib.Core.Path.{◌≡◌, refl, sym, subst, subst⁻¹, ◌∙◌}
 use mathlib.Core.Logic.{⊎_elim}
-use mathlib.Core.Bool.{false}
+use mathlib.Core.Bool.{Bool, false}
 use mathlib.Core.List.{List, [], ◌∷◌}
 use Prim.Native.Nat.{ℕ, ◌+◌, ◌≤◌, ◌<◌}
-use lib.Dec.{leb}
+use lib.Dec.{leb, eqb}
 use lib.ListN.{length, get_or}
 use native.Mathlib.Omega.{arith}
-use borrow.Author.Tests.{leb-true, leb-false, le-leb}
+use borrow.Author.Tests.{leb-true, leb-false, eqb-true, eq-eqb}
 use Rattle.rules.specs.Test.{Says}
 use Rattle.rules.specs.Class.{Class, ◌upto◌, just, In}
 use Rattle.rules.specs.Rule.{one, Takes, byte}
 use Rattle.rules.proofs.Bools.{decide}
-use Rattle.rules.proofs.Classes.{is_just, in_first_lem, in_later, low_in, in_high}
+use Rattle.rules.proofs.Classes.{is_just, just_is, in_first_lem, in_later, low_in, in_high}
 use Rattle.rules.proofs.Matches.{byte_at}
 use Rattle.rules.proofs.Tests.{says_no}
+use Rattle.std.proofs.Common.{Option, Some, None, Bor}
+use Rattle.std.specs.Bool.{Decides}
+use Rattle.std.specs.Option.{MatchOption, option_eq}
+use Rattle.std.specs.Slice.{IsItemAt}
 use Rattle.lexicon.specs.Utf8.{range}
 
--- no byte stands there, of any class
-pub no_byte_lem : {text : List ℕ} {c : Class} {at : ℕ} → length text ≤ at → Says false (Takes text (one c) at (at + 1))
-no_byte_lem h = says_no (λ t. omega (arith, (byte_at t).0))
-
--- the other ways out of `within`: it is high enough, it is too low
-module _ {text : List ℕ} {low high at : ℕ} where
-  pub high_enough : at < length text → low ≤ get_or text at 0 → Says (leb (get_or text at 0) high) (Takes text (range low high) at (at + 1))
-  high_enough l h =
+-- what `get` lends at a place, if a byte stands there, and what a test of it answered
+module _ {text : List ℕ} {at : ℕ} where
+  pub class_at : (c : Class) (r : Option (Bor ℕ)) (o : Bool) → IsItemAt text at r → MatchOption r (o ≡ false) (λ x. Decides o (In c x.now)) → Says o (Takes text (one c) at (at + 1))
+  class_at c None o i t = subst⁻¹ (λ (b : Bool). Says b (Takes text (one c) at (at + 1))) t (says_no (λ u. omega (arith, i.3, (byte_at u).0)))
+  class_at c (Some x) o i t =
+      let same : x.now ≡ get_or text at 0 = i.4 (omega arith) 0 in
       record {
-        true_holds = λ e. byte (l, in_first_lem low high [] (get_or text at 0) h (leb-true (get_or text at 0) high e)) refl;
-        holds_true = λ t. le-leb (get_or text at 0) high (in_high low high (get_or text at 0) (byte_at t).1);
+        true_holds = λ e. byte (i.3.0, subst (In c) same (t.0 e)) refl;
+        holds_true = λ u. t.1 (subst⁻¹ (In c) same (byte_at u).1);
       }
 
-  pub too_low : get_or text at 0 < low → Says (leb low (get_or text at 0)) (Takes text (range low high) at (at + 1))
-  too_low h =
-      record {
-        true_holds = λ e. absurd (omega (arith, leb-true low (get_or text at 0) e));
-        holds_true = λ t. le-leb low (get_or text at 0) (low_in low high (get_or text at 0) (byte_at t).1);
-      }
+  pub range_at : (low high : ℕ) (r : Option (Bor ℕ)) (o : Bool) → IsItemAt text at r → MatchOption r (o ≡ false) (λ x. Decides o ((low ≤ x.now) × (x.now ≤ high))) → Says o (Takes text (range low high) at (at + 1))
+  range_at low high None o i t = class_at (low upto high ∷ []) None o i t
+  range_at low high (Some x) o i t = class_at (low upto high ∷ []) (Some x) o i (λ e. let p = t.0 e in in_first_lem low high [] x.now p.0 p.1, λ m. t.1 (low_in low high x.now m, in_high low high x.now m))
+
+  pub byte_stands : (b : Bor ℕ) (r : Option (Bor ℕ)) (o : Bool) → IsItemAt text at r → o ≡ option_eq (λ x y. eqb x.now y.now) r (Some b) → Says o (Takes text (one (just b.now)) at (at + 1))
+  byte_stands b None o i e = class_at (just b.now) None o i e
+  byte_stands b (Some x) o i e = class_at (just b.now) (Some x) o i (λ t. is_just b.now x.now (eqb-true x.now b.now (sym e ∙ t)), λ m. e ∙ eq-eqb x.now b.now (just_is b.now x.now m))
 
 -- a byte that is known
 pub byte_is : {text : List ℕ} (b i : ℕ) → i < length text → get_or text i 0 ≡ b → Takes text (one (just b)) i (i + 1)

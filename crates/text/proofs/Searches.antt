@@ -11,7 +11,7 @@ use Rattle.rules.specs.Rule.{Rule, one, ◌then◌, ◌or◌, opt, Takes, nothin
 use Rattle.rules.proofs.Matches.{forward, byte_at, byte_end, fails_first}
 use Rattle.rules.proofs.Tests.{there, not_there}
 use Rattle.rules.proofs.Ways.{nullable, never, never_takes, begins_none, end_takes}
-use Rattle.std.specs.Prelude.{Option, Some, None}
+use Rattle.std.proofs.Common.{Option, Some, None}
 use Rattle.lexicon.specs.Found.{Finds}
 
 module _ {text : List ℕ} where

@@ -9,16 +9,12 @@ ghost use Rattle.lexicon.specs.Utf8.{range};
 pub fn within(text: &[u8], at: usize, low: u8, high: u8) -> bool
     ensures { Says result (Takes text.now (range low high) at (at + 1)) }
 {
-    if text.len() <= at {
-        return false;
-    }
-    let b = text[at];
-    low <= b && b <= high
+    text.get(at).is_some_and(|b| (low..=high).contains(b))
 }
 
 // Whether the byte `b` stands at `at`.
 pub fn stands(text: &[u8], at: usize, b: u8) -> bool
     ensures { Says result (Takes text.now (one (just b)) at (at + 1)) }
 {
-    within(text, at, b, b)
+    text.get(at) == Some(&b)
 }

@@ -30,23 +30,23 @@ pub fn classes() -> [u8; 256]
 pub fn class(b: u8) -> u8
     ensures { result ≡ class_of b }
 {
-    let classes = classes();
-    let i = b as usize;
-    classes[i]
+    classes()[b as usize]
 }
 
 // Whether what the set adds is in the class: the set's bit.
+#[tactic(auto, unfolding(crate::specs::Classes::in_sum))]
 pub fn holds(class: u8, set: Set) -> bool
     ensures { result ≡ in_sum set class }
 {
-    match set {
-        Set::Binary => class / 1 % 2 == 1,
-        Set::Octal => class / 2 % 2 == 1,
-        Set::Decimal => class / 4 % 2 == 1,
-        Set::Hexadecimal => class / 8 % 2 == 1,
-        Set::Base64 => class / 16 % 2 == 1,
-        Set::WordStart => class / 32 % 2 == 1,
-        Set::WordRest => class / 64 % 2 == 1,
-        Set::Dividing => class / 128 % 2 == 1,
-    }
+    let bit = match set {
+        Set::Binary => 0,
+        Set::Octal => 1,
+        Set::Decimal => 2,
+        Set::Hexadecimal => 3,
+        Set::Base64 => 4,
+        Set::WordStart => 5,
+        Set::WordRest => 6,
+        Set::Dividing => 7,
+    };
+    (class >> bit) % 2 == 1
 }

@@ -1,7 +1,8 @@
 // Digits: the base that a letter names, the set of its digits, the number that each stands for, and the number of a row of them,
 // counted up to a limit.
 ghost use Rattle.std.specs.Prelude.{◌≡◌};
-ghost use Rattle.lexicon.specs.Bytes.{digit_set_of};
+ghost use mathlib.Core.List.{foldl};
+ghost use Rattle.lexicon.specs.Bytes.{digit_set_of, radix as radix_of};
 ghost use Rattle.lexicon.specs.Parts.{size, sextet as sextet_of};
 ghost use Rattle.lexicon.specs.Values.{digit as digit_of};
 ghost use Rattle.lexicon.specs.Limited.{limited as limited_of};
@@ -46,10 +47,7 @@ pub fn radix(set: Set) -> u32
         Set::Octal => 8,
         Set::Decimal => 10,
         Set::Hexadecimal => 16,
-        Set::Base64 => 0,
-        Set::WordStart => 0,
-        Set::WordRest => 0,
-        Set::Dividing => 0,
+        Set::Base64 | Set::WordStart | Set::WordRest | Set::Dividing => 0,
     }
 }
 
@@ -57,41 +55,47 @@ pub fn radix(set: Set) -> u32
 pub fn digit(b: u8) -> u64
     ensures { result ≡ digit_of b }
 {
-    if b < 0x30 {
-        return 0;
+    match b {
+        ..=b'9' => b.saturating_sub(b'0') as u64,
+        _ => (b - (b'A' - 10)) as u64,
     }
-    if b <= 0x39 {
-        return (b - 0x30) as u64;
-    }
-    (b - 0x37) as u64
 }
 
 // The number that a base-64 character stands for. Its byte comes as a wider number, as the padding's state keeps it.
+#[tactic(auto, using(std::proofs::lemmas::Bool::Decides::nat_tests), unfolding(lexicon::specs::Parts::sextet))]
 pub fn sextet(b: u32) -> u32
     ensures { result ≡ sextet_of b }
 {
-    if b >= 0x61 {
-        return b - 0x61 + 26;
+    match b {
+        0x61.. => b - 0x61 + 26,
+        0x41.. => b - 0x41,
+        0x30.. => b - 0x30 + 52,
+        0x2B => 62,
+        _ => 63,
     }
-    if b >= 0x41 {
-        return b - 0x41;
-    }
-    if b >= 0x30 {
-        return b - 0x30 + 52;
-    }
-    if b == 0x2B {
-        return 62;
-    }
-    63
 }
 
 // A number with one digit more, up to the limit.
+#[tactic(auto, unfolding(lexicon::specs::Limited::limited))]
 pub fn limited(sum: u32, radix: u32, b: u8) -> u32
     ensures { result ≡ limited_of radix sum b }
 {
     let next = sum as u64 * radix as u64 + digit(b);
-    if next < LIMIT as u64 {
-        return next as u32;
+    next.min(LIMIT as u64) as u32
+}
+
+// The number of digits behind those of a sum, up to the limit.
+pub fn counted(base: Base, sum: u32, digits: &[u8]) -> u32
+    ensures { result ≡ foldl (limited_of (radix_of base)) sum digits.now }
+{
+    let radix = radix(digit_set(base));
+    let mut number = sum;
+    for b in digits {
+        // A number at the limit stays there, whatever digits follow.
+        if number == LIMIT {
+            break;
+        }
+        number = limited(number, radix, *b);
     }
-    LIMIT
+    number
 }

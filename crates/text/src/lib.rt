@@ -4,3 +4,4 @@
 pub mod byte;
 pub mod class;
 pub mod digit;
+pub mod run;

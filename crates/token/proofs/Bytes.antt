@@ -24,6 +24,13 @@ module _ (text : List ℕ) where
   pub at_is : (b m : ℕ) → At text (just b) m → get_or text m 0 ≡ b
   at_is b m a = just_is b (get_or text m 0) a.1
 
+  -- one that `get` lent
+  pub got_at : (b : ℕ) {c m : ℕ} → (m < length text) × (c ≡ get_or text m 0) → c ≡ b → At text (just b) m
+  got_at b g e = read_at b _ g.0 (sym g.1 ∙ e)
+
+  pub got_not : (b : ℕ) {c m : ℕ} → c ≡ get_or text m 0 → (c ≡ b → ⊥) → At text (just b) m → ⊥
+  got_not b e n a = n (e ∙ at_is b _ a)
+
 -- a set's bit of its class, as true or false
 pub by_class : (s : Set) {b x : ℕ} {o t : Bool} → b < 256 → x ≡ class_of b → o ≡ in_sum s x → o ≡ t → has (members s) b ≡ t
 by_class s {b} h e f g = sym (f ∙ ap (in_sum s) e ∙ in_class s b h) ∙ g

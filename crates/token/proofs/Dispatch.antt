@@ -4,12 +4,9 @@ use mathlib.Core.Logic.{◌⊎◌, inl, inr, ⊎_elim}
 use mathlib.Core.Bool.{Bool, true, false, ◌||◌, false≢true}
 use mathlib.Core.List.{List, [], ◌∷◌}
 use Prim.Native.Nat.{ℕ, ◌+◌, ◌≤◌, ◌<◌}
-use native.Mathlib.Decide.{ℕ_discrete}
 use native.Mathlib.Nat.{le_of_lt}
 use native.Mathlib.Omega.{arith}
-use lib.Dec.{eqb}
 use lib.ListN.{length, get_or}
-use borrow.Author.Tests.{eq-eqb, ne_eqb}
 use Rattle.rules.specs.Test.{Says}
 use Rattle.rules.specs.Class.{Class, In, has, just, codes, ◌to◌}
 use Prim.Native.String.{String}
@@ -33,12 +30,8 @@ use Rattle.lexicon.specs.Token.{Lexeme, an_ignorance, a_boolean, an_integer, a_f
 use Rattle.lexicon.proofs.Tokens.{every, for_every, begins, begins_with, outreaches, alone, one_of, is_one}
 use Rattle.lexicon.proofs.Unique.{integer_below}
 use Rattle.word.specs.Heads.{Tells}
-use Rattle.number.specs.declared.Numeral.{Numeral}
-use Rattle.number.specs.Fraction.{NumeralAt}
 use Rattle.lexicon.specs.declared.Next.{Next}
-use Rattle.token.specs.declared.symbol.Symbol as Symbols
-use Rattle.token.specs.declared.zero.Fixed.{Fixed}
-use Rattle.token.specs.Answers.{NoSymbol, Symboled, NoneAt, TokenAt, StartsAt, NumberOnly, Marked, FixedAt, NotOpening}
+use Rattle.token.specs.Answers.{NoSymbol, NoneAt, TokenAt, NumberOnly, Marked, NotOpening}
 use Rattle.token.proofs.Symbols.{taken_as}
 use Rattle.token.proofs.Starts.{nothing_starts}
 
@@ -119,23 +112,19 @@ zero_begins = refl
 
 -- ---- the bytes of the number's sign
 
-pub signed_plus : (b : ℕ) → b ≡ 0x2B → eqb b 0x2B ≡ has plus_minus b
+signed_plus : {b : ℕ} → b ≡ 0x2B → true ≡ has plus_minus b
 unfolding has
-signed_plus b e = subst⁻¹ (λ (x : ℕ). eqb x 0x2B ≡ has plus_minus x) e refl
+signed_plus e = subst⁻¹ (λ (x : ℕ). true ≡ has plus_minus x) e refl
 
-signed_minus : (b : ℕ) → b ≡ 0x2D → has plus_minus b ≡ true
+signed_minus : {b : ℕ} → b ≡ 0x2D → true ≡ has plus_minus b
 unfolding has
-signed_minus b e = subst⁻¹ (λ (x : ℕ). has plus_minus x ≡ true) e refl
+signed_minus e = subst⁻¹ (λ (x : ℕ). true ≡ has plus_minus x) e refl
 
-unsigned : (b : ℕ) → (b ≡ 0x2B → ⊥) → (b ≡ 0x2D → ⊥) → has plus_minus b ≡ false
-unsigned b f g = ⊎_elim (λ x. absurd (⊎_elim (λ y. f (just_is 0x2B b y)) (λ y. g (just_is 0x2D b y)) (in_cons _ _ b x))) (λ x. x) (decide (has plus_minus b))
+pub signed : {b : ℕ} → (b ≡ 0x2B) ⊎ (b ≡ 0x2D) → true ≡ has plus_minus b
+signed x = ⊎_elim (λ e. signed_plus e) (λ e. signed_minus e) x
 
-pub signed_other : (b : ℕ) → (b ≡ 0x2B → ⊥) → eqb b 0x2D ≡ has plus_minus b
-signed_other b f = go (ℕ_discrete b 0x2D)
-  where
-    go : Dec (b ≡ 0x2D) → eqb b 0x2D ≡ has plus_minus b
-    go (yes e) = eq-eqb b 0x2D e ∙ sym (signed_minus b e)
-    go (no g) = ne_eqb b 0x2D g ∙ sym (unsigned b f g)
+pub unsigned : (b : ℕ) → (b ≡ 0x2B → ⊥) → (b ≡ 0x2D → ⊥) → false ≡ has plus_minus b
+unsigned b f g = ⊎_elim (λ x. absurd (⊎_elim (λ y. f (just_is 0x2B b y)) (λ y. g (just_is 0x2D b y)) (in_cons _ _ b x))) (λ x. sym x) (decide (has plus_minus b))
 
 nonzero_in : (b : ℕ) → In decimal b → (b ≡ 0x30 → ⊥) → In nonzero b
 nonzero_in b i f =
@@ -333,33 +322,9 @@ module _ (text : List ℕ) where
           ⊎_elim (λ x. not_opening n f (opens_at text opening (rule m) x t)) (λ x. no_symbol_lem g m x t)
           (or_cases (opens opening (rule m)) (symbolic m) (for_every (λ m. opens opening (rule m) || symbolic m) literals_open m))
 
-  -- ---- what the searches answered
-
-  pub integer_found : (i j : ℕ) (r : Numeral) → NumeralAt text i r → r ≡ Numeral.Integer j → Fails text fraction i × Longest text integer i j
-  integer_found i j r t e = subst (NumeralAt text i) e t
-
-  pub fraction_found : (i j : ℕ) (b : Bool) (r : Numeral) → NumeralAt text i r → r ≡ Numeral.Fraction j b → Longest text fraction i j × Says b (BadFraction text i j)
-  fraction_found i j b r t e = subst (NumeralAt text i) e t
-
-  pub numeral_missing : (i : ℕ) (r : Numeral) → NumeralAt text i r → r ≡ Numeral.Nothing → Fails text fraction i × Fails text integer i
-  numeral_missing i r t e = subst (NumeralAt text i) e t
-
-  pub fixed_found : (i : ℕ) (k : Kind) (j : ℕ) (r : Fixed) → FixedAt text i r → r ≡ Fixed.At k j → TokenAt text k i j false
-  fixed_found i k j r t e = subst (FixedAt text i) e t
-
-  pub fixed_missing : (i : ℕ) (r : Fixed) → FixedAt text i r → r ≡ Fixed.Nothing → Marked text i
-  fixed_missing i r t e = subst (FixedAt text i) e t
-
-  pub symbol_found : (i : ℕ) (s : Sign) (j : ℕ) (r : Symbols.Symbol) → Symboled text i r → r ≡ Symbols.TheVariants.At s j → TokenAt text (Symbol s) i j false
-  symbol_found i s j r t e = symbol_is text (subst (Symboled text i) e t)
-
-  pub symbol_missing : (i : ℕ) (r : Symbols.Symbol) → Symboled text i r → r ≡ Symbols.TheVariants.Nothing → NoSymbol text i
-  symbol_missing i r t e = subst (Symboled text i) e t
-
   -- a token at its first byte is the one that comes next
-  pub comes : (at i : ℕ) (r : Next) → Skips text at i → i < length text → StartsAt text i r → Comes text at r
-  comes at i (Next.Token t) s h (e, w) =
-      (subst⁻¹ (Skips text at) e s, subst⁻¹ (λ (x : ℕ). x < length text) e h, subst⁻¹ (λ (x : ℕ). Is text t.kind x t.end) e w.is, subst⁻¹ (λ (x : ℕ). Says t.bad (Bad text t.kind x t.end)) e w.bad_is)
-  comes at i (Next.End p) s h w = absurd w
-  comes at i (Next.NoToken p) s h (e, w) =
-      (subst⁻¹ (Skips text at) e s, subst⁻¹ (λ (x : ℕ). x < length text) e h, λ k j t. w.none k j (subst (λ (x : ℕ). Is text k x j) e t))
+  pub comes_token : {at i j : ℕ} {k : Kind} {b : Bool} → Skips text at i → i < length text → TokenAt text k i j b → Comes text at (Next.Token (record { kind = k; first = i; end = j; bad = b }))
+  comes_token s h w = (s, h, w.is, w.bad_is)
+
+  pub comes_none : {at i : ℕ} → Skips text at i → i < length text → NoneAt text i → Comes text at (Next.NoToken i)
+  comes_none s h w = (s, h, w.none)

@@ -1,5 +1,5 @@
 -- From the longest lexeme to the token, and where none starts. Assumes nothing.
-use mathlib.Core.Path.{◌≡◌, refl, sym, subst}
+use mathlib.Core.Path.{◌≡◌, refl}
 use mathlib.Core.Logic.{◌⊎◌, inl, inr}
 use mathlib.Core.Bool.{true, false, false≢true}
 use mathlib.Core.List.{List, []}
@@ -14,12 +14,11 @@ use Rattle.rules.proofs.Ways.{never}
 use Rattle.lexicon.specs.declared.Form.TheVariants.{Quoted, Word, HeadWord, CodePoint}
 use Rattle.lexicon.specs.declared.Kind.{Kind}
 use Rattle.lexicon.specs.declared.Kind.TheVariants.{Ignorance, Boolean, Integer, Fraction, Bits, Blob, Text, Later, Symbol, Colon, TwoColons}
-use Rattle.lexicon.specs.declared.Next.{Next}
 use Rattle.lexicon.specs.Symbols.{Colons}
 use Rattle.lexicon.specs.Token.{Lexeme, rule, Here, Told}
 use Rattle.lexicon.proofs.Spaces.{byte_single}
 use Rattle.lexicon.proofs.Tokens.{begins, begins_with}
-use Rattle.token.specs.Answers.{NoneAt, TokenAt, StartsAt, colon_at}
+use Rattle.token.specs.Answers.{NoneAt, TokenAt}
 
 colons_begin : begins (any_of ":") [] ≡ true
 unfolding never apart apart_span
@@ -109,7 +108,3 @@ module _ (text : List ℕ) where
             go : {j : ℕ} → Shown i j → ⊥
             go (inl (l, t)) = false≢true (begins_with text (any_of ":") [] l colons_begin a t)
             go (inr (n, r, h)) = let m = r.most four in omega arith
-
-  -- an answer that is the token of one colon
-  pub colon_answer : (i : ℕ) (r : Next) → r ≡ colon_at i → TokenAt text Colon i (i + 1) false → StartsAt text i r
-  colon_answer i r e t = subst (StartsAt text i) (sym e) (refl, t)

@@ -1,15 +1,17 @@
 -- The longest symbol: how far each reaches, told by the first bytes, and what rules the others out. Assumes nothing.
 use mathlib.Core.Path.{◌≡◌, refl, sym, subst, ap, ◌∙◌}
 use mathlib.Core.Logic.{⊎_elim}
-use mathlib.Core.Bool.{true, false≢true}
+use mathlib.Core.Bool.{Bool, true, false, false≢true}
 use mathlib.Core.List.{List, [], ◌∷◌}
 use Prim.Native.Nat.{ℕ, ◌+◌, ◌≤◌}
 use native.Mathlib.Omega.{arith}
 use lib.ListN.{get_or}
 use Rattle.rules.specs.Class.{just, codes}
-use Rattle.rules.specs.Rule.{lit, At, Takes, nothing, byte, both}
+use Rattle.rules.specs.Test.{Says}
+use Rattle.rules.specs.Rule.{one, lit, At, Takes, nothing, byte, both}
 use Rattle.rules.proofs.Classes.{apart, apart_span}
 use Rattle.rules.proofs.Matches.{starting, row_end}
+use Rattle.rules.proofs.Tests.{there, not_there}
 use Rattle.rules.proofs.Ways.{covers}
 use Rattle.lexicon.specs.declared.Bound.{Bound}
 use Rattle.lexicon.specs.declared.Bound.TheVariants.{Open, Less, LessEqual}
@@ -18,7 +20,8 @@ use Rattle.lexicon.specs.declared.Sign.TheVariants.{RoundOpen, RoundClose, Curly
 use Rattle.lexicon.specs.Symbols.{side, symbol}
 use Rattle.lexicon.specs.Token.{Lexeme, a_symbol, rule, Here}
 use Rattle.lexicon.proofs.Tokens.{outreaches, one_of, is_one, reaches_furthest}
-use Rattle.token.specs.Answers.{NoSymbol}
+use Rattle.std.specs.Bool.{then_some}
+use Rattle.token.specs.Answers.{NoSymbol, Symboled}
 use Rattle.token.proofs.Bytes.{at_is}
 
 -- ---- how far they reach
@@ -96,7 +99,7 @@ module _ (text : List ℕ) where
 
   -- ---- two bytes
 
-  pub right_arrow_lem : {i : ℕ} → At text (just 0x2D) i → At text (just 0x3E) (i + 1) → Here text (a_symbol ArrowRight) i (i + 2)
+  right_arrow_lem : {i : ℕ} → At text (just 0x2D) i → At text (just 0x3E) (i + 1) → Here text (a_symbol ArrowRight) i (i + 2)
   unfolding covers apart apart_span
   right_arrow_lem x y = no_further_lem ArrowRight refl (both (byte x refl) (byte y (omega arith)))
 
@@ -104,7 +107,7 @@ module _ (text : List ℕ) where
   unfolding covers apart apart_span
   left_arrow_lem x y = no_further_lem ArrowLeft refl (both (byte x refl) (byte y (omega arith)))
 
-  pub two_dots_lem : {i : ℕ} → At text (just 0x2E) i → At text (just 0x2E) (i + 1) → Here text (a_symbol Dots) i (i + 2)
+  two_dots_lem : {i : ℕ} → At text (just 0x2E) i → At text (just 0x2E) (i + 1) → Here text (a_symbol Dots) i (i + 2)
   unfolding covers apart apart_span
   two_dots_lem x y = no_further_lem Dots refl (both (byte x refl) (byte y (omega arith)))
 
@@ -171,7 +174,7 @@ module _ (text : List ℕ) where
   first_byte_lem (Star Less h) {i} (both (byte x e) t) = at_is text 0x3C i x
   first_byte_lem (Star LessEqual h) {i} (both (both (byte x d) u) t) = at_is text 0x3C i x
 
-  pub dash_none : (i : ℕ) → At text (just 0x2D) i → (At text (just 0x3E) (i + 1) → ⊥) → NoSymbol text i
+  dash_none : (i : ℕ) → At text (just 0x2D) i → (At text (just 0x3E) (i + 1) → ⊥) → NoSymbol text i
   dash_none i x f = record { none = λ s {k} t. go s k t }
     where
       b : get_or text i 0 ≡ 0x2D
@@ -195,7 +198,7 @@ module _ (text : List ℕ) where
       go (Star Less h) k t = omega (arith, first_byte_lem (Star Less h) t, b)
       go (Star LessEqual h) k t = omega (arith, first_byte_lem (Star LessEqual h) t, b)
 
-  pub dot_none : (i : ℕ) → At text (just 0x2E) i → (At text (just 0x2E) (i + 1) → ⊥) → NoSymbol text i
+  dot_none : (i : ℕ) → At text (just 0x2E) i → (At text (just 0x2E) (i + 1) → ⊥) → NoSymbol text i
   dot_none i x f = record { none = λ s {k} t. go s k t }
     where
       b : get_or text i 0 ≡ 0x2E
@@ -272,3 +275,13 @@ module _ (text : List ℕ) where
       go (Star Open h) k t = f₈ (sym e ∙ first_byte_lem (Star Open h) t)
       go (Star Less h) k t = f₉ (sym e ∙ first_byte_lem (Star Less h) t)
       go (Star LessEqual h) k t = f₉ (sym e ∙ first_byte_lem (Star LessEqual h) t)
+
+  -- ---- of two bytes, or none
+
+  pub dash_says : {i : ℕ} {o : Bool} → At text (just 0x2D) i → Says o (Takes text (one (just 0x3E)) (i + 1) (i + 1 + 1)) → Symboled text i (then_some o (record { sign = ArrowRight; end = i + 2 }))
+  dash_says {o = true} x s = right_arrow_lem x (there s refl)
+  dash_says {o = false} x s = dash_none _ x (not_there s refl)
+
+  pub dot_says : {i : ℕ} {o : Bool} → At text (just 0x2E) i → Says o (Takes text (one (just 0x2E)) (i + 1) (i + 1 + 1)) → Symboled text i (then_some o (record { sign = Dots; end = i + 2 }))
+  dot_says {o = true} x s = two_dots_lem x (there s refl)
+  dot_says {o = false} x s = dot_none _ x (not_there s refl)

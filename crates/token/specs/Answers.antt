@@ -1,26 +1,24 @@
 -- What the searches at a token's first byte answer. Assumes nothing.
-use Rattle.std.specs.Prelude.{◌≡◌, ◌⊎◌, Bool, true, false, List, ℕ, ◌+◌, get_or}
+use Rattle.std.specs.Prelude.{◌≡◌, ◌⊎◌, Bool, true, false, List, ℕ, get_or, Option, Some, None}
 use Rattle.rules.specs.Test.{Says}
 use Rattle.rules.specs.Class.{has, just, byte_of}
 use Rattle.rules.specs.Rule.{At, Takes, Fails}
 use Rattle.lexicon.specs.declared.Sign.{Sign}
 use Rattle.lexicon.specs.declared.Kind.{Kind}
-use Rattle.lexicon.specs.declared.Kind.TheVariants.{Colon}
-use Rattle.lexicon.specs.declared.Next.{Next}
+use Rattle.lexicon.specs.declared.Literal.{Literal}
 use Rattle.lexicon.specs.Symbols.{symbol}
 use Rattle.lexicon.specs.Bytes.{word_start, decimal}
 use Rattle.lexicon.specs.Literals.{ignorance, boolean, later}
 use Rattle.lexicon.specs.Token.{Lexeme, an_integer, a_fraction, a_symbol, rule, Here, Is, Bad}
 use Rattle.token.specs.declared.symbol.Symbol.{Symbol}
-use Rattle.token.specs.declared.zero.Fixed.{Fixed}
 
 -- no symbol stands at i
 pub record NoSymbol (text : List ℕ) (i : ℕ) : Type 0 where
   pub none : (s : Sign) {k : ℕ} → Takes text (symbol s) i k → ⊥
 
-abbrev pub Symboled : List ℕ → ℕ → Symbol → Type 0
-Symboled text i (Symbol.At s j) = Here text (a_symbol s) i j
-Symboled text i Symbol.Nothing = NoSymbol text i
+abbrev pub Symboled : List ℕ → ℕ → Option Symbol → Type 0
+Symboled text i (Some s) = Here text (a_symbol s.sign) i s.end
+Symboled text i None = NoSymbol text i
 
 -- no token starts at i
 pub record NoneAt (text : List ℕ) (i : ℕ) : Type 0 where
@@ -32,13 +30,9 @@ pub record TokenAt (text : List ℕ) (k : Kind) (i j : ℕ) (b : Bool) : Type 0 
   pub bad_is : Says b (Bad text k i j)
 
 -- the token that starts at i, or that none does
-abbrev pub StartsAt : List ℕ → ℕ → Next → Type 0
-StartsAt text i (Next.Token t) = (t.first ≡ i) × TokenAt text t.kind i t.end t.bad
-StartsAt text i (Next.End p) = ⊥
-StartsAt text i (Next.NoToken p) = (p ≡ i) × NoneAt text i
-
-abbrev pub colon_at : ℕ → Next
-colon_at i = Next.Token (record { kind = Colon; first = i; end = i + 1; bad = false })
+abbrev pub StartsAt : List ℕ → ℕ → Option (Kind × Literal) → Type 0
+StartsAt text i (Some t) = TokenAt text t.0 i t.1.end t.1.bad
+StartsAt text i None = NoneAt text i
 
 -- no lexeme but an Integer or a Fraction stands at i
 pub record NumberOnly (text : List ℕ) (i : ℕ) : Type 0 where
@@ -52,9 +46,9 @@ pub record Marked (text : List ℕ) (i : ℕ) : Type 0 where
   pub no_true : Fails text (boolean true) i
   pub no_later : Fails text later i
 
-abbrev pub FixedAt : List ℕ → ℕ → Fixed → Type 0
-FixedAt text i (Fixed.At k j) = TokenAt text k i j false
-FixedAt text i Fixed.Nothing = Marked text i
+abbrev pub FixedAt : List ℕ → ℕ → Option (Kind × ℕ) → Type 0
+FixedAt text i (Some t) = TokenAt text t.0 i t.1 false
+FixedAt text i None = Marked text i
 
 -- the byte at i begins no literal without a minus sign, and is no colon
 pub record NotOpening (text : List ℕ) (i : ℕ) : Type 0 where

@@ -9,12 +9,8 @@ use string::quoted::first_bad;
 pub fn bad_place(text: &[u8], t: Token) -> usize
     ensures { PointsIn text.now t result }
 {
-    let kind = t.kind;
-    let Kind::Text(form) = kind else {
-        return t.first;
-    };
-    let Form::Quoted = form else {
-        return t.first;
-    };
-    first_bad(text, t.first)
+    match t.kind {
+        Kind::Text(Form::Quoted) => first_bad(text, t.first),
+        _ => t.first,
+    }
 }

@@ -7,31 +7,26 @@ ghost use Rattle.token.specs.Answers.{StartsAt, NotOpening};
 use crate::literal::{number_token, quoted_token, word_token};
 use crate::symbol::{Symbol, colons, symbol_at};
 use crate::zero::zero;
-use lexicon::{Kind, Next, Set, Token};
+use lexicon::{Kind, Literal, Next, Set, Token};
 use space::space;
 use text::class::{class, holds};
 
 // A symbol, or a number with a minus sign.
-fn punctuation(text: &[u8], at: usize) -> Next
+fn punctuation(text: &[u8], at: usize) -> Option<(Kind, Literal)>
     requires { (at < length text.now) × NotOpening text.now at }
     ensures { StartsAt text.now at result }
 {
-    if let Symbol::At { sign, end } = symbol_at(text, at) {
-        return Next::Token(Token {
-            kind: Kind::Symbol(sign),
-            first: at,
-            end,
-            bad: false,
-        });
+    if let Some(Symbol { sign, end }) = symbol_at(text, at) {
+        return Some((Kind::Symbol(sign), Literal { end, bad: false }));
     }
     if text[at] == b'-' {
         return number_token(text, at);
     }
-    Next::NoToken(at)
+    None
 }
 
 // The token that starts at a byte, told by that byte.
-fn starting(text: &[u8], at: usize) -> Next
+fn starting(text: &[u8], at: usize) -> Option<(Kind, Literal)>
     requires { at < length text.now }
     ensures { StartsAt text.now at result }
 {
@@ -66,5 +61,13 @@ pub fn next(text: &[u8], at: usize) -> Next
     if first >= text.len() {
         return Next::End(text.len());
     }
-    starting(text, first)
+    match starting(text, first) {
+        Some((kind, Literal { end, bad })) => Next::Token(Token {
+            kind,
+            first,
+            end,
+            bad,
+        }),
+        None => Next::NoToken(first),
+    }
 }

@@ -1,176 +1,104 @@
 // Symbols, and runs of colons.
 // A function with a `requires` is this crate's own: its caller has looked at the byte, and a second look would be dead code.
-ghost use Rattle.std.specs.Prelude.{◌≡◌, ◌+◌, ◌<◌, ◌^◌, length};
+ghost use Rattle.std.specs.Prelude.{◌<◌, length};
 ghost use Rattle.rules.specs.Class.{just};
 ghost use Rattle.rules.specs.Rule.{At, Takes, lit};
 ghost use Rattle.lexicon.specs.Symbols.{side};
-ghost use Rattle.token.specs.Answers.{Symboled, StartsAt, colon_at};
+ghost use Rattle.lexicon.specs.Token.{a_symbol, Here};
+ghost use Rattle.token.specs.Answers.{Symboled, StartsAt};
 
-use lexicon::{Bound, Kind, Next, Sign, Token};
+use lexicon::{Bound, Kind, Literal, Sign};
 use text::byte::stands;
 
 // A symbol and the place behind it.
 #[derive(Drop)]
-pub enum Symbol {
-    At { sign: Sign, end: usize },
-    Nothing,
+pub struct Symbol {
+    pub sign: Sign,
+    pub end: usize,
 }
 
 // The longest symbol with the star at `at`, behind a side that begins at `from`.
 fn star(text: &[u8], from: usize, at: usize, low: Bound) -> Symbol
     requires { Takes text.now (lit (side low)) from at × At text.now (just 0x2A) at }
-    ensures { Symboled text.now from result }
+    ensures { Here text.now (a_symbol result.sign) from result.end }
 {
-    if !stands(text, at + 1, b'<') {
-        return Symbol::At {
-            sign: Sign::Star {
-                low,
-                high: Bound::Open,
-            },
-            end: at + 1,
-        };
-    }
-    if stands(text, at + 2, b'=') {
-        return Symbol::At {
-            sign: Sign::Star {
-                low,
-                high: Bound::LessEqual,
-            },
-            end: at + 3,
-        };
-    }
-    Symbol::At {
-        sign: Sign::Star {
-            low,
-            high: Bound::Less,
-        },
-        end: at + 2,
+    let (high, end) = if !stands(text, at + 1, b'<') {
+        (Bound::Open, at + 1)
+    } else if stands(text, at + 2, b'=') {
+        (Bound::LessEqual, at + 3)
+    } else {
+        (Bound::Less, at + 2)
+    };
+    Symbol {
+        sign: Sign::Star { low, high },
+        end,
     }
 }
 
 // The longest symbol that begins with the `<` at `at`.
-fn less(text: &[u8], at: usize) -> Symbol
+fn less(text: &[u8], at: usize) -> Option<Symbol>
     requires { At text.now (just 0x3C) at }
     ensures { Symboled text.now at result }
 {
-    if stands(text, at + 1, b'-') {
-        return Symbol::At {
+    match text.get(at + 1)? {
+        b'-' => Some(Symbol {
             sign: Sign::ArrowLeft,
             end: at + 2,
-        };
+        }),
+        b'*' => Some(star(text, at, at + 1, Bound::Less)),
+        b'=' if stands(text, at + 2, b'*') => Some(star(text, at, at + 2, Bound::LessEqual)),
+        _ => None,
     }
-    if stands(text, at + 1, b'*') {
-        return star(text, at, at + 1, Bound::Less);
-    }
-    if !stands(text, at + 1, b'=') {
-        return Symbol::Nothing;
-    }
-    if stands(text, at + 2, b'*') {
-        return star(text, at, at + 2, Bound::LessEqual);
-    }
-    Symbol::Nothing
-}
-
-fn arrow(text: &[u8], at: usize) -> Symbol
-    requires { At text.now (just 0x2D) at }
-    ensures { Symboled text.now at result }
-{
-    if stands(text, at + 1, b'>') {
-        return Symbol::At {
-            sign: Sign::ArrowRight,
-            end: at + 2,
-        };
-    }
-    Symbol::Nothing
-}
-
-fn dots(text: &[u8], at: usize) -> Symbol
-    requires { At text.now (just 0x2E) at }
-    ensures { Symboled text.now at result }
-{
-    if stands(text, at + 1, b'.') {
-        return Symbol::At {
-            sign: Sign::Dots,
-            end: at + 2,
-        };
-    }
-    Symbol::Nothing
 }
 
 // The longest symbol at a place.
-pub(crate) fn symbol_at(text: &[u8], at: usize) -> Symbol
+pub(crate) fn symbol_at(text: &[u8], at: usize) -> Option<Symbol>
     requires { at < length text.now }
     ensures { Symboled text.now at result }
 {
-    let end = at + 1;
-    let b = text[at];
-    match b {
-        b'(' => Symbol::At {
-            sign: Sign::RoundOpen,
-            end,
-        },
-        b')' => Symbol::At {
-            sign: Sign::RoundClose,
-            end,
-        },
-        b'{' => Symbol::At {
-            sign: Sign::CurlyOpen,
-            end,
-        },
-        b'}' => Symbol::At {
-            sign: Sign::CurlyClose,
-            end,
-        },
-        b'[' => Symbol::At {
-            sign: Sign::SquareOpen,
-            end,
-        },
-        b']' => Symbol::At {
-            sign: Sign::SquareClose,
-            end,
-        },
-        b',' => Symbol::At {
-            sign: Sign::Comma,
-            end,
-        },
-        b'*' => star(text, at, at, Bound::Open),
-        b'<' => less(text, at),
-        b'-' => arrow(text, at),
-        b'.' => dots(text, at),
-        _ => Symbol::Nothing,
-    }
-}
-
-fn colon(at: usize) -> Next
-    requires { at < 2 ^ 63 }
-    ensures { result ≡ colon_at at }
-{
-    Next::Token(Token {
-        kind: Kind::Colon,
-        first: at,
-        end: at + 1,
-        bad: false,
-    })
+    let sign = match text[at] {
+        b'(' => Sign::RoundOpen,
+        b')' => Sign::RoundClose,
+        b'{' => Sign::CurlyOpen,
+        b'}' => Sign::CurlyClose,
+        b'[' => Sign::SquareOpen,
+        b']' => Sign::SquareClose,
+        b',' => Sign::Comma,
+        b'*' => return Some(star(text, at, at, Bound::Open)),
+        b'<' => return less(text, at),
+        b'-' => {
+            return stands(text, at + 1, b'>').then_some(Symbol {
+                sign: Sign::ArrowRight,
+                end: at + 2,
+            });
+        }
+        b'.' => {
+            return stands(text, at + 1, b'.').then_some(Symbol {
+                sign: Sign::Dots,
+                end: at + 2,
+            });
+        }
+        _ => return None,
+    };
+    Some(Symbol { sign, end: at + 1 })
 }
 
 // The token at a run of colons: one or three begin with `:`, two are `::`, more start none.
-pub(crate) fn colons(text: &[u8], at: usize) -> Next
+pub(crate) fn colons(text: &[u8], at: usize) -> Option<(Kind, Literal)>
     requires { At text.now (just 0x3A) at }
     ensures { StartsAt text.now at result }
 {
+    let end = at + 1;
+    let colon = Some((Kind::Colon, Literal { end, bad: false }));
     if !stands(text, at + 1, b':') {
-        return colon(at);
+        return colon;
     }
     if !stands(text, at + 2, b':') {
-        return Next::Token(Token {
-            kind: Kind::TwoColons,
-            first: at,
-            end: at + 2,
-            bad: false,
-        });
+        let end = at + 2;
+        return Some((Kind::TwoColons, Literal { end, bad: false }));
     }
     if !stands(text, at + 3, b':') {
-        return colon(at);
+        return colon;
     }
-    Next::NoToken(at)
+    None
 }

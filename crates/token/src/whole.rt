@@ -2,12 +2,12 @@
 ghost use Rattle.lexicon.specs.Front.{Front};
 ghost use Rattle.lexicon.specs.Utf8.{Encoded};
 
-use lexicon::Encoding;
+use lexicon::NotUtf8;
 use space::front::front as dropped;
 use utf8::utf8 as tested;
 
 // Whether the text is UTF-8; if not, where the first bad sequence begins.
-pub fn utf8(text: &[u8]) -> Encoding
+pub fn utf8(text: &[u8]) -> Result<(), NotUtf8>
     ensures { Encoded text.now result }
 {
     tested(text)

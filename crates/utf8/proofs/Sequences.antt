@@ -1,15 +1,18 @@
 -- The rows of UTF-8's table: which row a first byte leaves. Assumes nothing.
-use mathlib.Core.Path.{refl}
+use mathlib.Core.Path.{◌≡◌, refl, subst}
 use mathlib.Core.List.{List}
 use Prim.Native.Nat.{ℕ, ◌+◌, ◌≤◌, ◌<◌}
-use lib.ListN.{length, get_or}
+use lib.ListN.{get_or}
 use native.Mathlib.Omega.{arith}
-use Rattle.rules.specs.Rule.{Rule, ◌then◌, Takes, Longest, Fails}
+use Rattle.rules.specs.Class.{Class}
+use Rattle.rules.specs.Rule.{Rule, one, ◌then◌, Takes, Longest, Fails}
 use Rattle.rules.proofs.Classes.{apart, apart_span}
 use Rattle.rules.proofs.Ways.{never}
+use Rattle.rules.proofs.Matches.{byte_end, ending}
 use Rattle.lexicon.specs.Utf8.{range, tail, sequence}
 use Rattle.lexicon.specs.Found.{Finds}
-use Rattle.std.specs.Prelude.{Option, Some}
+use Rattle.std.proofs.Common.{Option, Some, Bor}
+use Rattle.std.specs.Slice.{IsItemAt}
 use Rattle.text.proofs.Ranges.{in_range}
 use Rattle.text.proofs.Searches.{Same, found, first, whole, this, past, fails, byte_longest}
 
@@ -60,15 +63,25 @@ module _ {text : List ℕ} {i : ℕ} where
   no_row_F5 t = fails refl t
 
 -- the ways out of `sequence`, by the first byte
-module _ (text : List ℕ) (i : ℕ) (here : i < length text) where
-  pub ascii : get_or text i 0 < 0x80 → Longest text sequence i (i + 1)
-  ascii h = let t = in_range text 0x00 0x7F i here (omega arith) (omega arith) in found (Some (i + 1)) (row_ascii t) (byte_longest t)
+module _ {text : List ℕ} {i : ℕ} (x : Bor ℕ) (lent : IsItemAt text i (Some x)) where
+  within : (low high : ℕ) → low ≤ x.now → x.now ≤ high → Takes text (range low high) i (i + 1)
+  within low high l h = let same : x.now ≡ get_or text i 0 = lent.4 (omega arith) 0 in in_range text low high i lent.3.0 (omega arith) (omega arith)
 
-  pub leads : (low high : ℕ) {r : Rule} {k : ℕ} (f : Option ℕ) → (Takes text (range low high) i (i + 1) → Same text sequence i r k) → low ≤ get_or text i 0 → get_or text i 0 ≤ high → Finds text r k f → Finds text sequence i f
-  leads low high f row l h e = found f (row (in_range text low high i here l h)) e
+  pub ascii : x.now < 0x80 → Longest text sequence i (i + 1)
+  ascii h = let t = within 0x00 0x7F (omega arith) (omega arith) in found (Some (i + 1)) (row_ascii t) (byte_longest t)
 
-  pub stray : 0x80 ≤ get_or text i 0 → get_or text i 0 < 0xC2 → Fails text sequence i
-  stray l h = no_row_80 (in_range text 0x80 0xC1 i here l (omega arith))
+  pub leads : (low high : ℕ) {r : Rule} (f : Option ℕ) → (Takes text (range low high) i (i + 1) → Same text sequence i r (i + 1)) → low ≤ x.now → x.now ≤ high → Finds text r (i + 1) f → Finds text sequence i f
+  leads low high f row l h e = found f (row (within low high l h)) e
 
-  pub too_high : 0xF5 ≤ get_or text i 0 → get_or text i 0 < 256 → Fails text sequence i
-  too_high l h = no_row_F5 (in_range text 0xF5 0xFF i here l (omega arith))
+  pub stray : 0x80 ≤ x.now → x.now < 0xC2 → Fails text sequence i
+  stray l h = no_row_80 (within 0x80 0xC1 l (omega arith))
+
+  pub too_high : 0xF5 ≤ x.now → x.now < 256 → Fails text sequence i
+  too_high l h = no_row_F5 (within 0xF5 0xFF l (omega arith))
+
+-- a byte of a class, and then the rest of the rule behind it
+module _ {text : List ℕ} {c : Class} {i : ℕ} where
+  pub then_finds : (r : Rule) {j : ℕ} (f : Option ℕ) → Longest text (one c) i j → Finds text r j f → Finds text (one c then r) i f
+  then_finds r {j} f l t =
+      let e : j ≡ i + 1 = byte_end l.takes in
+      found f (first (ending e l.takes)) (subst (λ (x : ℕ). Finds text r x f) e t)

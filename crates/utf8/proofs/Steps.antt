@@ -15,7 +15,7 @@ use Rattle.rules.proofs.Tests.{refuted}
 use Rattle.rules.proofs.Matches.{ending, starting, forward}
 use Rattle.lexicon.specs.Utf8.{range, sequence}
 use Rattle.lexicon.specs.Steps.{eight, Steps, eight_bytes, one_sequence, TestedAs}
-use Rattle.std.specs.Prelude.{Ok, Err}
+use Rattle.std.proofs.Common.{Ok, Err}
 use Rattle.lexicon.proofs.Steps.{eight_end, no_eight_next, steps_reach}
 use Rattle.text.proofs.Ranges.{in_range}
 use Rattle.text.proofs.Searches.{fails}
@@ -68,5 +68,5 @@ module _ {text : List ℕ} where
   pub all_formed : {i n : ℕ} → Steps text i n → i ≡ length text → TestedAs text (record { encoding = Ok tt; steps = n })
   all_formed {i} {n} s e = record { encoded = ending e (steps_reach text s); steps_are = subst (λ (x : ℕ). Steps text x n) e s }
 
-  pub bad_here : {i n : ℕ} → Steps text i n → i < length text → Fails text sequence i → TestedAs text (record { encoding = Err (record { at = i }); steps = n })
+  pub bad_here : {i n : ℕ} → Steps text i n → i < length text → Fails text sequence i → TestedAs text (record { encoding = Err record { at = i }; steps = n })
   bad_here s here f = record { encoded = record { reached = steps_reach text s; within = here; none = f }; steps_are = s }

@@ -10,45 +10,39 @@ use eight::ascii;
 use lexicon::{NotUtf8, Tested};
 use text::byte::within;
 
+// The place behind a byte from `low` to `high`, if one stands at `at`.
+fn byte(text: &[u8], at: usize, low: u8, high: u8) -> Option<usize>
+    ensures { Finds text.now (Utf8.range low high) at result }
+{
+    within(text, at, low, high).then(|| at + 1)
+}
+
 // The last byte of a sequence.
 fn last(text: &[u8], at: usize) -> Option<usize>
     ensures { Finds text.now Utf8.tail at result }
 {
-    if within(text, at, 0x80, 0xBF) {
-        return Some(at + 1);
-    }
-    None
+    byte(text, at, 0x80, 0xBF)
 }
 
 // The last two, of which the first is from `low` to `high`.
 fn last_two(text: &[u8], at: usize, low: u8, high: u8) -> Option<usize>
     ensures { Finds text.now (Utf8.range low high then Utf8.tail) at result }
 {
-    if within(text, at, low, high) {
-        return last(text, at + 1);
-    }
-    None
+    last(text, byte(text, at, low, high)?)
 }
 
 // The last three, of which the first is from `low` to `high`.
 fn last_three(text: &[u8], at: usize, low: u8, high: u8) -> Option<usize>
     ensures { Finds text.now (Utf8.range low high then Utf8.tail then Utf8.tail) at result }
 {
-    if within(text, at, low, high) {
-        return last_two(text, at + 1, 0x80, 0xBF);
-    }
-    None
+    last_two(text, byte(text, at, low, high)?, 0x80, 0xBF)
 }
 
 // The end of the well-formed sequence that begins at `at`. The first byte tells the length, and what the second may be.
 pub fn sequence(text: &[u8], at: usize) -> Option<usize>
     ensures { Finds text.now Utf8.sequence at result }
 {
-    if text.len() <= at {
-        return None;
-    }
-    let lead = text[at];
-    match lead {
+    match *text.get(at)? {
         0x00..=0x7F => Some(at + 1),
         0xC2..=0xDF => last(text, at + 1),
         0xE0 => last_two(text, at + 1, 0xA0, 0xBF),
@@ -66,22 +60,14 @@ pub fn sequence(text: &[u8], at: usize) -> Option<usize>
 fn eights(text: &[u8], at: usize) -> usize
     ensures { Longest text.now (many eight) at result }
 {
-    let mut i = at;
-    while ascii(text, i) {
-        i += 8;
-    }
-    i
+    eight::run::run(text, at, |i| ascii(text, i))
 }
 
 // Where the plain ASCII bytes at `at` end.
 fn singles(text: &[u8], at: usize) -> usize
     ensures { Longest text.now (many (Utf8.range 0x00 0x7F)) at result }
 {
-    let mut i = at;
-    while within(text, i, 0x00, 0x7F) {
-        i += 1;
-    }
-    i
+    text::run::run(text, at, |b| b < 0x80)
 }
 
 // Whether the text is well-formed sequences from the front; if not, where the first bad one begins; and the steps up to there.
@@ -119,6 +105,5 @@ pub fn tested(text: &[u8]) -> Tested
 pub fn utf8(text: &[u8]) -> Result<(), NotUtf8>
     ensures { Utf8.Encoded text.now result }
 {
-    let answer = tested(text);
-    answer.encoding
+    tested(text).encoding
 }

@@ -1,19 +1,31 @@
 -- Bare words, and exactly these bytes. Assumes nothing.
-use mathlib.Core.Path.{◌≡◌, refl, sym, ap, ◌∙◌}
-use mathlib.Core.Bool.{Bool, true, false, not}
+use mathlib.Core.Path.{◌≡◌, sym, ap, subst, subst⁻¹, ◌∙◌}
+use mathlib.Core.Logic.{⊎_elim}
+use mathlib.Core.Bool.{Bool, true, false}
+use Rattle.std.proofs.Common.{Option, Some, None, Bor}
+use Rattle.std.specs.Option.{option_eq}
+use Rattle.std.specs.List.{slice_range}
+use Rattle.std.specs.Slice.{IsItemAt, IsGetRangeResult}
+use Rattle.std.specs.Cmp.Lexicographic.{pointwise}
+use Rattle.std.proofs.lemmas.Grind.{same_number_lists}
+use Rattle.std.proofs.lemmas.List.Edits.{length-between, get_or-between}
+use Rattle.std.proofs.lemmas.Bool.Decides.{Decides-eqb}
+use Rattle.std.proofs.lemmas.Slice.Eq.{slice_eq-Decides}
+use lib.Dec.{eqb}
 use mathlib.Core.List.{List, [], ◌∷◌}
 use Prim.Native.Nat.{ℕ, zero, suc, ◌+◌, ◌-◌, ◌≤◌, ◌<◌}
 use native.Mathlib.Omega.{arith}
-use borrow.Author.Count.{below_more}
-use borrow.Author.Tests.{not-true, not-false}
+use borrow.Author.Tests.{eqb-true, eq-eqb}
 use lib.ListN.{length, get_or}
 use Rattle.rules.specs.Test.{Says}
 use Rattle.rules.specs.Class.{has, just}
-use Rattle.rules.specs.Rule.{one, many, row, lit, Takes, nothing, byte, both, stop, At, Longest, Fails}
-use Rattle.rules.proofs.Bools.{not_both}
+use Rattle.rules.specs.Rule.{one, many, row, lit, Takes, nothing, byte, both, At, Longest, Fails}
+use Rattle.rules.proofs.Bools.{clash}
 use Rattle.rules.proofs.Classes.{is_just, just_is}
-use Rattle.rules.proofs.Matches.{starting, one_at, row_end}
-use Rattle.rules.proofs.Chains.{snoc, longest}
+use Rattle.rules.proofs.Matches.{starting, one_at, row_end, inside}
+use Rattle.lexicon.specs.declared.Set.TheVariants.{WordStart}
+use Rattle.text.specs.Classes.{IsTable, in_sum}
+use Rattle.text.proofs.Sets.{in_table}
 use Rattle.lexicon.specs.declared.Head.{Head}
 use Rattle.lexicon.specs.declared.Head.TheVariants.{Array, Set, Bag, Mix, IntervalSet, IntervalBag, TupleArray, Relation, TupleBag, Article, Excuse, Heading, Renaming}
 use Rattle.lexicon.specs.declared.Form.{Form}
@@ -22,55 +34,26 @@ use Rattle.lexicon.specs.Bytes.{word_start, word_rest}
 use Rattle.lexicon.specs.Literals.{word}
 use Rattle.lexicon.specs.Token.{head_word}
 use Rattle.word.specs.Heads.{NoneOf, TellsOf, Tells, collections}
-use Rattle.rules.proofs.Tests.{says_no, says_yes, there, not_there}
-use Rattle.lexicon.proofs.Spaces.{byte_single}
+use Rattle.rules.proofs.Tests.{says_no}
 
 -- ---- words
 
--- a word begins at i and goes on to j
-pub record Passed (text : List ℕ) (i j : ℕ) : Type 0 where
-  pub start : At text word_start i
-  pub rest : Takes text (many (one word_rest)) (i + 1) j
-  pub within : j ≤ length text
+-- by the byte that stands at the place, and its entry in the table
+module _ (text table : List ℕ) (i : ℕ) (t : IsTable table) (x : Bor ℕ) (lent : IsItemAt text i (Some x)) (f : (k : ℕ) → get_or text k 0 < 256) {o : Bool} (e : o ≡ in_sum WordStart (get_or table x.now 0)) where
+  starts_lem : o ≡ has word_start (get_or text i 0)
+  starts_lem = let same : x.now ≡ get_or text i 0 = lent.4 (omega arith) 0 in in_table WordStart t (f i) (subst (λ (b : ℕ). o ≡ in_sum WordStart (get_or table b 0)) same e)
 
-module _ {text : List ℕ} {i : ℕ} where
-  no_word : (At text word_start i → ⊥) → Fails text word i
-  no_word n = record { none = go }
+  pub word_other : o ≡ false → Fails text word i
+  word_other g = record { none = go }
     where
       go : {k : ℕ} → Takes text word i k → ⊥
-      go (both (byte a e) t) = n a
+      go (both (byte a h) u) = clash (starts_lem ∙ a.1) g
 
-  pub word_beyond_lem : length text ≤ i → Fails text word i
-  word_beyond_lem h = no_word (λ a. omega (arith, a.0))
-
-  pub word_other : {o : Bool} → o ≡ has word_start (get_or text i 0) → not o ≡ true → Fails text word i
-  word_other {o} e f = no_word (λ a. not_both o (e ∙ a.1) f)
-
-  pub word_first : {o : Bool} → i < length text → o ≡ has word_start (get_or text i 0) → not o ≡ false → Passed text i (i + 1)
-  word_first {o} h e f = record { start = (h, sym e ∙ not-false o f); rest = stop refl; within = omega arith }
-
-module _ {text : List ℕ} {i j : ℕ} where
-  pub word_more : {o : Bool} → Passed text i j → j < length text → o ≡ has word_rest (get_or text j 0) → not o ≡ false → Passed text i (j + 1)
-  word_more {o} p h e f =
-      record { start = p.start; rest = snoc p.rest (one_at (h, sym e ∙ not-false o f)); within = omega arith }
-
-  word_stops : Passed text i j → (At text word_rest j → ⊥) → Longest text word i j
-  word_stops p n = record { takes = both (one_at p.start) p.rest; most = most }
+  pub word_on : {j : ℕ} → o ≡ true → Longest text (many (one word_rest)) (i + 1) j → Longest text word i j
+  word_on {j} g l = record { takes = both (one_at (lent.3.0, sym starts_lem ∙ g)) l.takes; most = most }
     where
-      stops : Fails text (one word_rest) j
-      stops = record { none = go }
-        where
-          go : {k : ℕ} → Takes text (one word_rest) j k → ⊥
-          go (byte b e) = n b
-
       most : {k : ℕ} → Takes text word i k → k ≤ j
-      most (both (byte b e) t) = (longest (byte_single word_rest) p.rest stops).most (starting e t)
-
-  pub word_ends : {o : Bool} → Passed text i j → o ≡ has word_rest (get_or text j 0) → not o ≡ true → Longest text word i j
-  word_ends {o} p e f = word_stops p (λ a. not_both o (e ∙ a.1) f)
-
-  pub word_all : Passed text i j → length text ≤ j → Longest text word i j
-  word_all p h = word_stops p (λ a. omega (arith, a.0))
+      most (both (byte b h) u) = l.most (starting h u)
 
 -- ---- exactly these bytes
 
@@ -115,36 +98,40 @@ module _ (text : List ℕ) where
   row_same (b ∷ c ∷ w) {i} (both {m = m} (byte a e) t) (suc k) h =
       same_tail b (c ∷ w) i m k e (row_same (c ∷ w) t k (omega arith))
 
--- the first k of the bytes stand from i on
-pub record Matched (text w : List ℕ) (i k : ℕ) : Type 0 where
-  pub same : Same text w i k
-  pub within : k ≤ length w
+-- a row of bytes stands within the text, but for none of them
+row_inside : {text : List ℕ} (w : List ℕ) {i j : ℕ} → 0 < length w → Takes text (row w) i j → j ≤ length text
+row_inside [] h t = absurd (omega arith)
+row_inside (b ∷ []) h (byte a e) = omega (arith, a.0)
+row_inside (b ∷ c ∷ w) h (both (byte a e) t) = inside t (omega (arith, a.0))
 
-module _ (text w : List ℕ) (i j : ℕ) where
-  pub spells_back : j < i → Says false (Takes text (row w) i j)
-  spells_back h = says_no (λ t. let e = row_end w t in omega arith)
+module _ {text : List ℕ} {i j : ℕ} where
+  -- the part of the text from i to j is w just where w stands there
+  part_is : (w : List ℕ) → i ≤ j → j ≤ length text → slice_range text i j ≡ w → Takes text (row w) i j
+  part_is w h l e =
+      let n : length w ≡ j - i = ap length (sym e) ∙ length-between text i j l in
+      row_takes text w i j (omega arith) (λ k lt. (omega arith, sym (get_or-between text i j k 0 (omega arith)) ∙ ap (λ (x : List ℕ). get_or x k 0) e))
 
-  pub spells_longer : i ≤ j → (j - i ≡ length w → ⊥) → Says false (Takes text (row w) i j)
-  spells_longer h n = says_no (λ t. let e = row_end w t in n (omega arith))
+  is_part : (w : List ℕ) → j ≤ length text → Takes text (row w) i j → slice_range text i j ≡ w
+  is_part w l t =
+      let e = row_end w t in
+      let n : length (slice_range text i j) ≡ length w = length-between text i j l ∙ omega arith in
+      same_number_lists (slice_range text i j) w n (λ k lt. get_or-between text i j k 0 (omega arith) ∙ (row_same text w t k (omega arith)).1)
 
-  pub spells_all : (k : ℕ) → i ≤ j → j - i ≡ length w → Matched text w i k → length w ≤ k → Says true (Takes text (row w) i j)
-  spells_all k h e m l =
-      says_yes (row_takes text w i j (omega arith) (λ n lt. m.same n (omega arith)))
-
-  pub spells_other : (k : ℕ) (o : Bool) → k < length w → Says o (Takes text (one (just (get_or w k 0))) (i + k) (i + k + 1)) → not o ≡ true → Says false (Takes text (row w) i j)
-  spells_other k o h s e =
-      says_no (λ t.
-      let p = row_same text w t k h in
-      not_there s (not-true o e) (p.0, is_just (get_or w k 0) (get_or text (i + k) 0) p.1))
-
-  pub spells_more : (k : ℕ) (o : Bool) → k < length w → Matched text w i k → Says o (Takes text (one (just (get_or w k 0))) (i + k) (i + k + 1)) → not o ≡ false → Matched text w i (k + 1)
-  spells_more k o h m s e = record { same = below_more _ k m.same (a.0, just_is _ _ a.1); within = omega arith }
+  pub spells_none : (w : List ℕ) → length w ≡ 0 → Says (eqb i j) (Takes text (row w) i j)
+  spells_none [] h = record { true_holds = λ e. nothing (eqb-true i j e); holds_true = λ t. eq-eqb i j (gone t) }
     where
-      a : At text (just (get_or w k 0)) (i + k)
-      a = there s (not-false o e)
+      gone : Takes text (row []) i j → i ≡ j
+      gone (nothing e) = e
+  spells_none (b ∷ w) h = absurd (omega arith)
 
-  pub spells_none : Matched text w i 0
-  spells_none = record { same = λ k h. absurd (omega arith); within = omega arith }
+  pub spells_part : (w : Bor (List ℕ)) (r : Option (Bor (List ℕ))) (o : Bool) → 0 < length w.now → IsGetRangeResult text i j r → o ≡ option_eq (λ x y. pointwise eqb x.now y.now) r (Some w) → Says o (Takes text (row w.now) i j)
+  spells_part w None o h p e = subst⁻¹ (λ (b : Bool). Says b (Takes text (row w.now) i j)) e (says_no (λ t. ⊎_elim (λ back. omega (arith, row_end w.now t)) (λ over. omega (arith, row_inside w.now h t)) p.0))
+  spells_part w (Some x) o h p e =
+      let d = slice_eq-Decides Decides-eqb x.now w.now o e in
+      record {
+        true_holds = λ t. part_is w.now p.0.0 p.0.1 (sym p.0.2 ∙ d.0 t);
+        holds_true = λ t. d.1 (p.0.2 ∙ is_part w.now p.0.1 t);
+      }
 
 -- ---- head words
 

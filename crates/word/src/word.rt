@@ -6,26 +6,18 @@ ghost use Rattle.word.specs.Heads.{Tells, TellsOf, tuples, intervals, collection
 use crate::spelling::spells;
 use lexicon::{Form, Head, Set};
 use text::class::{classes, holds};
+use text::run::run;
 
 // Where the word at the place ends.
 pub fn word(text: &[u8], at: usize) -> Option<usize>
     ensures { Finds text.now Literals.word at result }
 {
     let classes = classes();
-    if at >= text.len() {
+    let first = *text.get(at)?;
+    if !holds(classes[first as usize], Set::WordStart) {
         return None;
     }
-    if !holds(classes[text[at] as usize], Set::WordStart) {
-        return None;
-    }
-    let mut i = at + 1;
-    while i < text.len() {
-        if !holds(classes[text[i] as usize], Set::WordRest) {
-            return Some(i);
-        }
-        i += 1;
-    }
-    Some(i)
+    Some(run(text, at + 1, |b| holds(classes[b as usize], Set::WordRest)))
 }
 
 // Which head word of tuples stands from one place to the other, if any.

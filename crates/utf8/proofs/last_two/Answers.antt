@@ -1,14 +1,8 @@
 -- `utf8::last_two` meets its contract: after its first byte the rule is what `last` looks for. Assumes nothing.
-use native.Mathlib.Omega.{arith}
 use Rattle.lexicon.specs.Utf8.{tail}
-use Rattle.text.proofs.Searches.{room, then_found, then_missed}
+use Rattle.lexicon.proofs.Answers.{found_at}
+use Rattle.utf8.proofs.Sequences.{then_finds}
 use Rattle.utf8.proofs.last_two.Goals as goal
 
-pub overflow_add-at : goal.overflow_add-at
-overflow_add-at c = omega (arith, room c.within.ensures c.if-within.true)
-
-pub returns-then-within : goal.returns-then-within
-returns-then-within c = then_found tail c.last.result c.within.ensures c.if-within.true c.last.ensures
-
 pub returns : goal.returns
-returns c = then_missed c.within.ensures c.if-within.false
+returns c = then_finds tail c.last.result (found_at c.in_ok-byte.was c.byte.ensures) c.last.ensures

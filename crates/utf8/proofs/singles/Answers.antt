@@ -1,24 +1,11 @@
--- `utf8::singles` meets its contract: the bytes up to `i` are plain. Assumes nothing.
-use mathlib.Core.Path.{refl}
-use native.Mathlib.Omega.{arith}
-use Rattle.rules.specs.Rule.{stop}
-use Rattle.rules.proofs.Chains.{snoc, longest}
-use Rattle.rules.proofs.Tests.{there}
-use Rattle.lexicon.proofs.Spaces.{byte_single}
-use Rattle.text.proofs.Searches.{byte_missed}
+-- `utf8::singles` meets its contract: the bytes below 80. Assumes nothing.
+use Rattle.std.proofs.Common.{rules, refl, [], ◌∷◌}
+use Rattle.std.proofs.Math.Dec.{ltb}
+use Rattle.rules.specs.Class.{◌upto◌, has}
+use Rattle.rules.proofs.Bools.{below}
+use Rattle.text.proofs.Runs.{agrees, tells_class}
 use Rattle.utf8.proofs.singles.Goals as goal
 
-pub loop-i-init : goal.loop-i-init
-loop-i-init c = stop refl
-
-pub overflow_add-i : goal.overflow_add-i
-overflow_add-i c = omega (arith, (there c.within.ensures c.loop-i-test.true).0)
-
-pub loop-i-smaller : goal.loop-i-smaller
-loop-i-smaller c = omega (arith, (there c.within.ensures c.loop-i-test.true).0)
-
-pub loop-i-preserved : goal.loop-i-preserved
-loop-i-preserved c = snoc c.loop-i.invariant (c.within.ensures.true_holds c.loop-i-test.true)
-
 pub returns : goal.returns
-returns c = longest (byte_single _) c.loop-i.invariant (byte_missed c.within.ensures c.loop-i-test.false)
+unfolding has below agrees
+returns c = c.run.ensures (0x00 upto 0x7F ∷ []) (tells_class (0x00 upto 0x7F ∷ []) (λ b. ltb b 0x80) refl (λ b o a. search rules))

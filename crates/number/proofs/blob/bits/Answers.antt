@@ -17,13 +17,13 @@ pub tail_at-requires-in-120 : goal.tail_at-requires-in-120
 tail_at-requires-in-120 c = (omega arith, OfDigits.hexadecimal)
 
 pub returns-in-98 : goal.returns-in-98
-returns-in-98 c = bits_binary _ (rw c.in-98.is at c.in_ok-third.ensures) c.tail_at.ensures
+returns-in-98 c = bits_binary _ _ _ (rw c.in-98.is at c.in_ok-third.ensures) c.tail_at.ensures
 
 pub returns-in-111 : goal.returns-in-111
-returns-in-111 c = bits_octal _ (rw c.in-111.is at c.in_ok-third.ensures) c.tail_at-in-111.ensures
+returns-in-111 c = bits_octal _ _ _ (rw c.in-111.is at c.in_ok-third.ensures) c.tail_at-in-111.ensures
 
 pub returns-in-120 : goal.returns-in-120
-returns-in-120 c = bits_hexadecimal _ (rw c.in-120.is at c.in_ok-third.ensures) c.tail_at-in-120.ensures
+returns-in-120 c = bits_hexadecimal _ _ _ (rw c.in-120.is at c.in_ok-third.ensures) c.tail_at-in-120.ensures
 
 pub returns-in_default : goal.returns-in_default
 returns-in_default c = let m = c.in_ok-third.ensures in

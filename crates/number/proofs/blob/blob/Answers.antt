@@ -17,13 +17,13 @@ pub tail_at-end-requires : goal.tail_at-end-requires
 tail_at-end-requires c = (omega arith, OfDigits.base64)
 
 pub returns-in-98 : goal.returns-in-98
-returns-in-98 c = blob_binary _ (rw c.in-98.is at c.in_ok-third.ensures) c.tail_at.ensures
+returns-in-98 c = blob_binary _ _ _ (rw c.in-98.is at c.in_ok-third.ensures) c.tail_at.ensures
 
 pub returns-in-120 : goal.returns-in-120
-returns-in-120 c = blob_hexadecimal _ (rw c.in-120.is at c.in_ok-third.ensures) c.tail_at-in-120.ensures
+returns-in-120 c = blob_hexadecimal _ _ _ (rw c.in-120.is at c.in_ok-third.ensures) c.tail_at-in-120.ensures
 
 pub returns-in-121 : goal.returns-in-121
-returns-in-121 c = blob_base64 _ (rw c.in-121.is at c.in_ok-third.ensures) c.tail_at-end.ensures
+returns-in-121 c = blob_base64 _ (rw c.in-121.is at c.in_ok-third.ensures) c.tail_at-end.ensures c.is_unfit.ensures
 
 pub returns-in_default : goal.returns-in_default
 returns-in_default c = let m = c.in_ok-third.ensures in

@@ -8,7 +8,8 @@ use Rattle.number.specs.Groups.{Summed}
 use Rattle.number.proofs.groups.longest_row.Given as goal
 
 abbrev pub invariant-loop-end : goal.invariant-loop-end
-invariant-loop-end l = (l.end ≤ length l.text) × Summed l.text l.set l.width l.at l.end l.sum × Fails l.text (unit l.width (members l.set)) l.end
+invariant-loop-end g l =
+    (l.end ≤ length l.text) × Summed g.T.Tally.more l.fn.start l.text l.set l.width l.at l.end l.sum × Fails l.text (unit l.width (members l.set)) l.end
 
 abbrev pub decreases-loop-end : goal.decreases-loop-end
-decreases-loop-end l = length l.text - l.end
+decreases-loop-end g l = length l.text - l.end

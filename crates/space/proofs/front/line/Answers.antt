@@ -1,7 +1,7 @@
 -- `space::front::line` meets its contract: behind `#!` the rule is what `rest` looks for. Assumes nothing.
 use native.Mathlib.Omega.{arith}
 use Rattle.rules.proofs.Matches.{byte_at}
-use Rattle.std.specs.Prelude.{Some, None}
+use Rattle.std.proofs.Common.{Some, None}
 use Rattle.text.proofs.Searches.{found, regroup, then_longest, then_missed, then_fails, longest_from, opt_longest, opt_missed}
 use Rattle.space.proofs.front.line.Goals as goal
 

@@ -1,20 +1,16 @@
 -- `token::literal::number_token` meets its contract. Assumes nothing.
-use Rattle.token.proofs.Dispatch.{integer_is, fraction_is, number_none, integer_found, fraction_found, numeral_missing, signed_plus, signed_other}
-use mathlib.Core.Path.{refl}
+use native.Mathlib.Omega.{arith}
+use Rattle.token.proofs.Dispatch.{integer_is, fraction_is, number_none, signed, unsigned}
 use Rattle.token.proofs.literal.number_token.Goals as goal
 
-pub returns-then-b-eq43 : goal.returns-then-b-eq43
-returns-then-b-eq43 c = let w = integer_found _ _ _ c.numeral.result c.numeral.ensures c.in-Integer.is in
-    (refl, integer_is _ c.requires.1 w.0 w.1 (signed_plus _ c.if-b-eq43.true))
+pub returns-in_err-end : goal.returns-in_err-end
+returns-in_err-end c = let w = c.in_err-end.ensures in rw c.from_residual.ensures (number_none _ c.requires.1 w.0 w.1)
 
-pub returns-else-b-eq43 : goal.returns-else-b-eq43
-returns-else-b-eq43 c = let w = integer_found _ _ _ c.numeral.result c.numeral.ensures c.in-Integer.is in
-    (refl, integer_is _ c.requires.1 w.0 w.1 (signed_other _ c.if-b-eq43.false))
+pub returns-in-43 : goal.returns-in-43
+returns-in-43 c = let w = rw c.in-Integer.is at c.in_ok-end.ensures in integer_is _ c.requires.1 w.0 w.1 (signed c.in-43.is)
+
+pub returns-in_default : goal.returns-in_default
+returns-in_default c = let w = rw c.in-Integer.is at c.in_ok-end.ensures in integer_is _ c.requires.1 w.0 w.1 (unsigned _ (λ e. grind arith) (λ e. grind arith))
 
 pub returns-in-Fraction : goal.returns-in-Fraction
-returns-in-Fraction c = let w = fraction_found _ _ _ _ c.numeral.result c.numeral.ensures c.in-Fraction.is in
-    (refl, fraction_is _ c.requires.1 w.0 w.1)
-
-pub returns-in-Nothing : goal.returns-in-Nothing
-returns-in-Nothing c = let w = numeral_missing _ _ c.numeral.result c.numeral.ensures c.in-Nothing.is in
-    (refl, number_none _ c.requires.1 w.0 w.1)
+returns-in-Fraction c = let w = rw c.in-Fraction.is at c.in_ok-end.ensures in fraction_is _ c.requires.1 w.0 w.1
