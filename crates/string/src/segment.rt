@@ -151,6 +151,7 @@ fn escaped(text: &[u8], at: usize) -> Option<Walk>
 }
 
 // A segment.
+#[inline(always)]
 pub fn segment(text: &[u8], at: usize) -> Option<Walk>
     ensures { SegmentWalked text.now at result }
 {
