@@ -50,6 +50,7 @@ pub(crate) fn longest_row<T: Tally>(
         return None;
     }
     let mut sum = start.with(&text[at..end]);
+    // By hand: a turn goes on by a joint and the units behind it, or ends without either.
     loop {
         let next = joint(text, end);
         // Without a joint the row ends here: no unit stands behind the last.

@@ -84,6 +84,7 @@ fn escape(text: &[u8], at: usize) -> Option<Literal>
         return None;
     }
     let end = at + 2;
+    // The form of 01: six letters, the angle, and a rest that refuses.
     let letter = Some(Literal { end, bad: false });
     match *text.get(at + 1)? {
         b'q' => letter,
@@ -122,6 +123,7 @@ fn restricted(text: &[u8], at: usize) -> Option<usize>
 fn plain(text: &[u8], at: usize) -> Option<usize>
     ensures { Finds text.now Parts.plain_rest at result }
 {
+    // By hand: each turn goes on by the length of what it found, and only the last one knows the end.
     let mut i = at;
     loop {
         i = run(text, i);
@@ -137,6 +139,7 @@ fn plain(text: &[u8], at: usize) -> Option<usize>
 fn escaped(text: &[u8], at: usize) -> Option<Walk>
     ensures { RestWalked text.now at result }
 {
+    // By hand, as above.
     let mut i = at;
     let mut bad = None;
     loop {
@@ -151,6 +154,7 @@ fn escaped(text: &[u8], at: usize) -> Option<Walk>
 }
 
 // A segment.
+#[inline(always)]
 pub fn segment(text: &[u8], at: usize) -> Option<Walk>
     ensures { SegmentWalked text.now at result }
 {

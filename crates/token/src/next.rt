@@ -1,5 +1,7 @@
 // What comes next in a text: dividing space is passed over, then a token, the end, or a byte at which none starts.
 // A function with a `requires` is this crate's own: its caller has looked at the byte, and a second look would be dead code.
+// Text and place are passed side by side: the place changes and the text doesn't, so that `space(text, end)` would build a struct of both
+// anew at each call.
 ghost use Rattle.std.specs.Prelude.{◌<◌, length};
 ghost use Rattle.lexicon.specs.Token.{Comes};
 ghost use Rattle.token.specs.Answers.{StartsAt, NotOpening};
