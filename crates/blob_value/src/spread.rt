@@ -24,8 +24,7 @@ fn number(piece: &[u8], at: usize, count: usize, radix: u64) -> u64
     sum
 }
 
-// A number as so many bytes, most significant first. It is always inlined, as `units` is: a writer whose place is in memory is slower.
-#[inline(always)]
+// A number as so many bytes, most significant first.
 fn spread(number: u64, count: usize, kind: Kind, out: &mut Writer)
     requires { count ≤ 8 }
     ensures { Appends out.old (parts (size_of kind) count number) out.new }
@@ -54,7 +53,6 @@ pub(crate) fn count(piece: &[u8], at: usize, unit: usize) -> usize
 }
 
 // The units from a place to the end of the piece, as bytes.
-#[inline(always)]
 pub(crate) fn units(piece: &[u8], at: usize, mark: Mark, out: &mut Writer)
     requires { Has (Units piece.now mark at) }
     ensures { Spreads mark (Units piece.now mark at) out.old out.new }

@@ -31,7 +31,10 @@ pub fn leaf(text: &[u8], node: Node, out: &mut Writer)
     ensures { AppendsPart (LeafBytes text.now node) out.old out.new }
 {
     let Node {
-        kind, first, end, ..
+        kind,
+        first,
+        end,
+        ..
     } = node;
     if end > text.len() || first > end {
         return;

@@ -23,9 +23,9 @@ loop-b-preserved c =
     let rest = drop (i + 1) literal in
     let s : suc i ≡ i + 1 = omega arith in
     let e =
-        ap (Bare.bare_from w) (drop-cons literal i 0 (omega arith) ∙ ap {B = List ℕ} (λ (j : ℕ). b ∷ drop j literal) s)
-        ∙ bare_next w b rest
-        ∙ ap (λ (v : Bare.Where). kept_bytes w b ++ Bare.bare_from v rest) (sym c.behind-place.ensures)
+    ap (Bare.bare_from w) (drop-cons literal i 0 (omega arith) ∙ ap {B = List ℕ} (λ (j : ℕ). b ∷ drop j literal) s)
+    ∙ bare_next w b rest
+    ∙ ap (λ (v : Bare.Where). kept_bytes w b ++ Bare.bare_from v rest) (sym c.behind-place.ensures)
     in
     going_on (kept_bytes w b) (going_same e c.loop-b.invariant) c.put_kept.ensures
 
