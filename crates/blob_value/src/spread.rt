@@ -41,6 +41,7 @@ pub(crate) fn count(piece: &[u8], at: usize, unit: usize) -> usize
 {
     let mut i = at;
     let mut n = 0;
+    // A loop by hand: how far off the next unit stands, only reading the joint tells.
     loop {
         n += 1;
         i += unit;
@@ -61,6 +62,7 @@ pub(crate) fn units(piece: &[u8], at: usize, mark: Mark, out: &mut Writer)
     let filled = mark.bytes();
     let kind = mark.kind();
     let mut i = at;
+    // A loop by hand, as in `count`.
     loop {
         spread(number(piece, i, width, radix), filled, kind, out);
         i += width;

@@ -46,6 +46,7 @@ fn judge_blob(piece: &[u8]) -> Result<Mark, Refused>
 }
 
 // The mark of a Bits literal, or the first refusal. The byte behind `0b` tells the base.
+// Not one function with `judge_blob`: the search, its answer, the bad value and the marks are others.
 fn judge_bits(piece: &[u8]) -> Result<Mark, Refused>
     ensures { Judges bits_call piece.now (Marked Kinds.Bits piece.now) rules result }
 {

@@ -24,6 +24,7 @@ pub(crate) fn total(piece: &[u8], at: usize, base: Base) -> Option<u64>
 {
     let mut sum = 0;
     let mut i = at;
+    // A loop by hand: how far off the next digit stands, only reading the joint tells.
     loop {
         sum = longer(sum, base, piece[i])?;
         i += 1;

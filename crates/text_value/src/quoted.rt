@@ -50,6 +50,7 @@ fn escaped(piece: &[u8], at: usize, out: &mut Writer) -> usize
     ensures { Wrote (Unescapes piece.now) at result out.old out.new }
 {
     let mut i = at;
+    // A loop by hand: how long an escape is, only reading it tells.
     while !stands(piece, i, b'"') {
         if stands(piece, i, b'\\') {
             i = escape(piece, i, out);
@@ -105,6 +106,7 @@ pub(crate) fn quoted(piece: &[u8], out: &mut Writer)
     ensures { WroteQuoted piece.now out.old out.new }
 {
     let mut i = 0;
+    // A loop by hand: where the next segment begins, only reading this one and the space behind it tells.
     loop {
         let end = segment(piece, i, out);
         if end == piece.len() {
