@@ -23,10 +23,3 @@ as_two P n x p q l h = go (dec_le n x)
     go : Dec (n ≤ x) → P n
     go (yes k) = as_this P n x p (omega arith)
     go (no k) = as_this P n (x + 1) q (omega arith)
-
-pub as_three : (P : ℕ → Type 0) (n x : ℕ) → P x → P (x + 1) → P (x + 1 + 1) → x ≤ n → n ≤ x + 1 + 1 → P n
-as_three P n x p q r l h = go (dec_le n x)
-  where
-    go : Dec (n ≤ x) → P n
-    go (yes k) = as_this P n x p (omega arith)
-    go (no k) = as_two P n (x + 1) q r (omega arith) h

@@ -6,4 +6,4 @@ pub returns-in-Ok : goal.returns-in-Ok
 returns-in-Ok c = formed_answer _ c.in-Ok.is c.tested-tested.ensures
 
 pub returns-in-Err : goal.returns-in-Err
-returns-in-Err c = bad_answer _ c.in-Err.is c.tested-tested.ensures
+returns-in-Err c = rw c.in-Err.field-0-is (bad_answer _ c.in-Err.is c.tested-tested.ensures)
