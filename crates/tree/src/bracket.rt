@@ -157,7 +157,7 @@ fn shut(s: State, style: Style, role: Role, t: Token, table: &mut [u32]) -> Turn
 
 // The bracket's end: its node, in front of its members'.
 fn close(
-    start: Start,
+    start: &Start,
     s: State,
     t: Token,
     kind: NodeKind,
@@ -165,8 +165,8 @@ fn close(
     role: Role,
     table: &mut [u32],
 ) -> Turn
-    requires { Narrow s t start.index × (start.token.first ≤ t.first) }
-    ensures { Closed s t start.token.first kind detail role table.old table.new start.index start.parent result }
+    requires { Narrow s t start.now.index × (start.now.token.first ≤ t.first) }
+    ensures { Closed s t start.now.token.first kind detail role table.old table.new start.now.index start.now.parent result }
 {
     let nodes = s.nodes + 1;
     assign(table, s.last, role);
@@ -202,15 +202,15 @@ fn wrong(t: Token) -> Result<Turn, Refused>
 // Carries out the move of a token that begins no value. A group does not come here: its end is looked for behind its value.
 pub(crate) fn take(
     limits: Limits,
-    start: Start,
+    start: &Start,
     s: State,
     t: Token,
     taken: Move,
     table: &mut [u32],
 ) -> Result<Turn, Refused>
-    requires { Narrow s t start.index × Behind start.token s }
-    ensures numbers { Ends start.token t result }
-    ensures turns { Taken limits start.token s t taken table.old table.new start.index start.parent result }
+    requires { Narrow s t start.now.index × Behind start.now.token s }
+    ensures numbers { Ends start.now.token t result }
+    ensures turns { Taken limits start.now.token s t taken table.old table.new start.now.index start.now.parent result }
 {
     match taken {
         Move::To { mode, role } => lead(limits, s, mode, role, t, table),

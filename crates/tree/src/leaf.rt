@@ -72,9 +72,9 @@ pub(crate) fn told(kind: Kind) -> Telling
 }
 
 // A literal by itself, if its value is not bad.
-pub(crate) fn leaf(text: &[u8], start: Start, table: &mut [u32]) -> Result<Read, Refused>
-    requires { Within text.now start }
-    ensures { Literal text.now start.token table.old table.new start.index start.parent result }
+pub(crate) fn leaf(text: &[u8], start: &Start, table: &mut [u32]) -> Result<Read, Refused>
+    requires { Within text.now start.now }
+    ensures { Literal text.now start.now.token table.old table.new start.now.index start.now.parent result }
 {
     let t = start.token;
     if t.bad {
@@ -105,9 +105,9 @@ pub(crate) fn leaf(text: &[u8], start: Start, table: &mut [u32]) -> Result<Read,
 }
 
 // A Nesting: `::` and a Text, once or more.
-pub(crate) fn names(text: &[u8], start: Start, table: &mut [u32]) -> Result<Read, Refused>
-    requires { Within text.now start }
-    ensures { Nesting text.now start.token table.old table.new start.index start.parent result }
+pub(crate) fn names(text: &[u8], start: &Start, table: &mut [u32]) -> Result<Read, Refused>
+    requires { Within text.now start.now }
+    ensures { Nesting text.now start.now.token table.old table.new start.now.index start.now.parent result }
 {
     let mut at = start.token.end;
     loop {

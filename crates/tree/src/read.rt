@@ -17,9 +17,9 @@ use table::room;
 use token::whole::{front, utf8};
 
 // The value of a text, whose nodes stand from the table's start on.
-fn whole(reader: Reader<'_>, table: &mut [u32]) -> Result<Read, Refused>
-    requires { length reader.text.now ≤ widest }
-    ensures { Judged reader.entry.text.now reader.entry.limits reader.entry.forms table.old table.new result }
+fn whole(reader: &Reader<'_>, table: &mut [u32]) -> Result<Read, Refused>
+    requires { length reader.now.text.now ≤ widest }
+    ensures { Judged reader.now.text.now reader.now.limits reader.now.forms table.old table.new result }
 {
     let got = get(reader.text, front(reader.text));
     let Ok(t) = got else {
@@ -30,7 +30,7 @@ fn whole(reader: Reader<'_>, table: &mut [u32]) -> Result<Read, Refused>
         index: 0,
         parent: 0,
     };
-    let read = value(reader, start, 0, table);
+    let read = value(reader, &start, 0, table);
     let Ok(first) = read else {
         return read;
     };
@@ -48,11 +48,11 @@ fn tokens(rules: Rules, text: &[u8], forms: Forms, table: &mut [u32]) -> Result<
         forms,
     };
     let mut none = [0; 0];
-    let judged = whole(reader, &mut none)?;
+    let judged = whole(&reader, &mut none)?;
     if judged.nodes > room(rules, table) {
         return Ok(Answer::no_room(text.len(), judged.nodes));
     }
-    let _written = whole(reader, table);
+    let _written = whole(&reader, table);
     Ok(Answer::accepted(text.len(), judged.nodes))
 }
 

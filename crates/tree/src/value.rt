@@ -26,13 +26,13 @@ use table::raise;
 // The value that the start begins, at a place for a value; its nodes stand from the start's index on.
 #[cycle(bracket_child_first_value_member_round_value)]
 pub(crate) fn value(
-    reader: Reader<'_>,
-    start: Start,
+    reader: &Reader<'_>,
+    start: &Start,
     depth: usize,
     table: &mut [u32],
 ) -> Result<Read, Refused>
-    requires { Within reader.text.now start × (depth ≤ start.token.first) }
-    ensures { Reads reader.entry.text.now reader.entry.limits reader.entry.forms depth start.token table.old table.new start.index start.parent result }
+    requires { Within reader.now.text.now start.now × (depth ≤ start.now.token.first) }
+    ensures { Reads reader.now.text.now reader.now.limits reader.now.forms depth start.now.token table.old table.new start.now.index start.now.parent result }
 {
     let begun = reader.begins(start.token, depth);
     let Ok(begin) = begun else {
@@ -52,14 +52,14 @@ pub(crate) fn value(
 // Behind `(` without a head.
 #[cycle(bracket_child_first_value_member_round_value)]
 fn round(
-    reader: Reader<'_>,
-    start: Start,
+    reader: &Reader<'_>,
+    start: &Start,
     first: Result<Token, Refused>,
     depth: usize,
     table: &mut [u32],
 ) -> Result<Read, Refused>
-    requires { Within reader.text.now start × (depth ≤ start.token.first) × Gets reader.text.now start.token.end first }
-    ensures { Rounded reader.entry.text.now reader.entry.limits reader.entry.forms depth start.token table.old table.new start.index start.parent result }
+    requires { Within reader.now.text.now start.now × (depth ≤ start.now.token.first) × Gets reader.now.text.now start.now.token.end first }
+    ensures { Rounded reader.now.text.now reader.now.limits reader.now.forms depth start.now.token table.old table.new start.now.index start.now.parent result }
 {
     let Ok(t) = first else {
         return Err(first.unwrap_err());
@@ -80,21 +80,21 @@ fn round(
 // up by one for the bracket's own.
 #[cycle(bracket_child_first_value_member_round_value)]
 fn first_value(
-    reader: Reader<'_>,
-    start: Start,
+    reader: &Reader<'_>,
+    start: &Start,
     t: Token,
     depth: usize,
     table: &mut [u32],
 ) -> Result<Read, Refused>
-    requires { Within reader.text.now start × (depth ≤ start.token.first) × Comes reader.text.now start.token.end (Next.Token t) × (no_mark (class_kind t.kind) ≡ true) }
-    ensures { Rounded reader.entry.text.now reader.entry.limits reader.entry.forms depth start.token table.old table.new start.index start.parent result }
+    requires { Within reader.now.text.now start.now × (depth ≤ start.now.token.first) × Comes reader.now.text.now start.now.token.end (Next.Token t) × (no_mark (class_kind t.kind) ≡ true) }
+    ensures { Rounded reader.now.text.now reader.now.limits reader.now.forms depth start.now.token table.old table.new start.now.index start.now.parent result }
 {
     let inner = Start {
         token: t,
         index: start.index,
         parent: start.parent,
     };
-    let read = value(reader, inner, depth + 1, table);
+    let read = value(reader, &inner, depth + 1, table);
     let Ok(first) = read else {
         return read;
     };
@@ -126,13 +126,13 @@ fn first_value(
 // What stands in a bracket from where it is entered, up to and with its end.
 #[cycle(bracket_child_first_value_member_round_value)]
 fn bracket(
-    reader: Reader<'_>,
-    start: Start,
+    reader: &Reader<'_>,
+    start: &Start,
     entered: State,
     table: &mut [u32],
 ) -> Result<Read, Refused>
-    requires { Inside reader.text.now start entered }
-    ensures { Bracketed reader.entry.text.now reader.entry.limits reader.entry.forms start.token entered table.old table.new start.index start.parent result }
+    requires { Inside reader.now.text.now start.now entered }
+    ensures { Bracketed reader.now.text.now reader.now.limits reader.now.forms start.now.token entered table.old table.new start.now.index start.now.parent result }
 {
     let mut state = entered;
     loop {
@@ -149,9 +149,9 @@ fn bracket(
 
 // One value or one sign of a bracket.
 #[cycle(bracket_child_first_value_member_round_value)]
-fn member(reader: Reader<'_>, start: Start, s: State, table: &mut [u32]) -> Result<Turn, Refused>
-    requires { Inside reader.text.now start s }
-    ensures { Member reader.entry.text.now reader.entry.limits reader.entry.forms start.token s table.old table.new start.index start.parent result }
+fn member(reader: &Reader<'_>, start: &Start, s: State, table: &mut [u32]) -> Result<Turn, Refused>
+    requires { Inside reader.now.text.now start.now s }
+    ensures { Member reader.now.text.now reader.now.limits reader.now.forms start.now.token s table.old table.new start.now.index start.now.parent result }
 {
     let got = get(reader.text, s.at);
     let Ok(t) = got else {
@@ -167,15 +167,15 @@ fn member(reader: Reader<'_>, start: Start, s: State, table: &mut [u32]) -> Resu
 // A value in a bracket: its role is told by what stands behind it.
 #[cycle(bracket_child_first_value_member_round_value)]
 fn child(
-    reader: Reader<'_>,
+    reader: &Reader<'_>,
     s: State,
     frame: Frame,
     t: Token,
     table: &mut [u32],
     index: usize,
 ) -> Result<Turn, Refused>
-    requires { Narrow s t index × (s.deep ≤ s.at) × (t.end ≤ length reader.text.now) × (length reader.text.now ≤ widest) }
-    ensures { Bore reader.entry.text.now reader.entry.limits reader.entry.forms s t frame table.old table.new index result }
+    requires { Narrow s t index × (s.deep ≤ s.at) × (t.end ≤ length reader.now.text.now) × (length reader.now.text.now ≤ widest) }
+    ensures { Bore reader.now.text.now reader.now.limits reader.now.forms s t frame table.old table.new index result }
 {
     let last = index + 1 + s.nodes;
     let start = Start {
@@ -183,7 +183,7 @@ fn child(
         index: last,
         parent: index,
     };
-    let read = value(reader, start, s.deep, table);
+    let read = value(reader, &start, s.deep, table);
     let Ok(member) = read else {
         return Err(read.unwrap_err());
     };

@@ -15,7 +15,7 @@ overflow_cast-end c = record { fits = omega (arith, (name_bounds _ c.in-Ok.ensur
 
 pub returns-in_default-two_colons : goal.returns-in_default-two_colons
 returns-in_default-two_colons c = let v = c.loop-end.invariant in
-    nesting_read _ _ _ _ _ _ c.args.start.some_byte v.0 c.in-Ok.ensures c.in_default-two_colons.ensures v.1 c.put.ensures
+    nesting_read _ _ _ _ _ _ c.args.start.now.some_byte v.0 c.in-Ok.ensures c.in_default-two_colons.ensures v.1 c.put.ensures
 
 pub loop-end-smaller : goal.loop-end-smaller
 loop-end-smaller c = let z = behind_next _ _ c.loop-end.invariant.0 c.in-Ok.ensures c.in-Some.ensures in
