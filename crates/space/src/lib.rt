@@ -15,6 +15,7 @@ const GRAVE: u8 = b'`';
 pub fn space(text: &[u8], at: usize) -> usize
     ensures { Skips text.now at result }
 {
+    // Labels that lead out of both loops: a form that the project prescribes (docs/DECISIONS.md).
     let mut end = at;
     'space: while end < text.len() {
         match text[end] {

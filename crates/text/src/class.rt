@@ -6,6 +6,7 @@ ghost use Rattle.text.specs.Classes.{IsTable, in_sum};
 
 use lexicon::Set;
 
+// One constant array of 256 classes: a form that the project prescribes (docs/DECISIONS.md).
 const CLASSES: [u8; 256] = [
     0, 0, 0, 0, 0, 0, 0, 0, 0, 128, 128, 0, 0, 128, 0, 0, 0, 0, 0, 0, 0, 0, 0, 0, 0, 0, 0, 0, 0, 0,
     0, 0, 128, 0, 0, 0, 0, 0, 0, 0, 0, 0, 0, 16, 0, 0, 0, 16, 95, 95, 94, 94, 94, 94, 94, 94, 92,

@@ -74,6 +74,7 @@ fn singles(text: &[u8], at: usize) -> usize
 pub fn tested(text: &[u8]) -> Tested
     ensures { TestedAs text.now result }
 {
+    // A step takes eight bytes, one, or a whole sequence, so no range counts them.
     let mut at = 0;
     let mut steps = 0;
     while at < text.len() {

@@ -2,7 +2,10 @@
 use mathlib.Core.Path.{◌≡◌, sym, ap, subst, subst⁻¹, ◌∙◌}
 use mathlib.Core.Logic.{⊎_elim}
 use mathlib.Core.Bool.{Bool, true, false}
-use Rattle.std.proofs.Common.{Option, Some, None, Bor}
+use Rattle.std.proofs.Common.{Option, Some, None, Bor, map, refl}
+use Rattle.std.specs.List.{AllWithin, All}
+use Rattle.std.proofs.lemmas.List.{get_or-map, length-map}
+use Rattle.std.proofs.lemmas.List.Elements.{All-map, All-from_all_within, AllWithin-more}
 use Rattle.std.specs.Option.{option_eq}
 use Rattle.std.specs.List.{slice_range}
 use Rattle.std.specs.Slice.{IsItemAt, IsGetRangeResult}
@@ -18,8 +21,8 @@ use native.Mathlib.Omega.{arith}
 use borrow.Author.Tests.{eqb-true, eq-eqb}
 use lib.ListN.{length, get_or}
 use Rattle.rules.specs.Test.{Says}
-use Rattle.rules.specs.Class.{has, just}
-use Rattle.rules.specs.Rule.{one, many, row, lit, Takes, nothing, byte, both, At, Longest, Fails}
+use Rattle.rules.specs.Class.{has, just, codes}
+use Rattle.rules.specs.Rule.{Rule, one, many, row, lit, Takes, nothing, byte, both, At, Longest, Fails}
 use Rattle.rules.proofs.Bools.{clash}
 use Rattle.rules.proofs.Classes.{is_just, just_is}
 use Rattle.rules.proofs.Matches.{starting, one_at, row_end, inside}
@@ -28,12 +31,9 @@ use Rattle.text.specs.Classes.{IsTable, in_sum}
 use Rattle.text.proofs.Sets.{in_table}
 use Rattle.lexicon.specs.declared.Head.{Head}
 use Rattle.lexicon.specs.declared.Head.TheVariants.{Array, Set, Bag, Mix, IntervalSet, IntervalBag, TupleArray, Relation, TupleBag, Article, Excuse, Heading, Renaming}
-use Rattle.lexicon.specs.declared.Form.{Form}
-use Rattle.lexicon.specs.declared.Form.TheVariants.{Quoted, Word, HeadWord, CodePoint}
 use Rattle.lexicon.specs.Bytes.{word_start, word_rest}
 use Rattle.lexicon.specs.Literals.{word}
 use Rattle.lexicon.specs.Token.{head_word}
-use Rattle.word.specs.Heads.{NoneOf, TellsOf, Tells, collections}
 use Rattle.rules.proofs.Tests.{says_no}
 
 -- ---- words
@@ -117,6 +117,18 @@ module _ {text : List ℕ} {i j : ℕ} where
       let n : length (slice_range text i j) ≡ length w = length-between text i j l ∙ omega arith in
       same_number_lists (slice_range text i j) w n (λ k lt. get_or-between text i j k 0 (omega arith) ∙ (row_same text w t k (omega arith)).1)
 
+-- the part of the text, by what a comparison with it tells
+module _ {text : List ℕ} {i j : ℕ} {r : Option (Bor (List ℕ))} (p : IsGetRangeResult text i j r) where
+  pub part_says : (x : Bor (List ℕ)) (w : List ℕ) {o : Bool} → r ≡ Some x → o ≡ pointwise eqb x.now w → Says o (Takes text (row w) i j)
+  part_says x w {o} e f =
+      let q : IsGetRangeResult text i j (Some x) = subst (IsGetRangeResult text i j) e p in
+      let d = slice_eq-Decides Decides-eqb x.now w o f in
+      record {
+        true_holds = λ t. part_is w q.0.0 q.0.1 (sym q.0.2 ∙ d.0 t);
+        holds_true = λ t. d.1 (q.0.2 ∙ is_part w q.0.1 t);
+      }
+
+module _ {text : List ℕ} {i j : ℕ} where
   pub spells_none : (w : List ℕ) → length w ≡ 0 → Says (eqb i j) (Takes text (row w) i j)
   spells_none [] h = record { true_holds = λ e. nothing (eqb-true i j e); holds_true = λ t. eq-eqb i j (gone t) }
     where
@@ -126,44 +138,75 @@ module _ {text : List ℕ} {i j : ℕ} where
 
   pub spells_part : (w : Bor (List ℕ)) (r : Option (Bor (List ℕ))) (o : Bool) → 0 < length w.now → IsGetRangeResult text i j r → o ≡ option_eq (λ x y. pointwise eqb x.now y.now) r (Some w) → Says o (Takes text (row w.now) i j)
   spells_part w None o h p e = subst⁻¹ (λ (b : Bool). Says b (Takes text (row w.now) i j)) e (says_no (λ t. ⊎_elim (λ back. omega (arith, row_end w.now t)) (λ over. omega (arith, row_inside w.now h t)) p.0))
-  spells_part w (Some x) o h p e =
-      let d = slice_eq-Decides Decides-eqb x.now w.now o e in
-      record {
-        true_holds = λ t. part_is w.now p.0.0 p.0.1 (sym p.0.2 ∙ d.0 t);
-        holds_true = λ t. d.1 (p.0.2 ∙ is_part w.now p.0.1 t);
-      }
+  spells_part w (Some x) o h p e = part_says p x w.now refl e
+
+module _ {text : List ℕ} {i j : ℕ} {r : Option (Bor (List ℕ))} (p : IsGetRangeResult text i j r) where
+  -- with no such part no head word stands there
+  pub no_part : r ≡ None → (h : Head) → Takes text (lit (head_word h)) i j → ⊥
+  no_part e h t =
+      let q : IsGetRangeResult text i j None = subst (IsGetRangeResult text i j) e p in
+      ⊎_elim (λ back. omega (arith, row_end (codes (head_word h)) t)) (λ over. omega (arith, row_inside (codes (head_word h)) (long h) t)) q.0
+    where
+      long : (h : Head) → 0 < length (codes (head_word h))
+      long Array = omega arith
+      long h = omega arith
 
 -- ---- head words
 
+-- each head word by its spelling, in the order of the table
 abbrev heads : List Head
-heads = Article ∷ Excuse ∷ Heading ∷ Renaming ∷ collections
+heads = Array ∷ Set ∷ Bag ∷ Mix ∷ IntervalSet ∷ IntervalBag ∷ TupleArray ∷ Relation ∷ TupleBag ∷ Renaming ∷ Article ∷ Heading ∷ Excuse ∷ []
 
-module _ (text : List ℕ) (i j : ℕ) where
-  -- one more head word does not stand there
-  pub also : (h : Head) (hs : List Head) (f : Form) → (Takes text (lit (head_word h)) i j → ⊥) → TellsOf text hs i j f → TellsOf text (h ∷ hs) i j f
-  also h hs (HeadWord g) n t = t
-  also h hs Word n t = (n, t)
-  also h hs Quoted n t = t
-  also h hs CodePoint n t = t
+abbrev entry : Bor (List ℕ) × Head → Rule × Head
+entry e = (row e.0.now, e.1)
 
-  no_head : NoneOf text heads i j → (h : Head) → Takes text (lit (head_word h)) i j → ⊥
-  no_head n Article = n.0
-  no_head n Excuse = n.1.0
-  no_head n Heading = n.1.1.0
-  no_head n Renaming = n.1.1.1.0
-  no_head n Array = n.1.1.1.1.0
-  no_head n Set = n.1.1.1.1.1.0
-  no_head n Bag = n.1.1.1.1.1.1.0
-  no_head n Mix = n.1.1.1.1.1.1.1.0
-  no_head n IntervalSet = n.1.1.1.1.1.1.1.1.0
-  no_head n IntervalBag = n.1.1.1.1.1.1.1.1.1.0
-  no_head n TupleArray = n.1.1.1.1.1.1.1.1.1.1.0
-  no_head n Relation = n.1.1.1.1.1.1.1.1.1.1.1.0
-  no_head n TupleBag = n.1.1.1.1.1.1.1.1.1.1.1.1.0
+pub record IsHeads (es : List (Bor (List ℕ) × Head)) : Type 0 where
+  pub same : map entry es ≡ map {B = Rule × Head} (λ h. (lit (head_word h), h)) heads
 
-  -- they are all the head words
-  pub of_all : (f : Form) → TellsOf text heads i j f → Tells text i j f
-  of_all (HeadWord g) t = t
-  of_all Word t = no_head t
-  of_all Quoted t = t
-  of_all CodePoint t = t
+-- the bytes of none of the first k entries stand from i to j
+pub record Passed (text : List ℕ) (i j : ℕ) (es : List (Bor (List ℕ) × Head)) (k : ℕ) : Type 0 where
+  pub none : AllWithin (λ e. Takes text (row e.0.now) i j → ⊥) es 0 k
+
+same_entry : {X : Type 0} (xs : List X) (k : ℕ) (d e : X) → k < length xs → get_or xs k d ≡ get_or xs k e
+same_entry [] k d e l = absurd (omega arith)
+same_entry (x ∷ xs) zero d e l = refl
+same_entry (x ∷ xs) (suc k) d e l = same_entry xs k d e (omega arith)
+
+pub pass : {text : List ℕ} {i j : ℕ} {es : List (Bor (List ℕ) × Head)} {k : ℕ} (d : Bor (List ℕ) × Head) → k < length es → Passed text i j es k → (Takes text (row (get_or es k d).0.now) i j → ⊥) → Passed text i j es (k + 1)
+pass {text} {i} {j} {es} {k} d l p n =
+    let here : (e : Bor (List ℕ) × Head) → Takes text (row (get_or es k e).0.now) i j → ⊥ = λ e t. n (subst (λ y. Takes text (row y.0.now) i j) (same_entry es k e d l) t) in
+    record { none = AllWithin-more (λ e. Takes text (row e.0.now) i j → ⊥) es 0 k p.none here }
+
+module _ {es : List (Bor (List ℕ) × Head)} (t : IsHeads es) where
+  -- an entry's bytes are its head word
+  one_head : (k : ℕ) (d : Bor (List ℕ) × Head) → k < length es → row (get_or es k d).0.now ≡ lit (head_word (get_or es k d).1)
+  one_head k d l = ap (λ s. s.0) (sym (get_or-map entry es k d (entry d) l)) ∙ each k (entry d) (omega (arith, length-map es entry)) ∙ ap (λ s. lit (head_word s.1)) (get_or-map entry es k d (entry d) l)
+    where
+      each : All {X = Rule × Head} (λ s. s.0 ≡ lit (head_word s.1)) (map entry es)
+      each = subst⁻¹ (All {X = Rule × Head} (λ s. s.0 ≡ lit (head_word s.1))) t.same (All-map (λ s. s.0 ≡ lit (head_word s.1)) (λ h. (lit (head_word h), h)) heads (λ k d l. refl))
+
+  module _ {text : List ℕ} {i j : ℕ} where
+    pub the_head : (k : ℕ) (d : Bor (List ℕ) × Head) → k < length es → Takes text (row (get_or es k d).0.now) i j → Takes text (lit (head_word (get_or es k d).1)) i j
+    the_head k d l = subst (λ r. Takes text r i j) (one_head k d l)
+
+    -- where no entry's bytes stand no head word does
+    pub no_head : {k : ℕ} → length es ≤ k → Passed text i j es k → (h : Head) → Takes text (lit (head_word h)) i j → ⊥
+    no_head {k} l p = by_head
+      where
+        each : All {X = Rule × Head} (λ s. Takes text s.0 i j → ⊥) (map {B = Rule × Head} (λ h. (lit (head_word h), h)) heads)
+        each = subst (All {X = Rule × Head} (λ s. Takes text s.0 i j → ⊥)) t.same (All-map (λ s. Takes text s.0 i j → ⊥) entry es (All-from_all_within (λ e. Takes text (row e.0.now) i j → ⊥) es (λ m d a b. p.none m d a (omega arith))))
+
+        by_head : (h : Head) → Takes text (lit (head_word h)) i j → ⊥
+        by_head Array = each 0 (row [], Array) (omega arith)
+        by_head Set = each 1 (row [], Set) (omega arith)
+        by_head Bag = each 2 (row [], Bag) (omega arith)
+        by_head Mix = each 3 (row [], Mix) (omega arith)
+        by_head IntervalSet = each 4 (row [], IntervalSet) (omega arith)
+        by_head IntervalBag = each 5 (row [], IntervalBag) (omega arith)
+        by_head TupleArray = each 6 (row [], TupleArray) (omega arith)
+        by_head Relation = each 7 (row [], Relation) (omega arith)
+        by_head TupleBag = each 8 (row [], TupleBag) (omega arith)
+        by_head Renaming = each 9 (row [], Renaming) (omega arith)
+        by_head Article = each 10 (row [], Article) (omega arith)
+        by_head Heading = each 11 (row [], Heading) (omega arith)
+        by_head Excuse = each 12 (row [], Excuse) (omega arith)

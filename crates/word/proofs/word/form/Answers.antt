@@ -1,45 +1,27 @@
--- `word::word::form` meets its contract: one comparison a word.
+-- `word::word::form` meets its contract: an entry that isn't the word is passed over, and the entries are all the head words.
 -- Assumes nothing.
+use Prim.Native.Nat.{◌<◌}
+use native.Mathlib.Omega.{arith}
+use Rattle.std.proofs.Common.{refl}
 use Rattle.rules.proofs.Tests.{refuted}
-use mathlib.Core.List.{◌∷◌}
-use Rattle.lexicon.specs.declared.Head.TheVariants.{Article, Excuse, Heading, Renaming}
-use Rattle.word.specs.Heads.{collections}
-use Rattle.word.proofs.Words.{also, of_all}
+use Rattle.word.proofs.Words.{no_head, the_head, no_part, part_says, pass}
 use Rattle.word.proofs.word.form.Goals as goal
 
-pub spells-requires : goal.spells-requires
-spells-requires c = tt
+pub returns-in_default : goal.returns-in_default
+returns-in_default c = no_part c.get.ensures.lookup c.in_default.is
 
-pub returns-then-spells : goal.returns-then-spells
-returns-then-spells c = c.spells.ensures.true_holds c.if-spells.true
+pub loop-spelling-init : goal.loop-spelling-init
+loop-spelling-init c = (record { same = refl }, record { none = λ k d l h. absurd (omega arith) })
 
-pub spells-requires-2 : goal.spells-requires-2
-spells-requires-2 c = tt
+pub returns-then-eq : goal.returns-then-eq
+returns-then-eq c =
+    let inside : c.loop-spelling.spelling-index < 13 = omega arith in
+    the_head c.loop-spelling.invariant.0 c.loop-spelling.spelling-index _ inside ((part_says c.get.ensures.lookup c.in-Some.word _ c.in-Some.is c.eq.ensures).true_holds c.if-eq.true)
 
-pub returns-then-spells-2 : goal.returns-then-spells-2
-returns-then-spells-2 c = c.spells-2.ensures.true_holds c.if-spells-2.true
-
-pub spells-requires-3 : goal.spells-requires-3
-spells-requires-3 c = tt
-
-pub returns-then-spells-3 : goal.returns-then-spells-3
-returns-then-spells-3 c = c.spells-3.ensures.true_holds c.if-spells-3.true
-
-pub spells-requires-4 : goal.spells-requires-4
-spells-requires-4 c = tt
-
-pub returns-then-spells-4 : goal.returns-then-spells-4
-returns-then-spells-4 c = c.spells-4.ensures.true_holds c.if-spells-4.true
-
-pub collection-requires : goal.collection-requires
-collection-requires c = tt
+pub loop-spelling-preserved : goal.loop-spelling-preserved
+loop-spelling-preserved c =
+    let inside : c.loop-spelling.spelling-index < 13 = omega arith in
+    (c.loop-spelling.invariant.0, pass _ inside c.loop-spelling.invariant.1 (refuted (part_says c.get.ensures.lookup c.in-Some.word _ c.in-Some.is c.eq.ensures) c.if-eq.false))
 
 pub returns : goal.returns
-returns c = let a = c.args in
-    let r = c.collection.result in
-    of_all a.text.now a.at a.end r
-    (also a.text.now a.at a.end Article (Excuse ∷ Heading ∷ Renaming ∷ collections) r (refuted c.spells.ensures c.if-spells.false)
-    (also a.text.now a.at a.end Excuse (Heading ∷ Renaming ∷ collections) r (refuted c.spells-2.ensures c.if-spells-2.false)
-    (also a.text.now a.at a.end Heading (Renaming ∷ collections) r (refuted c.spells-3.ensures c.if-spells-3.false)
-    (also a.text.now a.at a.end Renaming collections r (refuted c.spells-4.ensures c.if-spells-4.false)
-    c.collection.ensures))))
+returns c = no_head c.loop-spelling.invariant.0 (omega arith) c.loop-spelling.invariant.1
