@@ -18,7 +18,7 @@ pub fn right_role(arrow: Arrow) -> Role
     }
 }
 
-// The role of the value before it.
+// The role of the value before it. No one function for both sides: it would hold the same four roles, and a side to choose by.
 pub fn left_role(arrow: Arrow) -> Role
     ensures { role_of result ≡ Nodes.left_role_of (arrow_of arrow) }
 {

@@ -83,6 +83,7 @@ pub extern "C" fn muon_integer(
 ) -> u32
     ensures { IntegerAnswers base piece.now (record { number = result; place = place.new; count = count.new; value = value.new }) }
 {
+    // By hand, not by `told`: an Integer's answer has a value too.
     let read = integer_value::integer::integer(piece);
     *value = read.value;
     *place = read.place;

@@ -30,6 +30,7 @@ pub fn lead(frame: CurlyFrame, sign: Sign) -> Move
     ensures { (forms : Forms) → Moves forms (Mode.Want (Frame.Curly frame)) (Kind.Symbol sign) result }
 {
     match (sign, frame) {
+        // In each bracket's crate, since its `lead` promises the move of every sign.
         (Sign::RoundOpen | Sign::CurlyOpen | Sign::SquareOpen, _) => Move::Value(frame.into()),
         (Sign::CurlyClose, CurlyFrame::Members { style, .. }) => shut(style, Role::Root),
         (Sign::Comma, CurlyFrame::Members { style, front }) => leading(style, front),

@@ -23,6 +23,7 @@ fn name_token(text: &[u8], t: Token, out: &mut Writer)
 pub(crate) fn names(text: &[u8], first: usize, end: usize, out: &mut Writer)
     ensures { AppendsPart (Named text.now first end) out.old out.new }
 {
+    // A token has as many bytes as it has, so no range counts the places.
     let mut i = first;
     while i < end {
         let Next::Token(t) = next(text, i) else {

@@ -76,6 +76,7 @@ pub fn list(level: u32, text: &[u8], table: &mut [u32], out: &mut [u8; LONGEST])
 {
     let answer = tree::read::read(level, text, table);
     let mut writer = Writer::new(out);
+    // By the number: what a reading promises (`Answers`) is told by it.
     if answer.number != 0 {
         head(
             &mut writer,

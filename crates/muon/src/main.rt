@@ -16,6 +16,7 @@ const INPUT: usize = TEXT + 1;
 fn read_all(source: &mut impl Read, buffer: &mut [u8]) -> io::Result<usize>
     ensures { Within buffer.new result }
 {
+    // A read gives as many bytes as it likes, so no range counts them.
     let mut n = 0;
     while n < buffer.len() {
         match source.read(&mut buffer[n..])? {

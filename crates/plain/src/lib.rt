@@ -37,11 +37,7 @@ fn put_plain(text: &[u8], nodes: &[u32], buffer: &mut [u8]) -> usize
 fn fill(text: &[u8], nodes: &[u32], buffer: &mut [u8]) -> Answer
     ensures { Filled text.now nodes.now buffer.old result buffer.new }
 {
-    Answer {
-        number: 0,
-        place: text.len(),
-        count: put_plain(text, nodes, buffer),
-    }
+    Answer::accepted(text.len(), put_plain(text, nodes, buffer))
 }
 
 // The plain form of the nodes, if it fits. It is measured first, over an empty part of the buffer, so that nothing is written where it
@@ -54,11 +50,7 @@ fn fit(text: &[u8], nodes: &[u32], buffer: &mut [u8]) -> Answer
     }
     let needed = put_plain(text, nodes, &mut buffer[..0]);
     if buffer.len() < needed {
-        return Answer {
-            number: 8,
-            place: text.len(),
-            count: needed,
-        };
+        return Answer::no_room(text.len(), needed);
     }
     fill(text, nodes, buffer)
 }
@@ -68,6 +60,7 @@ pub fn write(level: u32, text: &[u8], table: &[u32], buffer: &mut [u8]) -> Answe
     ensures { Writes base text.now table.now buffer.old level result buffer.new }
 {
     let judged = judge(level, text, table);
+    // By the number: what a judgement promises (`Judges`) is told by it.
     if judged.number != 0 {
         return judged;
     }
@@ -81,6 +74,7 @@ pub fn convert(level: u32, text: &[u8], buffer: &mut [u8]) -> Answer
 {
     let mut table = [0; TABLE];
     let answer = read_old(level, text, &mut table);
+    // By the number: what a reading promises (`Answers`) is told by it.
     if answer.number != 0 {
         return answer;
     }

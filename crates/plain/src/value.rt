@@ -36,6 +36,7 @@ impl Source<'_> {
         open(kind, out);
         let mut before = 0;
         let mut done = Attributes::No;
+        // A child has as many descendants as it has, so no range counts the indices.
         let mut i = first;
         while i < stop {
             let role = nodes.role(i);

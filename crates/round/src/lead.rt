@@ -9,6 +9,7 @@ pub fn lead(frame: RoundFrame, sign: Sign) -> Move
     ensures { (forms : Forms) → Moves forms (Mode.Want (Frame.Round frame)) (Kind.Symbol sign) result }
 {
     match (sign, frame) {
+        // In each bracket's crate, since its `lead` promises the move of every sign.
         (Sign::RoundOpen | Sign::CurlyOpen | Sign::SquareOpen, _) => Move::Value(frame.into()),
         (Sign::RoundClose, RoundFrame::Opened | RoundFrame::Row) => Move::ends(
             NodeKind::Tuple,

@@ -24,6 +24,7 @@ pub fn lead(frame: SquareFrame, sign: Sign) -> Move
     ensures { (forms : Forms) → Moves forms (Mode.Want (Frame.Square frame)) (Kind.Symbol sign) result }
 {
     match (sign, frame) {
+        // In each bracket's crate, since its `lead` promises the move of every sign.
         (Sign::RoundOpen | Sign::CurlyOpen | Sign::SquareOpen, _) => Move::Value(frame.into()),
         (Sign::SquareClose, SquareFrame::Opened) => Move::Close {
             kind: NodeKind::Interval,

@@ -30,6 +30,7 @@ pub fn write(text: &[u8], buffer: &mut [u8]) -> Answer
 {
     let mut table = [0; TABLE];
     let answer = read(LEVEL, text, &mut table);
+    // By the number: what a reading promises (`Answers`) is told by it.
     if answer.number != 0 {
         return answer;
     }
@@ -75,6 +76,7 @@ fn stored(text: &[u8], file: &[u8]) -> bool
 {
     let mut table = [0; TABLE];
     let answer = reading(text, &mut table);
+    // By the number: what a reading promises (`Answers`) is told by it.
     if answer.number != 0 {
         return false;
     }

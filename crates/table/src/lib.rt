@@ -1,4 +1,4 @@
-// Nodes in the lent table of words, one behind the other.
+// Nodes in the lent table of words, one behind the other. It is a slice of words, and no slice of nodes, since C lends it so.
 #![tactic(auto)]
 
 ghost use Rattle.std.specs.Prelude.{◌≡◌, ◌+◌, ◌*◌, ◌≤◌, length};

@@ -17,6 +17,7 @@ fn compared(level: u32, text: &[u8], table: &[u32], own: &mut [u32]) -> Answer
     ensures { Judges base text.now table.now level result }
 {
     let answer = read(level, text, own);
+    // By the number: what a reading promises (`Answers`) is told by it.
     if answer.number != 0 {
         return answer;
     }

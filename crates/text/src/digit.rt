@@ -26,7 +26,7 @@ pub fn base_of(b: u8) -> Option<Base>
     }
 }
 
-// The digits of a base.
+// The digits of a base. No `From`: they are no other form of the base.
 pub fn digit_set(base: Base) -> Set
     ensures { result ≡ digit_set_of base }
 {

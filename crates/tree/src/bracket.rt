@@ -26,7 +26,7 @@ pub struct State {
     pub last: usize,
 }
 
-// The bracket goes on, or has ended.
+// The bracket goes on, or has ended. No Result: that it has ended is no error.
 #[derive(Clone, Copy)]
 pub enum Turn {
     On(State),
@@ -200,6 +200,7 @@ fn wrong(t: Token) -> Result<Turn, Refused>
 }
 
 // Carries out the move of a token that begins no value. A group does not come here: its end is looked for behind its value.
+// State, token and move stay arguments: each comes from another call, and a struct of them would be taken apart at once.
 pub(crate) fn take(
     limits: Limits,
     start: &Start,
