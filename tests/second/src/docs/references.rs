@@ -105,9 +105,12 @@ pub fn check(repository: &Repository, document: &Document) -> Checked {
     checker.checked
 }
 
-/// The blocks that speak of today: of the landings the newest only, and nothing of the page that lays the names of before beside today's.
+/// The blocks that speak of today: of the landings the newest only, and nothing of the pages that lay the names of before beside today's.
 fn current(document: &Document) -> &[Block] {
-    if document.path.ends_with("PORT.md") {
+    if ["PORT.md", "DESIGN-PASS.md"]
+        .iter()
+        .any(|page| document.path.ends_with(page))
+    {
         return &[];
     }
     let is_section = |block: &Block| matches!(block, Block::Heading { depth: 2, .. });

@@ -57,30 +57,41 @@ pub fn contracts(repository: &Repository) -> Vec<Finding> {
 /// line with the brace that opens its body.
 pub fn unpromised(path: &str, text: &str) -> Vec<Finding> {
     let mut findings = Vec::new();
-    let mut head: Option<(usize, bool)> = None;
+    let mut head: Option<Head> = None;
     for (at, line) in text.lines().enumerate() {
-        if line.starts_with("pub fn ") || line.starts_with("pub extern ") {
-            head = Some((at + 1, false));
+        let word = line.trim_start();
+        if word.starts_with("pub fn ") || word.starts_with("pub extern ") {
+            head = Some(Head {
+                line: at + 1,
+                promises: false,
+                takes_a_closure: word.contains("<F: Fn"),
+            });
         }
-        let Some((first, promised)) = head else {
+        let Some(function) = &mut head else {
             continue;
         };
-        let word = line.trim_start();
-        if word.starts_with("requires") {
+        // What a closure does is asked of no value.
+        if word.starts_with("requires") && !function.takes_a_closure {
             let reason = "a public function has a requires".to_string();
-            findings.push(Finding::new(path, first, reason));
+            findings.push(Finding::new(path, function.line, reason));
         }
-        if line == "{" {
-            if !promised {
+        function.promises |= word.starts_with("ensures");
+        if word.ends_with('{') {
+            if !function.promises {
                 let reason = "a public function has no ensures".to_string();
-                findings.push(Finding::new(path, first, reason));
+                findings.push(Finding::new(path, function.line, reason));
             }
             head = None;
-        } else {
-            head = Some((first, promised || word.starts_with("ensures")));
         }
     }
     findings
+}
+
+/// A public function, or a method, from its head to its body.
+struct Head {
+    line: usize,
+    promises: bool,
+    takes_a_closure: bool,
 }
 
 /// Crates without a row in README's table, and crates with definitions that
@@ -202,5 +213,8 @@ mod tests {
             1
         );
         assert_eq!(reasons("pub fn a() {\n}\n\nfn b()\n{\n}\n").len(), 1);
+        assert_eq!(reasons("    pub fn a(self) -> u8 {\n    }\n").len(), 1);
+        let closure = "pub fn a<F: Fn(u8) -> bool>(f: F)\n    requires { x }\n";
+        assert!(reasons(&format!("{closure}{promise}")).is_empty());
     }
 }
