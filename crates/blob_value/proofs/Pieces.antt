@@ -56,9 +56,6 @@ module _ (piece : List ℕ) (mark : Mark) where
 -- ---- padding
 
 module _ {piece : List ℕ} {mark : Mark} where
-  pub unpadded : (mark ≡ BlobBase64 → ⊥) → Padded piece mark 0
-  unpadded f = record { others = λ g. refl; base64_is = λ g ds bs b n. absurd (f g) }
-
   padded_by : {n : ℕ} → mark ≡ BlobBase64 → ((ds bs : List ℕ) → Behind piece "0xy" 4 base64 0 (length piece) ds → (e : Encodes ds bs) → e.padding ≡ n) →
       Padded piece mark n
   padded_by e g = record { others = λ h. absurd (h e); base64_is = λ h. g }

@@ -2,7 +2,7 @@
 use mathlib.Core.Path.{◌≡◌, refl, sym, ap, subst, ◌∙◌}
 use mathlib.Core.List.{List, [], ◌∷◌, ◌++◌, map, foldl, append_assoc, append-nil}
 use Prim.Native.Nat.{ℕ, zero, suc, ◌+◌, ◌-◌, ◌*◌, ◌/◌, ◌%◌, ◌^◌, ◌≤◌, ◌<◌}
-use native.Mathlib.Nat.{mod-lt, add-zero, add-suc, pow-succ', mul-le-mul_left, le_antisymm}
+use native.Mathlib.Nat.{mod-lt, add-zero, add-suc, pow-succ', mul-le-mul_left}
 use native.Mathlib.Omega.{arith}
 use lib.ListN.{length, get_or, take, drop}
 use Rattle.std.proofs.lemmas.List.{get_or-take, get_or-drop}
@@ -11,7 +11,7 @@ use Rattle.lexicon.specs.Expansion.{bits_of, expand}
 use Rattle.lexicon.proofs.Expansions.{power_positive, bits_join, low_bits, last_bits}
 use Rattle.buffer.specs.declared.Writer.{Writer}
 use Rattle.buffer.specs.Appends.{Appends}
-use Rattle.buffer.proofs.Appending.{appends_none, appends_same, appends_then}
+use Rattle.buffer.proofs.Appending.{appends_none, appends_then}
 use Rattle.lexicon.specs.Values.{read}
 use Rattle.lexicon.proofs.Limits.{read_more}
 use Rattle.blob_value.specs.Marks.{value_of}
@@ -56,10 +56,6 @@ module _ (w count v : ℕ) (u : Writer) where
         appends = appends_then s.appends a;
       }
 
-  pub spread_ends : {j : ℕ} {x : Writer} → Spreading w count v u j x → 0 ≡ j → Appends u (parts w count v) x
-  spread_ends s e =
-      appends_same (sym (append-nil s.before) ∙ ap (λ (n : ℕ). s.before ++ parts w n v) e ∙ s.are) s.appends
-
 -- ---- digits as a number
 
 -- the number of a row of digits has their bits, behind those of the number before
@@ -96,9 +92,6 @@ module _ (piece : List ℕ) (i n radix : ℕ) where
     pub within : k ≤ n
     pub small : sum < 64 ^ k
     pub sum_is : sum ≡ foldl (with_digit radix) 0 (read piece i k)
-
-  pub sum_begins : Sum 0 0
-  sum_begins = record { within = omega arith; small = omega arith; sum_is = refl }
 
   module _ (s : Small piece i n radix) {k sum : ℕ} (a : Sum k sum) (h : k < n) where
     -- one digit more fits in fewer bits than 64
@@ -139,6 +132,3 @@ module _ (piece : List ℕ) (i n radix : ℕ) where
               ∙ sym (read_more (with_digit radix) piece 0 i k)
               ∙ ap (λ (m : ℕ). foldl (with_digit radix) 0 (read piece i m)) one;
         }
-
-  pub sum_ends : {k sum : ℕ} → Sum k sum → n ≤ k → sum ≡ foldl (with_digit radix) 0 (read piece i n)
-  sum_ends a h = a.sum_is ∙ ap (λ (m : ℕ). foldl (with_digit radix) 0 (read piece i m)) (le_antisymm a.within h)

@@ -257,9 +257,6 @@ module _ (piece : List ℕ) (n at : ℕ) where
     pub of : (mark : Mark) → n ≡ unit_of mark → (ds : List ℕ) → Units piece mark at ds →
         (rest : List ℕ) × Units piece mark i rest × (length ds ≡ k * unit_of mark + length rest)
 
-  pub count_begins : HasUnits piece n at → Counting at 0
-  count_begins h = record { behind = omega arith; has = h; of = λ mark e ds d. (ds, d, omega arith) }
-
   module _ {i k : ℕ} (w : Counting i k) where
     pub count_within : i + n ≤ length piece
     count_within = omega (arith, w.has.unit_is, digits_forward w.has.has.are)

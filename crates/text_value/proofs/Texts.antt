@@ -1,15 +1,13 @@
 -- A piece that is a Text: which one, its characters as they are written, and the answer. Assumes nothing.
 use mathlib.Core.Path.{◌≡◌, refl, sym, ap, subst, ◌∙◌}
 use mathlib.Core.Logic.{inl, inr}
-use mathlib.Core.Bool.{Bool, true, false}
+use mathlib.Core.Bool.{Bool, true}
 use mathlib.Core.List.{List, ◌++◌}
 use Prim.Native.Nat.{ℕ, ◌≤◌, ◌<◌, min}
 use native.Mathlib.Omega.{arith}
 use lib.ListN.{length}
-use Rattle.std.specs.Borrow.{MutBor}
 use Rattle.rules.specs.Test.{Says}
 use Rattle.rules.specs.Rule.{Rule, Takes, left, right, Longest, Fails}
-use Rattle.rules.proofs.Tests.{refuted}
 use Rattle.lexicon.specs.Limited.{limit}
 use Rattle.lexicon.proofs.Answers.{shorter}
 use Rattle.lexicon.specs.Literals.{quoted, word, code_point_of}
@@ -33,9 +31,9 @@ use Rattle.values.proofs.Values.{code_of, quoted_of}
 use Rattle.values.proofs.Texts.{quoted_known, code_known, text_same, text_short}
 use Rattle.buffer.specs.declared.Writer.{Writer}
 use Rattle.buffer.specs.Puts.{largest, Puts}
-use Rattle.buffer.specs.Appends.{Begins, Appends}
+use Rattle.buffer.specs.Appends.{Appends}
 use Rattle.buffer.proofs.Puts.{puts_ends, puts_start, puts_empty}
-use Rattle.buffer.proofs.Appending.{appends_same, put_in}
+use Rattle.buffer.proofs.Appending.{appends_same}
 use Rattle.text_value.proofs.Copies.{whole_read}
 use Rattle.text_value.proofs.Walks.{append_none}
 
@@ -62,15 +60,9 @@ module _ (piece : List ℕ) where
   code_other f g n (right (left t)) = g.none t
   code_other f g n (right (right t)) = n t
 
-  pub code_shorter : {e : ℕ} → Longest piece code_point_of 0 e → (e ≡ length piece → ⊥) → Takes piece code_point_of 0 (length piece) → ⊥
-  code_shorter l n t = shorter l n t
-
   module _ {r : Rule} (P : ℕ → ℕ → Type 0) {e : ℕ} {b : Bool} (y : Longest piece r 0 e × Says b (P 0 e)) (h : e ≡ length piece) where
     pub whole_bad : b ≡ true → P 0 (length piece)
     whole_bad t = subst (λ (x : ℕ). P 0 x) h (y.1.true_holds t)
-
-    pub whole_good : b ≡ false → P 0 (length piece) → ⊥
-    whole_good f p = refuted y.1 f (subst (λ (x : ℕ). P 0 x) (sym h) p)
 
   pub shaped_as : {s u : Shape} → s ≡ u → Shaped piece s → Shaped piece u
   shaped_as e x = subst (λ (y : Shape). Shaped piece y) e x
@@ -117,11 +109,6 @@ module _ (piece : List ℕ) where
     wrote_code a =
         let v = code_of piece x.0 in
         record { characters = _; is = coded v.1; appends = appends_same (ap encode code_value.0 ∙ sym (append_none (encode v.0))) a }
-
-  -- all of them, from the start of the buffer: t is its bytes when the writer is dropped
-  pub text_in : {lent : MutBor (List ℕ)} {t : List ℕ} {u v : Writer} → Begins lent u → AppendsText piece u v →
-      (lent.ghost_name ≡ v.buffer.ghost_name → t ≡ v.buffer.now) → WroteText piece lent.now t v.at
-  text_in b a f = record { characters = a.characters; is = a.is; puts = put_in b a.appends f }
 
   -- ---- the answer
 

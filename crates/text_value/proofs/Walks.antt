@@ -262,23 +262,12 @@ module _ (piece : List ℕ) where
     pub opening : At piece quote i
     opening = segment_begins piece s.is
 
-    pub escaped_stands : At piece backslash (i + 1) → Stands (Unescapes piece) (i + 2)
-    escaped_stands a = go s.is
-      where
-        go : {j : ℕ} {bs : List ℕ} → SegmentBytes piece i j bs → Stands (Unescapes piece) (i + 2)
-        go (plain q n c) = absurd (n a)
-        go (escaped q b u) = record { end = _; bytes = _; is = u }
-
     pub plain_stands : (At piece backslash (i + 1) → ⊥) → Stands (Copies piece) (i + 1)
     plain_stands n = go s.is
       where
         go : {j : ℕ} {bs : List ℕ} → SegmentBytes piece i j bs → Stands (Copies piece) (i + 1)
         go (plain q m c) = record { end = _; bytes = _; is = c }
         go (escaped q b u) = absurd (n b)
-
-    pub escaped_wrote : At piece backslash (i + 1) → {j : ℕ} {u v : Writer} → Wrote (Unescapes piece) (i + 2) j u v →
-        Wrote (SegmentBytes piece) i j u v
-    escaped_wrote a w = record { bytes = w.bytes; is = escaped opening a w.is; appends = w.appends }
 
     pub plain_wrote : (At piece backslash (i + 1) → ⊥) → {j : ℕ} {u v : Writer} → Wrote (Copies piece) (i + 1) j u v →
         Wrote (SegmentBytes piece) i j u v

@@ -1,11 +1,8 @@
 -- `blob_value::spread::count` meets its contract. Assumes nothing.
 use native.Mathlib.Omega.{arith}
 use Rattle.rules.proofs.Matches.{forward}
-use Rattle.blob_value.proofs.Walks.{count_begins, count_within, count_some, count_ends, count_next}
+use Rattle.blob_value.proofs.Walks.{count_within, count_some, count_ends, count_next}
 use Rattle.blob_value.proofs.spread.count.Goals as goal
-
-pub loop-i-init : goal.loop-i-init
-loop-i-init c = count_begins _ _ _ c.requires
 
 pub overflow_add-n : goal.overflow_add-n
 overflow_add-n c = omega (arith, c.loop-i.invariant.behind, count_within _ _ _ c.loop-i.invariant)

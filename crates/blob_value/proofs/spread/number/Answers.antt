@@ -1,10 +1,7 @@
 -- `blob_value::spread::number` meets its contract. Assumes nothing.
 use native.Mathlib.Omega.{arith}
-use Rattle.blob_value.proofs.Spreads.{sum_begins, product_fits, sum_fits, sum_more, sum_ends}
+use Rattle.blob_value.proofs.Spreads.{product_fits, sum_fits, sum_more}
 use Rattle.blob_value.proofs.spread.number.Goals as goal
-
-pub loop-b-init : goal.loop-b-init
-loop-b-init c = sum_begins _ _ _ _
 
 pub overflow_mul-sum : goal.overflow_mul-sum
 overflow_mul-sum c = omega (arith, product_fits _ _ _ _ c.requires c.loop-b.invariant (omega arith))
@@ -14,6 +11,3 @@ overflow_add-sum c = omega (arith, sum_fits _ _ _ _ c.requires c.loop-b.invarian
 
 pub loop-b-preserved : goal.loop-b-preserved
 loop-b-preserved c = sum_more _ _ _ _ c.requires c.loop-b.invariant (omega arith) (omega arith) c.digit_value.ensures
-
-pub returns : goal.returns
-returns c = sum_ends _ _ _ _ c.loop-b.invariant (omega arith)

@@ -7,7 +7,7 @@ use Rattle.rules.proofs.Matches.{forward}
 use Rattle.lexicon.specs.Literals.{joint}
 use Rattle.blob_value.specs.declared.Kind.{Kind}
 use Rattle.blob_value.specs.Marks.{unit_of, size_of}
-use Rattle.blob_value.proofs.Walks.{walk_begins, walk_within, walk_small, sum_known, walk_ends, walk_next, one_at_least, few_bytes}
+use Rattle.blob_value.proofs.Walks.{walk_begins, walk_within, walk_small, sum_known, walk_ends, walk_next, one_at_least}
 use Rattle.blob_value.proofs.spread.units.Goals as goal
 
 pub loop-i-init : goal.loop-i-init
@@ -15,9 +15,6 @@ loop-i-init c = walk_begins _ _ _ _ c.requires
 
 pub number-requires : goal.number-requires
 number-requires c = walk_small _ _ _ _ c.loop-i.invariant c.unit-width.ensures c.radix-radix.ensures
-
-pub spread-requires : goal.spread-requires
-spread-requires c = omega (arith, c.bytes-filled.ensures, few_bytes c.args.mark)
 
 pub overflow_add-i : goal.overflow_add-i
 overflow_add-i c = omega (arith, walk_within _ _ _ _ c.loop-i.invariant, c.unit-width.ensures)

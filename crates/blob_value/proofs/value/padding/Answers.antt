@@ -2,11 +2,8 @@
 use mathlib.Core.Bool.{not}
 use mathlib.Core.Path.{ap}
 use native.Mathlib.Omega.{arith}
-use Rattle.blob_value.proofs.Pieces.{mark_length, unpadded, pads_none, pads_one, pads_two}
+use Rattle.blob_value.proofs.Pieces.{mark_length, pads_none, pads_one, pads_two}
 use Rattle.blob_value.proofs.value.padding.Goals as goal
-
-pub returns-in_default : goal.returns-in_default
-returns-in_default c = unpadded c.in_default.not-BlobBase64
 
 pub overflow_sub-piece : goal.overflow_sub-piece
 overflow_sub-piece c = omega (arith, mark_length _ c.args.mark c.requires)

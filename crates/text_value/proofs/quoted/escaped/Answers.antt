@@ -18,21 +18,9 @@ loop-out-smaller-then-stands c = omega (arith, walk_within _ _ _ c.loop-out.inva
 pub loop-out-preserved-then-stands : goal.loop-out-preserved-then-stands
 loop-out-preserved-then-stands c = walk_next _ _ _ c.loop-out.invariant (not_there c.stands.ensures c.loop-out-test.true) c.escape-i.ensures
 
-pub bounds-piece-i : goal.bounds-piece-i
-bounds-piece-i c = walk_within _ _ _ c.loop-out.invariant
-
-pub overflow_add-i : goal.overflow_add-i
-overflow_add-i c = omega (arith, walk_within _ _ _ c.loop-out.invariant)
-
-pub loop-out-smaller : goal.loop-out-smaller
-loop-out-smaller c = omega (arith, walk_within _ _ _ c.loop-out.invariant)
-
 pub loop-out-preserved : goal.loop-out-preserved
 loop-out-preserved c = let q = not_there c.stands.ensures c.loop-out-test.true in
     walk_next _ _ _ c.loop-out.invariant q (walk_byte _ _ _ c.loop-out.invariant q (not_there c.stands-in-loop-out.ensures c.if-stands.false) c.put.ensures)
-
-pub overflow_add-result : goal.overflow_add-result
-overflow_add-result c = omega (arith, walk_within _ _ _ c.loop-out.invariant)
 
 pub returns : goal.returns
 returns c = walk_ends _ _ _ c.loop-out.invariant (there c.stands.ensures c.loop-out-test.false)
