@@ -4,4 +4,4 @@ use Rattle.plain.proofs.Fits.{fills}
 use Rattle.plain.proofs.fill.Goals as goal
 
 pub returns : goal.returns
-returns c = fills (omega arith) c.put_plain.ensures
+returns c = rw c.accepted.ensures (fills (omega arith) c.put_plain.ensures)
