@@ -454,14 +454,14 @@ module _ (text : List ℕ) (limits : Limits) (forms : Forms) where
 -- ---- numbers
 
 -- what a start says of itself, and what is asked of it in the text
-pub fit_of : {text : List ℕ} (s : Start.Start) → Within text s → Fit text s.token s.index s.parent
-fit_of s w = record { short = w.short; some_byte = s.some_byte; inside_text = w.inside_text; index_fits = s.index_fits; parent_fits = s.parent_fits }
+pub fit_of : {text : List ℕ} {s : Start.Start} → Within text s → Fit text s.token s.index s.parent
+fit_of {s = s} w = record { short = w.short; some_byte = s.some_byte; inside_text = w.inside_text; index_fits = s.index_fits; parent_fits = s.parent_fits }
 
 pub within_of : {text : List ℕ} {s : Start.Start} → Fit text s.token s.index s.parent → Within text s
 within_of f = record { short = f.short; inside_text = f.inside_text }
 
-pub inner_of : {text : List ℕ} (s : Start.Start) {x : State.State} → Inside text s x → Inner text s.token x s.index s.parent
-inner_of s i = record { fit = fit_of s i.within; after = i.after; deep_fits = i.deep_fits; inside_text = i.inside_text }
+pub inner_of : {text : List ℕ} {s : Start.Start} {x : State.State} → Inside text s x → Inner text s.token x s.index s.parent
+inner_of i = record { fit = fit_of i.within; after = i.after; deep_fits = i.deep_fits; inside_text = i.inside_text }
 
 pub inside_of : {text : List ℕ} {s : Start.Start} {x : State.State} → Inner text s.token x s.index s.parent → Inside text s x
 inside_of i = record { within = within_of i.fit; after = i.after; deep_fits = i.deep_fits; inside_text = i.inside_text }

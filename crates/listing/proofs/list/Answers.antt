@@ -4,11 +4,8 @@ use Prim.Native.Nat.{ℕ}
 use native.Mathlib.Omega.{arith}
 use Rattle.buffer.proofs.Appending.{appends_same, appends_then, put_in}
 use Rattle.listing.specs.Listing.{head_line}
-use Rattle.listing.proofs.Lines.{counted, list_refused, list_accepted}
+use Rattle.listing.proofs.Lines.{list_refused, list_accepted}
 use Rattle.listing.proofs.list.Goals as goal
-
-pub nodes-requires : goal.nodes-requires
-nodes-requires c = omega (arith, counted c.read-answer.ensures c.if-answer-ne0.false, c.read-answer.auto)
 
 pub returns-then-answer-ne0 : goal.returns-then-answer-ne0
 returns-then-answer-ne0 c =

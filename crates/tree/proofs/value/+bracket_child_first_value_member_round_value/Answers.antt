@@ -5,17 +5,8 @@ use Rattle.std.specs.Prelude.{Ok}
 use native.Mathlib.Omega.{arith}
 use Rattle.lexicon.proofs.Pieces.{token_bounds}
 use Rattle.look.proofs.Looking.{got_token}
-use Rattle.tree.proofs.Readings.{rank_falls, byte_falls, inner_fit, enters_at, start_inner, first_inner, begin_from, begin_got, turn_narrow, turn_behind, fit_of, within_of, inner_of, inside_of, child_fit, signs_told, value_sized, value_leaf, value_names, value_round, value_bracket, value_refused, round_missing, round_bracket, first_refused, first_open, first_group, first_bracket, child_refused, child_on, member_missing, member_taken, member_child, going_starts, going_less, going_on, going_ends, going_refused}
+use Rattle.tree.proofs.Readings.{rank_falls, byte_falls, inner_fit, enters_at, start_inner, first_inner, begin_from, begin_got, turn_narrow, turn_behind, fit_of, within_of, inner_of, inside_of, signs_told, value_sized, value_leaf, value_names, value_round, value_bracket, value_refused, round_missing, round_bracket, first_refused, first_open, first_group, first_bracket, child_refused, child_on, member_missing, member_taken, member_child, going_on, going_ends, going_refused}
 use Rattle.tree.proofs.value.+bracket_child_first_value_member_round_value.Goals as goal
-
-pub bracket-loop-turned-init : goal.bracket-loop-turned-init
-bracket-loop-turned-init t c = going_starts (inner_of c.args.start.now c.requires)
-
-pub bracket-member-turn-requires : goal.bracket-member-turn-requires
-bracket-member-turn-requires t c = (rank_falls c.args.reader.now.text.now c.decreases c.loop-turned.invariant.onward (omega arith), inside_of c.loop-turned.invariant.inner)
-
-pub bracket-loop-turned-smaller : goal.bracket-loop-turned-smaller
-bracket-loop-turned-smaller t c = going_less c.loop-turned.invariant c.member-turn.result c.member-turn.ensures (c.in-Ok.is ∙ ap Ok c.in-On.is)
 
 pub bracket-loop-turned-preserved : goal.bracket-loop-turned-preserved
 bracket-loop-turned-preserved t c = going_on c.loop-turned.invariant c.member-turn.result c.member-turn.ensures (c.in-Ok.is ∙ ap Ok c.in-On.is) c.member-turn.auto.table
@@ -26,32 +17,17 @@ bracket-returns-in-Ended t c = going_ends c.loop-turned.invariant c.member-turn.
 pub bracket-returns-in_default : goal.bracket-returns-in_default
 bracket-returns-in_default t c = going_refused c.loop-turned.invariant c.member-turn.result c.member-turn.ensures c.unwrap_err.ensures
 
-pub child-overflow_add-last : goal.child-overflow_add-last
-child-overflow_add-last t c = record { fits = omega (arith, c.requires.0.after, c.requires.0.token_after, c.requires.0.token_byte, c.requires.0.short) }
-
-pub child-overflow_add-last-2 : goal.child-overflow_add-last-2
-child-overflow_add-last-2 t c = record { fits = omega (arith, c.requires.0.after, c.requires.0.token_after, c.requires.0.token_byte, c.requires.0.short) }
-
-pub child-value-read-requires : goal.child-value-read-requires
-child-value-read-requires t c = (rank_falls c.args.reader.now.text.now c.decreases (omega arith) (omega arith), (within_of (child_fit c.requires.0 c.requires.2 c.requires.3), omega (arith, c.requires.1, c.requires.0.token_after)))
-
 pub child-returns-in_default : goal.child-returns-in_default
 child-returns-in_default t c = child_refused _ _ _ c.value-read.ensures c.unwrap_err.ensures
 
-pub child-overflow_add-result : goal.child-overflow_add-result
-child-overflow_add-result t c = let v = value_sized _ _ _ c.value-read.ensures c.in-Ok.is in record { fits = omega (arith, v.0, v.2, c.requires.0.after, c.requires.0.token_after, c.requires.3) }
-
 pub child-returns : goal.child-returns
 child-returns t c = child_on _ _ _ c.value-read.ensures c.in-Ok.is c.value-read.auto.table
-
-pub first_value-overflow_add-depth : goal.first_value-overflow_add-depth
-first_value-overflow_add-depth t c = let f = (fit_of c.args.start.now c.requires.0) in record { fits = omega (arith, c.requires.1, f.some_byte, f.inside_text, f.short) }
 
 pub first_value-invariant_of-inner : goal.first_value-invariant_of-inner
 first_value-invariant_of-inner t c = let s = c.args.start.now in let y = token_bounds _ c.requires.2 in record { some_byte = y.1; index_fits = omega (arith, s.index_fits, s.some_byte, y.0); parent_fits = s.parent_fits }
 
 pub first_value-value-read-requires : goal.first_value-value-read-requires
-first_value-value-read-requires t c = let k = c.requires.2 in let y = token_bounds _ k in (byte_falls c.args.reader.now.text.now 3 c.decreases (omega (arith, y.0, y.1)) y.2 (omega arith), (let i = inner_fit (fit_of c.args.start.now c.requires.0) c.requires.1 k in (within_of i.0, i.1)))
+first_value-value-read-requires t c = let k = c.requires.2 in let y = token_bounds _ k in (byte_falls c.args.reader.now.text.now 3 c.decreases (omega (arith, y.0, y.1)) y.2 (omega arith), (let i = inner_fit (fit_of c.requires.0) c.requires.1 k in (within_of i.0, i.1)))
 
 pub first_value-returns-in_default : goal.first_value-returns-in_default
 first_value-returns-in_default t c = first_refused _ _ _ _ _ _ _ _ c.requires.2 c.requires.3 c.value-read.result c.value-read.ensures c.in_default.is
@@ -60,79 +36,52 @@ pub first_value-returns-in_default-then : goal.first_value-returns-in_default-th
 first_value-returns-in_default-then t c = first_open _ _ _ _ _ _ _ _ c.requires.2 c.requires.3 c.value-read.result c.value-read.ensures c.in-Ok.is c.get-then.ensures c.unwrap_err.ensures
 
 pub first_value-returns-then-is_close : goal.first_value-returns-then-is_close
-first_value-returns-then-is_close t c = first_group _ _ _ _ _ _ _ _ c.requires.2 c.requires.3 c.value-read.result c.value-read.ensures c.in-Ok.is c.get-then.ensures (fit_of c.args.start.now c.requires.0).some_byte c.in-Ok-then.is (sym c.is_close.ensures ∙ c.if-is_close.true)
-
-pub first_value-overflow_add-behind : goal.first_value-overflow_add-behind
-first_value-overflow_add-behind t c = let f = (fit_of c.args.start.now c.requires.0) in record { fits = omega (arith, c.requires.1, f.some_byte, f.inside_text, f.short) }
-
-pub first_value-overflow_add-behind-2 : goal.first_value-overflow_add-behind-2
-first_value-overflow_add-behind-2 t c = let f = (fit_of c.args.start.now c.requires.0) in record { fits = omega (arith, f.index_fits, f.some_byte, f.inside_text, f.short) }
+first_value-returns-then-is_close t c = first_group _ _ _ _ _ _ _ _ c.requires.2 c.requires.3 c.value-read.result c.value-read.ensures c.in-Ok.is c.get-then.ensures (fit_of c.requires.0).some_byte c.in-Ok-then.is (sym c.is_close.ensures ∙ c.if-is_close.true)
 
 pub first_value-bracket-requires : goal.first_value-bracket-requires
-first_value-bracket-requires t c = let k = c.requires.2 in let y = token_bounds _ k in let v = value_sized _ _ _ c.value-read.ensures c.in-Ok.is in (byte_falls c.args.reader.now.text.now 3 c.decreases (omega (arith, y.0, y.1, v.1)) v.2 (omega arith), inside_of (first_inner {shape = c.in-Ok.first.shape} (fit_of c.args.start.now c.requires.0) c.requires.1 k v))
+first_value-bracket-requires t c = let k = c.requires.2 in let y = token_bounds _ k in let v = value_sized _ _ _ c.value-read.ensures c.in-Ok.is in (byte_falls c.args.reader.now.text.now 3 c.decreases (omega (arith, y.0, y.1, v.1)) v.2 (omega arith), inside_of (first_inner {shape = c.in-Ok.first.shape} (fit_of c.requires.0) c.requires.1 k v))
 
 pub first_value-returns : goal.first_value-returns
-first_value-returns t c = first_bracket _ _ _ _ _ _ _ _ c.requires.2 c.requires.3 c.value-read.result c.value-read.ensures c.in-Ok.is c.get-then.ensures c.bracket.result (fit_of c.args.start.now c.requires.0) c.in-Ok-then.is (sym c.is_close.ensures ∙ c.if-is_close.false) c.value-read.auto.table c.raise.ensures c.bracket.ensures
+first_value-returns t c = first_bracket _ _ _ _ _ _ _ _ c.requires.2 c.requires.3 c.value-read.result c.value-read.ensures c.in-Ok.is c.get-then.ensures c.bracket.result (fit_of c.requires.0) c.in-Ok-then.is (sym c.is_close.ensures ∙ c.if-is_close.false) c.value-read.auto.table c.raise.ensures c.bracket.ensures
 
 pub member-returns-in_default : goal.member-returns-in_default
-member-returns-in_default t c = member_missing _ _ _ (inner_of c.args.start.now c.requires) c.get-got.ensures c.unwrap_err.ensures
+member-returns-in_default t c = member_missing _ _ _ (inner_of c.requires) c.get-got.ensures c.unwrap_err.ensures
 
 pub member-take-requires : goal.member-take-requires
-member-take-requires t c = (turn_narrow (inner_of c.args.start.now c.requires) (got_token _ _ c.in-Ok.is c.get-got.ensures), turn_behind c.requires)
+member-take-requires t c = (turn_narrow (inner_of c.requires) (got_token _ _ c.in-Ok.is c.get-got.ensures), turn_behind c.requires)
 
 pub member-returns-in_default-taken : goal.member-returns-in_default-taken
-member-returns-in_default-taken t c = member_taken _ _ _ (inner_of c.args.start.now c.requires) c.get-got.ensures c.in-Ok.is c.step-taken.ensures c.take.result c.take.ensures.numbers c.take.ensures.turns (signs_told c.step-taken.result c.in_default-taken.not-Value)
+member-returns-in_default-taken t c = member_taken _ _ _ (inner_of c.requires) c.get-got.ensures c.in-Ok.is c.step-taken.ensures c.take.result c.take.ensures.numbers c.take.ensures.turns (signs_told c.step-taken.result c.in_default-taken.not-Value)
 
 pub member-child-requires : goal.member-child-requires
-member-child-requires t c = let i = (inner_of c.args.start.now c.requires) in let k = got_token _ _ c.in-Ok.is c.get-got.ensures in let y = token_bounds _ k in (byte_falls c.args.reader.now.text.now 2 c.decreases (omega (arith, y.0, y.1)) y.2 (omega arith), (turn_narrow i k, i.deep_fits, y.2, i.fit.short))
+member-child-requires t c = let i = inner_of c.requires in let k = got_token _ _ c.in-Ok.is c.get-got.ensures in let y = token_bounds _ k in (byte_falls c.args.reader.now.text.now 2 c.decreases (omega (arith, y.0, y.1)) y.2 (omega arith), (turn_narrow i k, i.deep_fits, y.2, i.fit.short))
 
 pub member-returns : goal.member-returns
-member-returns t c = member_child _ _ _ (inner_of c.args.start.now c.requires) c.get-got.ensures c.in-Ok.is c.step-taken.ensures c.child.result c.in-Value.is c.child.ensures
+member-returns t c = member_child _ _ _ (inner_of c.requires) c.get-got.ensures c.in-Ok.is c.step-taken.ensures c.child.result c.in-Value.is c.child.ensures
 
 pub round-returns-in_default : goal.round-returns-in_default
 round-returns-in_default t c = round_missing _ _ _ _ _ _ _ _ c.requires.2 c.unwrap_err.ensures
 
-pub round-first_value-requires : goal.round-first_value-requires
-round-first_value-requires t c = (rank_falls c.args.reader.now.text.now c.decreases (omega arith) (omega arith), (c.requires.0, c.requires.1, got_token _ _ c.in-Ok.is c.requires.2, sym c.begins_value.ensures ∙ c.if-begins_value.true))
-
-pub round-returns-then-begins_value : goal.round-returns-then-begins_value
-round-returns-then-begins_value t c = c.first_value.ensures
-
-pub round-entering-entered-requires : goal.round-entering-entered-requires
-round-entering-entered-requires t c = let f = (fit_of c.args.start.now c.requires.0) in omega (arith, c.requires.1, f.some_byte, f.inside_text, f.short)
-
-pub round-bracket-requires : goal.round-bracket-requires
-round-bracket-requires t c = (rank_falls c.args.reader.now.text.now c.decreases (omega (arith, enters_at _ c.entering-entered.result c.entering-entered.ensures)) (omega arith), inside_of (start_inner c.entering-entered.result c.entering-entered.ensures (fit_of c.args.start.now c.requires.0) c.requires.1 (omega arith, c.requires.0.inside_text)))
-
 pub round-returns : goal.round-returns
 round-returns t c = round_bracket _ _ _ _ _ _ _ _ c.entering-entered.result c.bracket.result (got_token _ _ c.in-Ok.is c.requires.2) (sym c.begins_value.ensures ∙ c.if-begins_value.false) c.entering-entered.ensures c.bracket.ensures
 
-pub value-leaf-requires : goal.value-leaf-requires
-value-leaf-requires t c = c.requires.0
-
-pub value-names-requires : goal.value-names-requires
-value-names-requires t c = c.requires.0
-
 pub value-round-requires : goal.value-round-requires
-value-round-requires t c = (rank_falls c.args.reader.now.text.now c.decreases (omega arith) (omega arith), (c.requires.0, c.requires.1, begin_got c.begins-begun.result (fit_of c.args.start.now c.requires.0) c.begins-begun.ensures (c.in-Ok.is ∙ ap Ok c.in-Round.is)))
-
-pub value-entering-entered-requires : goal.value-entering-entered-requires
-value-entering-entered-requires t c = let f = (fit_of c.args.start.now c.requires.0) in omega (arith, c.requires.1, f.some_byte, f.inside_text, f.short)
+value-round-requires t c = (rank_falls c.args.reader.now.text.now c.decreases (omega arith) (omega arith), (c.requires.0, c.requires.1, begin_got c.begins-begun.result (fit_of c.requires.0) c.begins-begun.ensures (c.in-Ok.is ∙ ap Ok c.in-Round.is)))
 
 pub value-bracket-requires : goal.value-bracket-requires
-value-bracket-requires t c = let g = begin_from c.begins-begun.result (fit_of c.args.start.now c.requires.0) c.begins-begun.ensures (c.in-Ok.is ∙ ap Ok c.in-Bracket.is) in (rank_falls c.args.reader.now.text.now c.decreases (omega (arith, g.0, enters_at _ c.entering-entered.result c.entering-entered.ensures)) (omega arith), inside_of (start_inner c.entering-entered.result c.entering-entered.ensures (fit_of c.args.start.now c.requires.0) c.requires.1 g))
+value-bracket-requires t c = let g = begin_from c.begins-begun.result (fit_of c.requires.0) c.begins-begun.ensures (c.in-Ok.is ∙ ap Ok c.in-Bracket.is) in (rank_falls c.args.reader.now.text.now c.decreases (omega (arith, g.0, enters_at _ c.entering-entered.result c.entering-entered.ensures)) (omega arith), inside_of (start_inner c.entering-entered.result c.entering-entered.ensures (fit_of c.requires.0) c.requires.1 g))
 
 pub value-returns-in-Literal : goal.value-returns-in-Literal
-value-returns-in-Literal t c = value_leaf _ _ _ _ _ _ _ _ _ (fit_of c.args.start.now c.requires.0) c.begins-begun.result c.begins-begun.ensures c.leaf.result (c.in-Ok.is ∙ ap Ok c.in-Literal.is) c.leaf.ensures
+value-returns-in-Literal t c = value_leaf _ _ _ _ _ _ _ _ _ (fit_of c.requires.0) c.begins-begun.result c.begins-begun.ensures c.leaf.result (c.in-Ok.is ∙ ap Ok c.in-Literal.is) c.leaf.ensures
 
 pub value-returns-in-Names : goal.value-returns-in-Names
-value-returns-in-Names t c = value_names _ _ _ _ _ _ _ _ _ (fit_of c.args.start.now c.requires.0) c.begins-begun.result c.begins-begun.ensures c.names.result (c.in-Ok.is ∙ ap Ok c.in-Names.is) c.names.ensures
+value-returns-in-Names t c = value_names _ _ _ _ _ _ _ _ _ (fit_of c.requires.0) c.begins-begun.result c.begins-begun.ensures c.names.result (c.in-Ok.is ∙ ap Ok c.in-Names.is) c.names.ensures
 
 pub value-returns-in-Round : goal.value-returns-in-Round
-value-returns-in-Round t c = value_round _ _ _ _ _ _ _ _ _ (fit_of c.args.start.now c.requires.0) c.begins-begun.result c.begins-begun.ensures _ c.round.result (c.in-Ok.is ∙ ap Ok c.in-Round.is) c.round.ensures
+value-returns-in-Round t c = value_round _ _ _ _ _ _ _ _ _ (fit_of c.requires.0) c.begins-begun.result c.begins-begun.ensures _ c.round.result (c.in-Ok.is ∙ ap Ok c.in-Round.is) c.round.ensures
 
 pub value-returns-in-Bracket : goal.value-returns-in-Bracket
-value-returns-in-Bracket t c = value_bracket _ _ _ _ _ _ _ _ _ (fit_of c.args.start.now c.requires.0) c.begins-begun.result c.begins-begun.ensures c.entering-entered.result c.bracket.result (c.in-Ok.is ∙ ap Ok c.in-Bracket.is) c.entering-entered.ensures c.bracket.ensures
+value-returns-in-Bracket t c = value_bracket _ _ _ _ _ _ _ _ _ (fit_of c.requires.0) c.begins-begun.result c.begins-begun.ensures c.entering-entered.result c.bracket.result (c.in-Ok.is ∙ ap Ok c.in-Bracket.is) c.entering-entered.ensures c.bracket.ensures
 
 pub value-returns-in_default : goal.value-returns-in_default
-value-returns-in_default t c = value_refused _ _ _ _ _ _ _ _ _ (fit_of c.args.start.now c.requires.0) c.begins-begun.result c.begins-begun.ensures c.unwrap_err.ensures
+value-returns-in_default t c = value_refused _ _ _ _ _ _ _ _ _ (fit_of c.requires.0) c.begins-begun.result c.begins-begun.ensures c.unwrap_err.ensures
