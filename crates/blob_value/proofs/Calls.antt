@@ -127,7 +127,7 @@ over_cut [] (x ∷ xs) ys e = absurd (omega (arith, e))
 over_cut (a ∷ t) [] ys e = absurd (omega (arith, e))
 over_cut (a ∷ t) (x ∷ xs) ys e = ap (λ (l : List ℕ). x ∷ l) (over_cut t xs ys (omega (arith, e)))
 
-pub part_length : (t : List ℕ) (n : ℕ) → n ≤ length t → n ≡ length (take n t)
+part_length : (t : List ℕ) (n : ℕ) → n ≤ length t → n ≡ length (take n t)
 part_length t n h = sym (length-take n t ∙ omega (arith, h))
 
 -- units that fill bytes have the bits of so many

@@ -1,11 +1,10 @@
 -- What the pieces of the calls are: a mark and its digits. Assumes nothing.
 use mathlib.Core.Path.{◌≡◌, refl, sym, ap, subst, ◌∙◌}
-use mathlib.Core.Bool.{Bool, true, false, not}
+use mathlib.Core.Bool.{Bool, true, false}
 use mathlib.Core.List.{List, []}
 use Prim.Native.Nat.{ℕ, suc, ◌+◌, ◌-◌, ◌*◌, ◌≤◌, ◌<◌}
 use native.Mathlib.Nat.{mul-le-mul_left}
 use native.Mathlib.Omega.{arith}
-use borrow.Author.Tests.{not-true, not-false}
 use lib.ListN.{length, get_or}
 use Rattle.rules.specs.Class.{In, has, byte_of, just, codes}
 use Rattle.rules.specs.Test.{Says}
@@ -83,22 +82,22 @@ module _ (piece : List ℕ) where
 
     module _ (e : mark ≡ BlobBase64) {o : Bool}
         (s : Says o (Takes piece (one (just (byte_of "="))) (length piece - 1) (length piece - 1 + 1))) where
-      pub pads_none : not o ≡ true → Padded piece mark 0
+      pub pads_none : o ≡ false → Padded piece mark 0
       pads_none t =
           padded_by e
-          (λ ds bs b n. none_told piece (behind_tells piece b n) (λ x. not_stood s (not-true o t) (omega (arith, long)) (last refl ∙ x)))
+          (λ ds bs b n. none_told piece (behind_tells piece b n) (λ x. not_stood s t (omega (arith, long)) (last refl ∙ x)))
 
-      module _ {p : Bool} (t : not o ≡ false) (u : Says p (Takes piece (one (just (byte_of "="))) (length piece - 2) (length piece - 2 + 1))) where
+      module _ {p : Bool} (t : o ≡ true) (u : Says p (Takes piece (one (just (byte_of "="))) (length piece - 2) (length piece - 2 + 1))) where
         pub pads_two : p ≡ true → Padded piece mark 2
         pads_two v =
             padded_by e
-            (λ ds bs b n. two_told piece (behind_tells piece b n) (sym (last refl) ∙ stood s (not-false o t)) (sym (before refl) ∙ stood u v))
+            (λ ds bs b n. two_told piece (behind_tells piece b n) (sym (last refl) ∙ stood s t) (sym (before refl) ∙ stood u v))
 
         pub pads_one : p ≡ false → Padded piece mark 1
         pads_one v =
             padded_by e
             (λ ds bs b n.
-            one_told piece (behind_tells piece b n) (sym (last refl) ∙ stood s (not-false o t)) (λ x. not_stood u v (omega (arith, long)) (before refl ∙ x)))
+            one_told piece (behind_tells piece b n) (sym (last refl) ∙ stood s t) (λ x. not_stood u v (omega (arith, long)) (before refl ∙ x)))
 
 -- ---- the digits behind the mark
 

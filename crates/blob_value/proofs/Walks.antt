@@ -23,6 +23,7 @@ use Rattle.buffer.specs.Appends.{Appends}
 use Rattle.buffer.proofs.Appending.{appends_none, appends_same, appends_then}
 use Rattle.blob_value.specs.declared.mark.Mark.{Mark}
 use Rattle.blob_value.specs.declared.mark.Mark.TheVariants.{BlobBinary, BlobHexadecimal, BlobBase64, BitsBinary, BitsOctal, BitsHexadecimal}
+use Rattle.blob_value.specs.declared.Kind.{Kind}
 use Rattle.blob_value.specs.Marks.{kind_of, digits_of, unit_of, width_of, size_of, bytes_of, value_of}
 use Rattle.blob_value.specs.Spread.{with_digit, parts, Small, Units, Has, HasUnits, Counts, Spreads}
 use Rattle.blob_value.proofs.Marks.{value_digit, value_pad, value_sextet}
@@ -113,7 +114,7 @@ module _ (piece : List ℕ) (mark : Mark) where
       (ap (λ (n : ℕ). n * width_of mark) (read_length piece i (unit_of mark)) ∙ filled mark)
 
   -- the sum over it, from what the functions of the mark answered
-  pub sum_known : (i : ℕ) {sum count radix : ℕ} → sum ≡ foldl (with_digit radix) 0 (read piece i count) → count ≡ unit_of mark → radix ≡ 2 ^ width_of mark →
+  sum_known : (i : ℕ) {sum count radix : ℕ} → sum ≡ foldl (with_digit radix) 0 (read piece i count) → count ≡ unit_of mark → radix ≡ 2 ^ width_of mark →
       sum ≡ foldl (with_digit (2 ^ width_of mark)) 0 (read piece i (unit_of mark))
   sum_known i {count = count} e f g =
       e
@@ -206,10 +207,17 @@ module _ (piece : List ℕ) (mark : Mark) where
           ∙ expand_append (width_of mark) vs (map (value_of (2 ^ width_of mark)) rest)))
           ∙ w.so_far
 
-      module _ {sum count size : ℕ} {x : Writer} (e : sum ≡ foldl (with_digit (2 ^ width_of mark)) 0 (read piece i (unit_of mark))) (f : count ≡ bytes_of mark)
-          (g : size ≡ size_of (kind_of mark)) (p : Appends v (parts size count sum) x) where
+      -- what the functions of the mark and of the digits answered at i
+      module _ {sum width radix count : ℕ} {kind : Kind} {x : Writer} (e : sum ≡ foldl (with_digit radix) 0 (read piece i width)) (wide : width ≡ unit_of mark)
+          (r : radix ≡ 2 ^ width_of mark) (f : count ≡ bytes_of mark) (g : kind ≡ kind_of mark) (p : Appends v (parts (size_of kind) count sum) x) where
+        behind_unit : i + width ≡ i + unit_of mark
+        behind_unit = omega (arith, wide)
+
+        put : Appends u (w.bytes ++ bytes_at i) x
+        put = more_appends (sum_known i e wide r) f (ap (λ (k : Kind). size_of k) g) p
+
         -- the last unit
-        pub walk_ends : i + unit_of mark ≡ length piece → Spreads mark (Units piece mark at) u x
+        pub walk_ends : i + width ≡ length piece → Spreads mark (Units piece mark at) u x
         walk_ends h = go w.rest_are refl
           where
             go : {ds : List ℕ} → Row i ds → w.rest ≡ ds → Spreads mark (Units piece mark at) u x
@@ -223,28 +231,28 @@ module _ (piece : List ℕ) (mark : Mark) where
                         small = more_small;
                         bits_are = sym (append-nil (expand (size_of (kind_of mark)) (w.bytes ++ bytes_at i))) ∙ more_bits y [] (d ∙ sym (append-nil (read piece i (unit_of mark))));
                       };
-                  appends = more_appends e f g p;
+                  appends = put;
                 }
-            go (next_unit y s r) d =
+            go (next_unit y s t) d =
                 let o = one_at_least mark in
-                absurd (omega (arith, h, unit_end (unit_of mark) (digits_of mark) y, forward s, digits_forward r, o.1))
+                absurd (omega (arith, h, wide, unit_end (unit_of mark) (digits_of mark) y, forward s, digits_forward t, o.1))
 
         -- one before it
-        pub walk_next : {k : ℕ} → (i + unit_of mark ≡ length piece → ⊥) → Longest piece (opt joint) (i + unit_of mark) k → Walk k x
+        pub walk_next : {k : ℕ} → (i + width ≡ length piece → ⊥) → Longest piece (opt joint) (i + width) k → Walk k x
         walk_next {k} h j = go w.rest_are refl
           where
             go : {ds : List ℕ} → Row i ds → w.rest ≡ ds → Walk k x
-            go (last_unit y) d = absurd (h (sym (unit_end (unit_of mark) (digits_of mark) y)))
-            go (next_unit {ds = ds} y s r) d =
+            go (last_unit y) d = absurd (h (behind_unit ∙ sym (unit_end (unit_of mark) (digits_of mark) y)))
+            go (next_unit {ds = ds} y s t) d =
                 record {
                   whole = w.whole;
                   whole_are = w.whole_are;
                   rest = ds;
-                  rest_are = next_row y s r j;
+                  rest_are = next_row y s t (subst (λ (n : ℕ). Longest piece (opt joint) n k) behind_unit j);
                   bytes = w.bytes ++ bytes_at i;
                   small = more_small;
                   so_far = more_bits y ds d;
-                  appends = more_appends e f g p;
+                  appends = put;
                 }
 
 -- ---- how many units there are

@@ -67,12 +67,12 @@ module _ (piece : List ℕ) where
   pub shaped_as : {s u : Shape} → s ≡ u → Shaped piece s → Shaped piece u
   shaped_as e x = subst (λ (y : Shape). Shaped piece y) e x
 
-  pub shaped_exact : (s : Shape) → Shaped piece s → Exactly text_literal piece
+  shaped_exact : (s : Shape) → Shaped piece s → Exactly text_literal piece
   shaped_exact Shape.TheVariants.Quoted x = left x.0
   shaped_exact Shape.TheVariants.Word x = right (left x)
   shaped_exact Shape.TheVariants.CodePoint x = right (right x.0)
 
-  pub shaped_good : (s : Shape) → Shaped piece s → (p : ℕ) → BadText piece 0 (length piece) p → ⊥
+  shaped_good : (s : Shape) → Shaped piece s → (p : ℕ) → BadText piece 0 (length piece) p → ⊥
   shaped_good Shape.TheVariants.Quoted x = quoted_good piece x.0 x.1
   shaped_good Shape.TheVariants.Word x = word_good piece x
   shaped_good Shape.TheVariants.CodePoint x = code_good piece x.0 x.1
@@ -115,8 +115,14 @@ module _ (piece : List ℕ) where
   text_bytes : {t t' : List ℕ} {n : ℕ} (w : WroteText piece t t' n) → TextBytes piece 0 (length piece) (encoded w.characters)
   text_bytes w = record { characters = w.characters; are = w.is; bytes_are = refl }
 
-  module _ (good : (p : ℕ) → BadText piece 0 (length piece) p → ⊥) where
-    module _ (rules : Rules) (h : length piece ≤ rules.text) (fit : length piece ≤ largest) (formed : WellFormed piece) (exact : Exactly text_literal piece) (lent : List ℕ) where
+  module _ (shape : Shape) (shaped : Shaped piece shape) where
+    exact : Exactly text_literal piece
+    exact = shaped_exact shape shaped
+
+    good : (p : ℕ) → BadText piece 0 (length piece) p → ⊥
+    good = shaped_good shape shaped
+
+    module _ (rules : Rules) (h : length piece ≤ rules.text) (fit : length piece ≤ largest) (formed : WellFormed piece) (lent : List ℕ) where
       -- the bytes are counted exactly, for they are no more than the piece has
       counted : {t t' : List ℕ} {n : ℕ} (w : WroteText piece t t' n) → n ≡ length (encoded w.characters)
       counted w = let s = text_short piece good w.is in omega (arith, puts_ends w.puts (omega (arith, s)))

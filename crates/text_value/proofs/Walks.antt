@@ -259,7 +259,7 @@ module _ (piece : List ℕ) where
   -- ---- a segment
 
   module _ {i : ℕ} (s : Stands (SegmentBytes piece) i) where
-    pub opening : At piece quote i
+    opening : At piece quote i
     opening = segment_begins piece s.is
 
     pub plain_stands : (At piece backslash (i + 1) → ⊥) → Stands (Copies piece) (i + 1)
