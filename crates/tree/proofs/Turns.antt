@@ -38,7 +38,7 @@ use Rattle.moves.specs.declared.Move.{Move}
 use Rattle.moves.specs.Means.{given, level_of, node_kind_of, role_of, shape_of, before, last, children, open_of}
 use Rattle.moves.specs.Effects.{flat, counting, opening, held, Leads, Paired, Does}
 use Rattle.moves.proofs.Steps.{paired_held, paired_named}
-use Rattle.table.specs.Over.{Written, Stored, Assigned, Put, entry_words}
+use Rattle.table.specs.Over.{Written, Assigned, Put}
 use Rattle.table.proofs.Words.{roled_length}
 use Rattle.table.proofs.Written.{told_put, written_more, written_node, written_front, written_role, written_first}
 use Rattle.std.specs.Prelude.{Result, Ok, Err}
@@ -48,8 +48,6 @@ use Rattle.begin.specs.Begins.{refused_at}
 use Rattle.tree.specs.declared.bracket.State as State
 use Rattle.tree.specs.declared.bracket.Turn.{Turn}
 use Rattle.begin.specs.Signs.{is_close_of}
-use Rattle.tree.specs.declared.leaf.Telling as Telling
-use Rattle.tree.specs.Tellings.{leaf_detail, LeafTold}
 use Rattle.tree.specs.Readers.{span_of, Ends, Taken, signs, Holds, Turns}
 use Rattle.tree.proofs.Leaves.{atom_tells}
 use Rattle.tree.specs.Turning.{Narrow, Behind, count_entry, close_entry, Led, Leading, Tupled, Counted, Deepened, Shuts, Closed}
@@ -332,15 +330,6 @@ module _ (text : List ℕ) (limits : Limits) (forms : Forms) where
     group_never g =
         clash (ap is_close_of g.class_is)
         (subst (λ (x : Config). opening x ≡ true → held x ≡ true → is_close_of (class_kind t.kind) ≡ false) g.config_is (λ p q. h.no_group p q t k) refl refl)
-
--- ---- what the code computes
-
-pub count_stored : {from left : List ℕ} {i index : ℕ} (t : Token.Token) (tells : Telling.Telling) → LeafTold t.kind tells →
-    Stored from left i (entry_words (record { kind = tells.kind; first = t.first; end = t.end; parent = index; role = Role.Count; detail = tells.detail; skip = i + 1 })) →
-    Stored from left i (entry_words (count_entry t i index))
-count_stored {from} {left} {i} {index} t tells says d =
-    subst (λ (x : ℕ). Stored from left i (entry_words (record { kind = x; first = t.first; end = t.end; parent = index; role = Role.Count; detail = leaf_detail t.kind; skip = i + 1 }))) says.kind_is
-    (subst (λ (x : ℕ). Stored from left i (entry_words (record { kind = tells.kind; first = t.first; end = t.end; parent = index; role = Role.Count; detail = x; skip = i + 1 }))) says.detail_is d)
 
 -- ---- a turn, by its move
 
