@@ -515,6 +515,9 @@ rank_falls text e h l = omega (arith, e, h, l)
 pub byte_falls : (text : List ℕ) (r : ℕ) {a b q t : ℕ} → left_at text a r ≡ t → a < b → b ≤ length text → q < 8 → left_at text b q < t
 byte_falls text r e h k l = omega (arith, e, h, k, l)
 
+pub token_falls : (text : List ℕ) (r : ℕ) {a q t : ℕ} {u : Token.Token} → left_at text a r ≡ t → Comes text a (Next.Token u) → q < 8 → left_at text u.end q < t
+token_falls text r e k l = let y = token_bounds text k in byte_falls text r e (omega (arith, y.0, y.1)) y.2 l
+
 -- the loop over a bracket's members: from the state in which it was entered to where it stands
 pub record Going (text : List ℕ) (limits : Limits) (forms : Forms) (opener : Token.Token) (from : List ℕ) (index parent : ℕ) (entered : State.State) (left : List ℕ) (s : State.State) : Type 0 where
   pub inner : Inner text opener s index parent
