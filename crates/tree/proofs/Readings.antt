@@ -1,6 +1,6 @@
 -- The readers that call each other: what each makes of the answers below it. Assumes nothing.
 use mathlib.Core.Path.{◌≡◌, refl, sym, ap, subst, ◌∙◌}
-use mathlib.Core.Bool.{Bool, true, false, not, false≢true}
+use mathlib.Core.Bool.{true, false, false≢true}
 use mathlib.Core.Logic.{inl, inr}
 use mathlib.Core.List.{List, [], ◌∷◌, append-nil}
 use Prim.Native.Nat.{ℕ, suc, ◌+◌, ◌-◌, ◌*◌, ◌≤◌, ◌<◌}
@@ -23,7 +23,6 @@ use Rattle.grammar.proofs.Frames.{Config, Stack, want, have}
 use Rattle.grammar.proofs.Machine.{have_class}
 use Rattle.grammar.proofs.NodeLaws.{some_node, same_size}
 use Rattle.reading.specs.declared.Limits.{Limits}
-use Rattle.reading.specs.Sizes.{widest}
 use Rattle.reading.specs.Tokens.{seen, open_mark}
 use Rattle.reading.proofs.Rows.{pick}
 use Rattle.reading.proofs.Decide.{whole, is_arrow, not_arrow}
@@ -58,10 +57,6 @@ use Rattle.tree.specs.Readers.{span_of, opened, Fit, Within, Sized, Inner, Insid
 use Rattle.tree.specs.Turning.{Narrow, Behind}
 use Rattle.tree.proofs.Beginning.{From, Entered, Begun, begins_so}
 use Rattle.tree.proofs.Turns.{is_bare}
-
-pub not_false : (b : Bool) → not b ≡ false → b ≡ true
-not_false true e = refl
-not_false false e = sym e
 
 -- ---- configurations
 
@@ -449,8 +444,6 @@ module _ (text : List ℕ) (limits : Limits) (forms : Forms) where
             turns = λ lent K c h. y.turns opener parent lent K c h k (subst (λ (w : Move). Does (level_of forms) c (seen t) w) q (does_so h k m));
           }
 
--- ---- a bracket
-
 -- ---- numbers
 
 -- what a start says of itself, and what is asked of it in the text
@@ -510,9 +503,6 @@ turn_narrow {text} i k =
 pub turn_behind : {text : List ℕ} {start : Start.Start} {s : State.State} → Inside text start s → Behind start.token s
 turn_behind i = record { after = i.after; deep_fits = i.deep_fits }
 
-pub child_fit : {text : List ℕ} {t : Token.Token} {s : State.State} {index : ℕ} → Narrow s t index → t.end ≤ length text → length text ≤ widest → Fit text t (index + 1 + s.nodes) index
-child_fit n h l = record { short = l; some_byte = n.token_byte; inside_text = h; index_fits = omega (arith, n.after, n.token_after); parent_fits = omega arith }
-
 -- bytes left, and behind them the reader's rank
 abbrev pub left_at : List ℕ → ℕ → ℕ → ℕ
 left_at text at rank = 8 * (length text - at) + rank
@@ -524,6 +514,9 @@ rank_falls text e h l = omega (arith, e, h, l)
 -- a call behind at least a byte, of any rank
 pub byte_falls : (text : List ℕ) (r : ℕ) {a b q t : ℕ} → left_at text a r ≡ t → a < b → b ≤ length text → q < 8 → left_at text b q < t
 byte_falls text r e h k l = omega (arith, e, h, k, l)
+
+pub token_falls : (text : List ℕ) (r : ℕ) {a q t : ℕ} {u : Token.Token} → left_at text a r ≡ t → Comes text a (Next.Token u) → q < 8 → left_at text u.end q < t
+token_falls text r e k l = let y = token_bounds text k in byte_falls text r e (omega (arith, y.0, y.1)) y.2 l
 
 -- the loop over a bracket's members: from the state in which it was entered to where it stands
 pub record Going (text : List ℕ) (limits : Limits) (forms : Forms) (opener : Token.Token) (from : List ℕ) (index parent : ℕ) (entered : State.State) (left : List ℕ) (s : State.State) : Type 0 where
@@ -539,9 +532,6 @@ module _ {text : List ℕ} {limits : Limits} {forms : Forms} {opener : Token.Tok
 
   turns_as : (z : Result Turn Refused) → r ≡ z → (lent : List ℕ) (K : Stack) (c : Config) → Holds text limits forms opener lent from index K c entered → Turns text limits forms opener lent last index parent K z
   turns_as z e lent K c h = let x = g.holds lent K c h in subst (λ (y : Result Turn Refused). Turns text limits forms opener lent last index parent K y) e (m.turns lent K x.0 x.1)
-
-  pub going_less : {n : State.State} → r ≡ Ok (Turn.On n) → length text - n.at < length text - s.at
-  going_less {n} e = let z = turned_as (Ok (Turn.On n)) e in omega (arith, z.2, z.3)
 
   pub going_on : {n : State.State} → r ≡ Ok (Turn.On n) → length last ≡ length left → Going text limits forms opener from index parent entered last n
   going_on {n} e l =

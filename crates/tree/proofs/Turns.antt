@@ -4,7 +4,7 @@ use mathlib.Core.Bool.{Bool, true, false, false≢true}
 use mathlib.Core.Logic.{◌⊎◌, inl, inr}
 use mathlib.Core.List.{List, [], ◌∷◌, ◌++◌}
 use mathlib.Core.Option.{none, some}
-use Prim.Native.Nat.{ℕ, zero, suc, pred, ◌+◌, ◌≤◌, ◌<◌}
+use Prim.Native.Nat.{ℕ, ◌+◌, ◌≤◌}
 use native.Mathlib.Omega.{arith}
 use lib.ListN.{length, length-append}
 use Rattle.rules.proofs.Bools.{clash, decide}
@@ -38,7 +38,7 @@ use Rattle.moves.specs.declared.Move.{Move}
 use Rattle.moves.specs.Means.{given, level_of, node_kind_of, role_of, shape_of, before, last, children, open_of}
 use Rattle.moves.specs.Effects.{flat, counting, opening, held, Leads, Paired, Does}
 use Rattle.moves.proofs.Steps.{paired_held, paired_named}
-use Rattle.table.specs.Over.{Written, Stored, Assigned, Put, entry_words}
+use Rattle.table.specs.Over.{Written, Assigned, Put}
 use Rattle.table.proofs.Words.{roled_length}
 use Rattle.table.proofs.Written.{told_put, written_more, written_node, written_front, written_role, written_first}
 use Rattle.std.specs.Prelude.{Result, Ok, Err}
@@ -48,11 +48,9 @@ use Rattle.begin.specs.Begins.{refused_at}
 use Rattle.tree.specs.declared.bracket.State as State
 use Rattle.tree.specs.declared.bracket.Turn.{Turn}
 use Rattle.begin.specs.Signs.{is_close_of}
-use Rattle.tree.specs.declared.leaf.Telling as Telling
-use Rattle.tree.specs.Tellings.{leaf_detail, LeafTold}
-use Rattle.tree.specs.Readers.{span_of, Ends, Taken, signs, Holds, Turns}
+use Rattle.tree.specs.Readers.{span_of, Taken, signs, Holds, Turns}
 use Rattle.tree.proofs.Leaves.{atom_tells}
-use Rattle.tree.specs.Turning.{Narrow, Behind, count_entry, close_entry, Led, Leading, Tupled, Counted, Deepened, Shuts, Closed}
+use Rattle.tree.specs.Turning.{count_entry, close_entry, Led, Leading, Tupled, Counted, Deepened, Shuts, Closed}
 
 -- ---- roles of the value that was read last
 
@@ -333,84 +331,40 @@ module _ (text : List ℕ) (limits : Limits) (forms : Forms) where
         clash (ap is_close_of g.class_is)
         (subst (λ (x : Config). opening x ≡ true → held x ≡ true → is_close_of (class_kind t.kind) ≡ false) g.config_is (λ p q. h.no_group p q t k) refl refl)
 
--- ---- what the code computes
-
-pub count_stored : {from left : List ℕ} {i index : ℕ} (t : Token.Token) (tells : Telling.Telling) → LeafTold t.kind tells →
-    Stored from left i (entry_words (record { kind = tells.kind; first = t.first; end = t.end; parent = index; role = Role.Count; detail = tells.detail; skip = i + 1 })) →
-    Stored from left i (entry_words (count_entry t i index))
-count_stored {from} {left} {i} {index} t tells says d =
-    subst (λ (x : ℕ). Stored from left i (entry_words (record { kind = x; first = t.first; end = t.end; parent = index; role = Role.Count; detail = leaf_detail t.kind; skip = i + 1 }))) says.kind_is
-    (subst (λ (x : ℕ). Stored from left i (entry_words (record { kind = tells.kind; first = t.first; end = t.end; parent = index; role = Role.Count; detail = x; skip = i + 1 }))) says.detail_is d)
-
 -- ---- a turn, by its move
 
-abbrev Promise : Limits → Token.Token → State.State → Token.Token → Move → List ℕ → List ℕ → ℕ → ℕ → Result Turn Refused → Type 0
-Promise limits opener s t taken from left index parent r = Ends opener t r × Taken limits opener s t taken from left index parent r
-
-pred_fits : (d : ℕ) {m : ℕ} → d ≤ m → pred d ≤ m
-pred_fits zero h = h
-pred_fits (suc d) h = omega (arith, h)
-
--- the state behind a sign
-advanced : {opener t : Token.Token} {s : State.State} {index : ℕ} → Narrow s t index → Behind opener s → (opener.end + s.nodes ≤ t.end) × (s.deep ≤ t.end) × (t.end ≡ t.end)
-advanced n o = (omega (arith, o.after, n.token_after, n.token_byte), omega (arith, o.deep_fits, n.token_after, n.token_byte), refl)
-
-module _ {limits : Limits} {opener t : Token.Token} {s : State.State} {index parent : ℕ} (n : Narrow s t index) (o : Behind opener s) (b : opener.first < opener.end) {taken : Move} {from left : List ℕ} where
+module _ {limits : Limits} {opener t : Token.Token} {s : State.State} {index parent : ℕ} {taken : Move} {from left : List ℕ} where
   -- the promise, from what the move does
-  taking : {r : Result Turn Refused} {move : Move} {turn : Result Turn Refused} → taken ≡ move → r ≡ turn → Ends opener t turn →
+  taking : {r : Result Turn Refused} {move : Move} → taken ≡ move →
       ((text : List ℕ) (forms : Forms) (lent : List ℕ) (K : Stack) (c : Config) → Holds text limits forms opener lent from index K c s →
-      Comes text s.at (Next.Token t) → Does (level_of forms) c (seen t) move → Turns text limits forms opener lent left index parent K r) → Promise limits opener s t taken from left index parent r
-  taking {r} {move} {turn} e q x f = (
-    subst (λ (y : Result Turn Refused). Ends opener t y) (sym q) x,
-    record { turns = λ text forms lent K c h k d g. f text forms lent K c h k (subst (λ (y : Move). Does (level_of forms) c (seen t) y) e d) },
-  )
+      Comes text s.at (Next.Token t) → Does (level_of forms) c (seen t) move → Turns text limits forms opener lent left index parent K r) → Taken limits opener s t taken from left index parent r
+  taking e f = record { turns = λ text forms lent K c h k d g. f text forms lent K c h k (subst (λ (y : Move). Does (level_of forms) c (seen t) y) e d) }
 
   module _ {r : Result Turn Refused} where
-    take_value : {f : Frame} → taken ≡ Move.Value f → r ≡ Err (refused_at Refusal.WrongPlace t) → Promise limits opener s t taken from left index parent r
-    take_value e q = (subst (λ (y : Result Turn Refused). Ends opener t y) (sym q) tt, record { turns = λ text forms lent K c h k d g. absurd (false≢true (sym (ap signs e) ∙ g)) })
-
-    pub take_leading : {mode : Mode} {role : Role} → taken ≡ Move.To mode role → length left ≡ length from → Leading s t limits mode role from left r → Promise limits opener s t taken from left index parent r
-    take_leading {mode} {role} e x l = go l
-      where
-        go : Leading s t limits mode role from left r → Promise limits opener s t taken from left index parent r
-        go (inl (y, q)) = taking e q tt (λ text forms lent K c h k d. leading_on text limits forms t h k r parent d x (inl (y, q)))
-        go (inr (y, u)) = taking e (u.1 ∙ ap (λ (z : Turn). Ok z) u.2.turn_is) (advanced n o) (λ text forms lent K c h k d. leading_on text limits forms t h k r parent d x (inr (y, u)))
-
-    take_group : taken ≡ Move.Group → r ≡ Err (refused_at Refusal.WrongPlace t) → Promise limits opener s t taken from left index parent r
-    take_group e q = taking e q tt (λ text forms lent K c h k d. absurd (group_never text limits forms t h k d))
-
-    take_wrong : taken ≡ Move.Wrong → r ≡ Err (refused_at Refusal.WrongPlace t) → Promise limits opener s t taken from left index parent r
-    take_wrong e q = taking e q tt (λ text forms lent K c h k d. wrong_here text limits forms t h k r left parent d q)
+    pub take_leading : {mode : Mode} {role : Role} → taken ≡ Move.To mode role → length left ≡ length from → Leading s t limits mode role from left r → Taken limits opener s t taken from left index parent r
+    take_leading e x l = taking e (λ text forms lent K c h k d. leading_on text limits forms t h k r parent d x l)
 
     -- what takes no token
-    pub take_none : ((f : Frame) × (taken ≡ Move.Value f)) ⊎ ((taken ≡ Move.Group) ⊎ (taken ≡ Move.Wrong)) → r ≡ Err (refused_at Refusal.WrongPlace t) → Promise limits opener s t taken from left index parent r
-    take_none (inl x) q = take_value x.1 q
-    take_none (inr (inl e)) q = take_group e q
-    take_none (inr (inr e)) q = take_wrong e q
+    pub take_none : ((f : Frame) × (taken ≡ Move.Value f)) ⊎ ((taken ≡ Move.Group) ⊎ (taken ≡ Move.Wrong)) → r ≡ Err (refused_at Refusal.WrongPlace t) → Taken limits opener s t taken from left index parent r
+    take_none (inl x) q = record { turns = λ text forms lent K c h k d g. absurd (false≢true (sym (ap signs x.1) ∙ g)) }
+    take_none (inr (inl e)) q = taking e (λ text forms lent K c h k d. absurd (group_never text limits forms t h k d))
+    take_none (inr (inr e)) q = taking e (λ text forms lent K c h k d. wrong_here text limits forms t h k r left parent d q)
 
   -- moves that are never refused
   module _ {r : Turn} where
-    pub take_tuple : taken ≡ Move.Tuple → length left ≡ length from → Tupled s t from left index r → Promise limits opener s t taken from left index parent (Ok r)
-    take_tuple e x l = taking e (ap (λ (z : Turn). Ok z) l.led.turn_is) (advanced n o) (λ text forms lent K c h k d. tuple_on text limits forms t h k r parent d l x)
+    pub take_tuple : taken ≡ Move.Tuple → length left ≡ length from → Tupled s t from left index r → Taken limits opener s t taken from left index parent (Ok r)
+    take_tuple e x l = taking e (λ text forms lent K c h k d. tuple_on text limits forms t h k r parent d l x)
 
-    pub take_count : {style : Style} → taken ≡ Move.Count style → length left ≡ length from → Counted s t style from left index r → Promise limits opener s t taken from left index parent (Ok r)
-    take_count e x l =
-        taking e (ap (λ (z : Turn). Ok z) l.turn_is) (omega (arith, o.after, n.token_after, n.token_byte), omega (arith, o.deep_fits, n.token_after, n.token_byte), refl) (λ text forms lent K c h k d. count_on text limits forms t h k r parent d x l)
+    pub take_count : {style : Style} → taken ≡ Move.Count style → length left ≡ length from → Counted s t style from left index r → Taken limits opener s t taken from left index parent (Ok r)
+    take_count e x l = taking e (λ text forms lent K c h k d. count_on text limits forms t h k r parent d x l)
 
-    pub take_shut : {style : Style} {role : Role} → taken ≡ Move.Shut style role → length left ≡ length from → Shuts s t style role from left r → Promise limits opener s t taken from left index parent (Ok r)
-    take_shut e x l =
-        taking e (ap (λ (z : Turn). Ok z) l.turn_is) ((advanced n o).0, pred_fits s.deep (omega (arith, o.deep_fits, n.token_after, n.token_byte)), refl) (λ text forms lent K c h k d. shut_on text limits forms t h k r parent d x l)
+    pub take_shut : {style : Style} {role : Role} → taken ≡ Move.Shut style role → length left ≡ length from → Shuts s t style role from left r → Taken limits opener s t taken from left index parent (Ok r)
+    take_shut e x l = taking e (λ text forms lent K c h k d. shut_on text limits forms t h k r parent d x l)
 
-    pub take_close : {kind : NodeKind} {detail : ℕ} {role : Role} → taken ≡ Move.Close kind detail role → Closed s t opener.first kind detail role from left index parent r → Promise limits opener s t taken from left index parent (Ok r)
-    take_close e l =
-        taking e (ap (λ (z : Turn). Ok z) l.turn_is) (omega (arith, o.after, b, n.token_after, n.token_byte), refl) (λ text forms lent K c h k d. close_on text limits forms t h k r parent d l)
+    pub take_close : {kind : NodeKind} {detail : ℕ} {role : Role} → taken ≡ Move.Close kind detail role → Closed s t opener.first kind detail role from left index parent r → Taken limits opener s t taken from left index parent (Ok r)
+    take_close e l = taking e (λ text forms lent K c h k d. close_on text limits forms t h k r parent d l)
 
--- moves that write nothing
-module _ {limits : Limits} {opener t : Token.Token} {s : State.State} {index parent : ℕ} (n : Narrow s t index) (o : Behind opener s) (b : opener.first < opener.end) {taken : Move} {from : List ℕ} {r : Result Turn Refused} where
-  pub take_deeper : {style : Style} → taken ≡ Move.Deeper style → Deepened s t limits style r → Promise limits opener s t taken from from index parent r
-  take_deeper {style} e d = go d
-    where
-      go : Deepened s t limits style r → Promise limits opener s t taken from from index parent r
-      go (inl (x, q)) = taking n o b e q tt (λ text forms lent K c h k f. deeper_on text limits forms t h k r parent f (inl (x, q)))
-      go (inr (x, q)) =
-          taking n o b e q (omega (arith, o.after, n.token_after, n.token_byte), omega (arith, o.deep_fits, n.token_after, n.token_byte), refl) (λ text forms lent K c h k f. deeper_on text limits forms t h k r parent f (inr (x, q)))
+-- a move that writes nothing
+module _ {limits : Limits} {opener t : Token.Token} {s : State.State} {index parent : ℕ} {taken : Move} {from : List ℕ} {r : Result Turn Refused} where
+  pub take_deeper : {style : Style} → taken ≡ Move.Deeper style → Deepened s t limits style r → Taken limits opener s t taken from from index parent r
+  take_deeper e l = taking e (λ text forms lent K c h k d. deeper_on text limits forms t h k r parent d l)

@@ -9,7 +9,7 @@ use Rattle.lexicon.specs.declared.Token as Token
 use Rattle.lexicon.specs.declared.Next.TheVariants as Next
 use Rattle.std.specs.Result.{MatchResult}
 use Rattle.lexicon.specs.declared.NotUtf8.{NotUtf8}
-use Rattle.lexicon.specs.Utf8.{WellFormed, BadAt, Encoded}
+use Rattle.lexicon.specs.Utf8.{BadAt, Encoded}
 use Rattle.lexicon.specs.Front.{Front}
 use Rattle.lexicon.specs.Token.{Comes}
 use Rattle.lexicon.proofs.Pieces.{token_bounds}
@@ -42,7 +42,7 @@ use Rattle.look.specs.Ends.{Behind, further, nothing, at_end}
 use Rattle.look.proofs.Looking.{got_token}
 use Rattle.level.specs.Levels.{LevelFound}
 use Rattle.tree.specs.Readers.{span_of, Faulty, Fit, IsValue, Outcome, Reads}
-use Rattle.tree.specs.Whole.{Whole, JudgedAs, Judged, Told, answered}
+use Rattle.tree.specs.Whole.{Whole, JudgedAs, Judged, Told}
 use Rattle.tree.proofs.Readings.{refused_here}
 
 -- what the room holds are words of the table
@@ -156,6 +156,3 @@ module _ (rules : Rules) (text lent : List ℕ) (number : ℕ) where
 
     pub read_bad : length text ≤ rules.text → {p : ℕ} → BadAt text p → Answers rules text lent number (answer 3 p 0) lent
     read_bad h b = record { tree = _; reading = not_utf8 l h b; left_is = refl }
-
-    pub read_told : {left : List ℕ} {r : Result Answer Refused} → WellFormed text → Told text rules forms lent left r → Answers rules text lent number (answered r) left
-    read_told w d = d.answers number l w

