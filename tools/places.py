@@ -12,13 +12,12 @@ import re
 import sys
 
 LIST = "--list" in sys.argv
-OPTION_LIKE = {"Nothing", "None", "Open"}
 
 
 def bare(text):
     """Without comments and clauses, which hold no code."""
     text = re.sub(r"//[^\n]*", "", text)
-    return re.sub(r"^\s*(requires|ensures|ghost)\b[^\n]*\{.*\}[^\n]*\n", "", text, flags=re.M)
+    return re.sub(r"^[ \t]*(requires|ensures|ghost)\b[^\n]*\{.*\}[^\n]*$", "", text, flags=re.M)
 
 
 def closed(text, at):

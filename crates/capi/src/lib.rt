@@ -15,9 +15,9 @@ ghost use Rattle.files.specs.Checks.{Checks};
 ghost use Rattle.form.specs.Writes as Plain;
 
 use lexicon::NotUtf8;
-use reading::Answer;
+use reading::{Answer, Refusal};
 
-// How every call but that of an Integer ends: place and count where the caller wants them, and the number.
+// How a call with an answer of number, place and count ends: place and count where the caller wants them, and the number.
 fn told(reading: Answer, place: &mut usize, count: &mut usize) -> u32
     ensures { reading ≡ answer result place.new count.new }
 {
@@ -56,7 +56,7 @@ pub extern "C" fn muon_utf8(text: &[u8], place: &mut usize, steps: &mut usize) -
         }
         Err(NotUtf8 { at }) => {
             *place = at;
-            3
+            Refusal::NotUtf8 as u32
         }
     }
 }

@@ -84,7 +84,7 @@ fn escape(text: &[u8], at: usize) -> Option<Literal>
         return None;
     }
     let end = at + 2;
-    // The form of 01: six letters, the angle, and a rest that refuses.
+    // Six letters, the angle, and a rest that refuses: a form that the project prescribes (docs/DECISIONS.md).
     let letter = Some(Literal { end, bad: false });
     match *text.get(at + 1)? {
         b'q' => letter,

@@ -61,7 +61,7 @@ pub fn digit(b: u8) -> u64
     }
 }
 
-// The number that a base-64 character stands for. Its byte comes as a wider number, as the padding's state keeps it.
+// The number that a base-64 character stands for. Its byte comes as a wider number, as the sums of digits are.
 #[tactic(auto, using(std::proofs::lemmas::Bool::Decides::nat_tests), unfolding(lexicon::specs::Parts::sextet))]
 pub fn sextet(b: u32) -> u32
     ensures { result ≡ sextet_of b }

@@ -110,6 +110,7 @@ pub(crate) fn names(text: &[u8], start: &Start, table: &mut [u32]) -> Result<Rea
     ensures { Nesting text.now start.now.token table.old table.new start.now.index start.now.parent result }
 {
     let mut at = start.token.end;
+    // A name has as many bytes as it has, so no range counts the places. The let else is the prescribed form, as in value.rt.
     loop {
         let named = name(text, at);
         let Ok(end) = named else {

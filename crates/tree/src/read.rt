@@ -16,7 +16,7 @@ use reading::{Answer, BASE, OLD_RULES, Refusal, Refused, Rules};
 use table::room;
 use token::whole::{front, utf8};
 
-// The value of a text, whose nodes stand from the table's start on.
+// The value of a text, whose nodes stand from the table's start on. It is a reader, with the let else of value.rt.
 fn whole(reader: &Reader<'_>, table: &mut [u32]) -> Result<Read, Refused>
     requires { length reader.now.text.now ≤ widest }
     ensures { Judged reader.now.text.now reader.now.limits reader.now.forms table.old table.new result }

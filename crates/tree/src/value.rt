@@ -1,5 +1,5 @@
 // A value holds members and a member holds values: the readers call each other, and bytes are left fewer at each call.
-// Each reader takes an answer apart by let else and hands the refusal up, in 01's form.
+// Each reader takes an answer apart by let else and hands the refusal up: a form that the project prescribes (docs/DECISIONS.md).
 // A function with a `requires` is this crate's own: the numbers that it asks for hold in every text that is read.
 ghost use Rattle.std.specs.Prelude.{◌≡◌, true, ◌≤◌, length};
 ghost use Rattle.lexicon.specs.declared.Next.TheVariants as Next;

@@ -71,7 +71,8 @@ pub fn unpromised(path: &str, text: &str) -> Vec<Finding> {
             continue;
         };
         // What a closure does is asked of no value.
-        if word.starts_with("requires") && !function.takes_a_closure {
+        let of_the_closure = function.takes_a_closure && word.contains("F.");
+        if word.starts_with("requires") && !of_the_closure {
             let reason = "a public function has a requires".to_string();
             findings.push(Finding::new(path, function.line, reason));
         }
@@ -214,7 +215,12 @@ mod tests {
         );
         assert_eq!(reasons("pub fn a() {\n}\n\nfn b()\n{\n}\n").len(), 1);
         assert_eq!(reasons("    pub fn a(self) -> u8 {\n    }\n").len(), 1);
-        let closure = "pub fn a<F: Fn(u8) -> bool>(f: F)\n    requires { x }\n";
-        assert!(reasons(&format!("{closure}{promise}")).is_empty());
+        let closure = "pub fn a<F: Fn(u8) -> bool>(f: F)\n";
+        let callable = "    requires { F.IsAlwaysCallable f }\n";
+        assert!(reasons(&format!("{closure}{callable}{promise}")).is_empty());
+        assert_eq!(
+            reasons(&format!("{closure}    requires {{ x }}\n{promise}")).len(),
+            1
+        );
     }
 }
