@@ -27,7 +27,7 @@ fn comma(frame: CurlyFrame) -> Move
     }
 }
 
-// A sign behind a value.
+// A sign behind a value. In each bracket's crate, since its `behind` promises the move of every sign.
 pub fn behind(forms: Forms, frame: CurlyFrame, sign: Sign) -> Move
     ensures { (shape : Shape) → Moves forms (Mode.Have (Frame.Curly frame) shape) (Kind.Symbol sign) result }
 {

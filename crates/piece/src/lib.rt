@@ -25,6 +25,7 @@ pub fn sound(piece: &[u8]) -> Result<(), Refused>
             place: 0,
         });
     }
+    // As `unformed` of crate look has it, which stands above the tokens, and so not below the value calls.
     if let Err(NotUtf8 { at }) = utf8(piece) {
         return Err(Refused {
             refusal: Refusal::NotUtf8,

@@ -32,7 +32,7 @@ fn comma(frame: RoundFrame) -> Move
     }
 }
 
-// A sign behind a value.
+// A sign behind a value. In each bracket's crate, since its `behind` promises the move of every sign.
 pub fn behind(forms: Forms, frame: RoundFrame, sign: Sign) -> Move
     ensures { (shape : Shape) → Moves forms (Mode.Have (Frame.Round frame) shape) (Kind.Symbol sign) result }
 {

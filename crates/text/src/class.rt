@@ -34,20 +34,10 @@ pub fn class(b: u8) -> u8
     classes()[b as usize]
 }
 
-// Whether what the set adds is in the class: the set's bit.
+// Whether what the set adds is in the class: the set's bit, in the order of the sets.
 #[tactic(auto, unfolding(crate::specs::Classes::in_sum))]
 pub fn holds(class: u8, set: Set) -> bool
     ensures { result ≡ in_sum set class }
 {
-    let bit = match set {
-        Set::Binary => 0,
-        Set::Octal => 1,
-        Set::Decimal => 2,
-        Set::Hexadecimal => 3,
-        Set::Base64 => 4,
-        Set::WordStart => 5,
-        Set::WordRest => 6,
-        Set::Dividing => 7,
-    };
-    (class >> bit) % 2 == 1
+    (class >> set as u8) % 2 == 1
 }

@@ -59,7 +59,7 @@ fn lead_on(s: State, mode: Mode, role: Role, t: Token, table: &mut [u32]) -> Tur
     })
 }
 
-// A sign that may be read leads on; one that is retired is refused where it would have led on.
+// A sign that may be read leads on; one that is retired is refused where it would have led on. (Six arguments: see `take`.)
 fn lead(
     limits: Limits,
     s: State,
@@ -155,7 +155,7 @@ fn shut(s: State, style: Style, role: Role, t: Token, table: &mut [u32]) -> Turn
     })
 }
 
-// The bracket's end: its node, in front of its members'.
+// The bracket's end: its node, in front of its members'. (Seven arguments: see `take`.)
 fn close(
     start: &Start,
     s: State,

@@ -164,7 +164,7 @@ fn member(reader: &Reader<'_>, start: &Start, s: State, table: &mut [u32]) -> Re
     child(reader, s, frame, t, table, start.index)
 }
 
-// A value in a bracket: its role is told by what stands behind it.
+// A value in a bracket: its role is told by what stands behind it. (Six arguments: see `take` in bracket.rt.)
 #[cycle(bracket_child_first_value_member_round_value)]
 fn child(
     reader: &Reader<'_>,
