@@ -15,8 +15,8 @@ pub record Appends (w : Writer) (bs : List ℕ) (w' : Writer) : Type 0 where
   pub same_buffer : w'.buffer.ghost_name ≡ w.buffer.ghost_name
   pub puts : Puts w.buffer.now w.at bs w'.buffer.now w'.at
 
--- whichever bytes a part of a value has are put so. Where it has none, nothing is said but that the buffer is the same and keeps its
--- length
+-- whichever bytes a part of a value has are put so. Where it has none, nothing is said but that the buffer is the same
+-- and keeps its length
 pub record AppendsPart (Part : List ℕ → Type 0) (w w' : Writer) : Type 0 where
   pub appends : (bs : List ℕ) → Part bs → Appends w bs w'
   pub same_buffer : w'.buffer.ghost_name ≡ w.buffer.ghost_name

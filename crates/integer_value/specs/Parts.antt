@@ -1,5 +1,6 @@
 -- What the private functions answer. Assumes nothing.
-use Rattle.std.specs.Prelude.{◌≡◌, Bool, List, ℕ, ◌+◌, ◌<◌, ◌^◌, eqb, ℤ, length, get_or, Option, Result, Ok, Err, SomeIff}
+use Rattle.std.specs.Prelude.{◌≡◌, Bool, List, ℕ, ◌+◌, ◌<◌, ◌^◌, eqb, ℤ, length, get_or}
+use Rattle.std.specs.Prelude.{Option, Result, Ok, Err, SomeIff}
 use Rattle.rules.specs.Class.{byte_of}
 use Rattle.lexicon.specs.declared.Base.{Base}
 use Rattle.lexicon.specs.declared.Base.TheVariants.{Ten}

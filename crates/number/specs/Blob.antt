@@ -14,5 +14,6 @@ Marked text i b None = (c : ℕ) → Takes text (row (0x30 ∷ b ∷ c ∷ [])) 
 
 -- the digits behind the dividing space at i end at j and have the sum s; or there are none
 pub data TailOf {S : Type 0} (more : S → ℕ → S) (start : S) (text : List ℕ) (set : Set) (n i : ℕ) : ℕ → S → Type 0 where
-  digits_stand : {g j : ℕ} {s : S} → Skips text i g → Row more start text set n g j s → TailOf more start text set n i j s
+  digits_stand : {g j : ℕ} {s : S} → Skips text i g → Row more start text set n g j s →
+      TailOf more start text set n i j s
   none_stand : {g : ℕ} → Skips text i g → Fails text (unit n (members set)) g → TailOf more start text set n i i start

@@ -12,7 +12,8 @@ module _ (call : Call) (piece : List ℕ) where
   -- 9 where it is not exactly one literal of the kind, 5 where its value is bad
   pub data Unfit : Refused → Type 0 where
     not_the_literal : (Exactly call.literal piece → ⊥) → Unfit (record { refusal = Refusal.NotTheLiteral; place = 0 })
-    bad : {p : ℕ} → Exactly call.literal piece → BadPiece call piece p → Unfit (record { refusal = Refusal.BadValue; place = p })
+    bad : {p : ℕ} → Exactly call.literal piece → BadPiece call piece p →
+        Unfit (record { refusal = Refusal.BadValue; place = p })
 
   -- the answer of a refusal, whatever buffer is lent
   abbrev pub Refuses : Rules → Refused → Type 0

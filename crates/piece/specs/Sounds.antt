@@ -9,7 +9,8 @@ module _ (rules : Rules) (piece : List ℕ) where
   -- 2 for its length, 3 for its bytes
   pub data Unsound : Refused → Type 0 where
     too_long : rules.text < length piece → Unsound (record { refusal = Refusal.TooLong; place = 0 })
-    not_utf8 : {p : ℕ} → length piece ≤ rules.text → BadAt piece p → Unsound (record { refusal = Refusal.NotUtf8; place = p })
+    not_utf8 : {p : ℕ} → length piece ≤ rules.text → BadAt piece p →
+        Unsound (record { refusal = Refusal.NotUtf8; place = p })
 
   abbrev pub Sounds : Result (Unit {0}) Refused → Type 0
   Sounds (Ok _) = (length piece ≤ rules.text) × WellFormed piece

@@ -1,4 +1,5 @@
--- The refusals, with the numbers that 01 and 02 give them, and the answer of each: 01, 'Count is 0 except under 8'. Assumes nothing.
+-- The refusals, with the numbers that 01 and 02 give them, and the answer of each: 01, 'Count is 0 except under 8'.
+-- Assumes nothing.
 use Rattle.std.specs.Prelude.{ℕ}
 use Rattle.reading.specs.declared.Answer.{Answer}
 use Rattle.reading.specs.declared.Refusal.{Refusal}

@@ -23,15 +23,18 @@ module _ (text : List ℕ) where
   -- the rest of an escaped segment from i on, a segment, a whole text
   abbrev pub RestWalked : ℕ → Option Walk → Type 0
   RestWalked i (Some w) =
-      Judges text escaped_rest (BadRest text) i (Some (record { end = w.end; bad = is_some w.bad })) × ((p : ℕ) → w.bad ≡ Some p → Stops i p)
+      Judges text escaped_rest (BadRest text) i (Some (record { end = w.end; bad = is_some w.bad })) ×
+      ((p : ℕ) → w.bad ≡ Some p → Stops i p)
   RestWalked i None = Fails text escaped_rest i
 
   abbrev pub SegmentWalked : ℕ → Option Walk → Type 0
   SegmentWalked i (Some w) =
-      Judges text segment (BadSegment text) i (Some (record { end = w.end; bad = is_some w.bad })) × ((p : ℕ) → w.bad ≡ Some p → Stops (i + 2) p)
+      Judges text segment (BadSegment text) i (Some (record { end = w.end; bad = is_some w.bad })) ×
+      ((p : ℕ) → w.bad ≡ Some p → Stops (i + 2) p)
   SegmentWalked i None = Fails text segment i
 
   abbrev pub QuotedWalked : ℕ → Option Walk → Type 0
   QuotedWalked i (Some w) =
-      Judges text quoted (BadQuoted text) i (Some (record { end = w.end; bad = is_some w.bad })) × Points i (unwrap_or w.bad i)
+      Judges text quoted (BadQuoted text) i (Some (record { end = w.end; bad = is_some w.bad })) ×
+      Points i (unwrap_or w.bad i)
   QuotedWalked i None = Fails text quoted i × Points i i

@@ -149,7 +149,8 @@ module _ (text : List ℕ) where
     Outcome K t lent left index parent (Err e) = Faulty (number_of e.refusal) e.place
 
     -- the promise of the value reader
-    pub record Reads (d : ℕ) (t : Token.Token) (lent left : List ℕ) (index parent : ℕ) (r : Result Read Refused) : Type 0 where
+    pub record Reads (d : ℕ) (t : Token.Token) (lent left : List ℕ) (index parent : ℕ) (r : Result Read Refused) :
+        Type 0 where
       pub sized : Sized t r
       pub outcome : (K : Stack) (at : ℕ) → Asks K d at t → Outcome K t lent left index parent r
 
@@ -205,7 +206,8 @@ module _ (text : List ℕ) where
           Outcome K opener lent left index parent r
 
     -- behind `(`
-    pub record Rounded (d : ℕ) (opener : Token.Token) (lent left : List ℕ) (index parent : ℕ) (r : Result Read Refused) : Type 0 where
+    pub record Rounded (d : ℕ) (opener : Token.Token) (lent left : List ℕ) (index parent : ℕ)
+        (r : Result Read Refused) : Type 0 where
       pub sized : Sized opener r
       pub outcome : (K : Stack) → Stands (suc d) opener.end (want (opened opener K)) → NoHead text opener.end →
           Outcome K opener lent left index parent r
@@ -217,12 +219,14 @@ abbrev pub Alone : Token.Token → Result Read Refused → Type 0
 Alone t (Ok v) = (v.nodes ≡ 1) × (v.end ≡ t.end)
 Alone t (Err e) = Unit {0}
 
-pub record Literal (text : List ℕ) (t : Token.Token) (lent left : List ℕ) (index parent : ℕ) (r : Result Read Refused) : Type 0 where
+pub record Literal (text : List ℕ) (t : Token.Token) (lent left : List ℕ) (index parent : ℕ)
+    (r : Result Read Refused) : Type 0 where
   pub sized : Alone t r
   pub outcome : (limits : Limits) (forms : Forms) (K : Stack) (d at : ℕ) → Asks text limits forms K d at t →
       literal (class_kind t.kind) ≡ true → Outcome text limits forms K t lent left index parent r
 
-pub record Nesting (text : List ℕ) (t : Token.Token) (lent left : List ℕ) (index parent : ℕ) (r : Result Read Refused) : Type 0 where
+pub record Nesting (text : List ℕ) (t : Token.Token) (lent left : List ℕ) (index parent : ℕ)
+    (r : Result Read Refused) : Type 0 where
   pub sized : Sized text t r
   pub outcome : (limits : Limits) (forms : Forms) (K : Stack) (d at : ℕ) → Asks text limits forms K d at t →
       t.kind ≡ Kind.TwoColons → Outcome text limits forms K t lent left index parent r
