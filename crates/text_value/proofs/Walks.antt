@@ -1,17 +1,22 @@
 -- What each way through the code of a quoted text says of what is read and written. Assumes nothing.
 use mathlib.Core.Path.{◌≡◌, refl, sym, ap, subst, subst⁻¹, ◌∙◌}
+use mathlib.Core.Bool.{Bool, not}
 use mathlib.Core.Logic.{◌⊎◌, inl, inr}
 use mathlib.Core.List.{List, [], ◌∷◌, ◌++◌, append_assoc}
 use Prim.Native.Nat.{ℕ, ◌+◌, ◌-◌, ◌≤◌, ◌<◌, min}
 use native.Mathlib.Nat.{le_antisymm}
 use native.Mathlib.Omega.{arith}
 use lib.ListN.{length, get_or, take, drop}
-use Rattle.rules.specs.Class.{just}
+use Rattle.std.proofs.Math.Dec.{eqb}
+use Rattle.rules.specs.Class.{just, has}
 use Rattle.rules.specs.Rule.{one, many, At, Takes, Longest, Fails}
+use Rattle.rules.proofs.Bools.{below}
 use Rattle.rules.proofs.Classes.{is_just, just_is}
 use Rattle.rules.proofs.Chains.{longest}
-use Rattle.rules.proofs.Matches.{forward, byte_at, longest_same}
+use Rattle.rules.proofs.Matches.{forward, longest_same}
 use Rattle.rules.proofs.Ways.{begins_none}
+use Rattle.text.specs.Runs.{TellsClass}
+use Rattle.text.proofs.Runs.{agrees, tells_class}
 use Rattle.lexicon.specs.Limited.{limit}
 use Rattle.lexicon.specs.Literals.{code_point_of}
 use Rattle.lexicon.specs.Space.{Skips}
@@ -32,6 +37,12 @@ use Rattle.buffer.specs.declared.Writer.{Writer}
 use Rattle.buffer.specs.Appends.{Appends}
 use Rattle.buffer.proofs.Appending.{appends_none, appends_same, appends_then}
 use Rattle.text_value.proofs.Copies.{part_read}
+
+-- ---- the test for a quote
+
+pub tells_quote : {Answers : ℕ → Bool → Type 0} → ((b : ℕ) (o : Bool) → Answers b o → o ≡ not (eqb b 0x22)) → TellsClass Answers not_quote
+unfolding has below agrees
+tells_quote a = tells_class not_quote (λ b. not (eqb b 0x22)) refl a
 
 -- ---- letters
 
@@ -57,11 +68,11 @@ module _ (piece : List ℕ) where
       angled_number : r ≡ s.is.number
       angled_number =
           c.is s.is.number (subst (λ (x : ℕ). CodeOf piece i x s.is.number) (sym angled_end) s.is.code)
-          ∙ below s.is.scalar
+          ∙ within s.is.scalar
         where
-          below : {v : ℕ} → Scalar v → min limit v ≡ v
-          below (inl h) = omega arith
-          below (inr h) = omega arith
+          within : {v : ℕ} → Scalar v → min limit v ≡ v
+          within (inl h) = omega arith
+          within (inr h) = omega arith
 
       pub angled_fits : r < 0x110000
       angled_fits = go s.is.scalar angled_number
@@ -145,9 +156,6 @@ module _ (piece : List ℕ) where
   pub at_quote : {i j : ℕ} → Takes piece (many (one not_quote)) i j → j < length piece → get_or piece j 0 ≡ 0x22 →
       Longest piece (many (one not_quote)) i j
   at_quote t h e = longest (byte_single not_quote) t (begins_none piece quote (one not_quote) quote_not (h, is_just 0x22 _ e))
-
-  pub at_end_lem : {i j : ℕ} → Takes piece (many (one not_quote)) i j → length piece ≤ j → Longest piece (many (one not_quote)) i j
-  at_end_lem t h = longest (byte_single not_quote) t (record { none = λ u. omega (arith, (byte_at u).0, h) })
 
   -- ---- a walk over the rest of an escaped segment: what is written, and what is left
 

@@ -1,6 +1,6 @@
 // The characters of a quoted text, segment by segment. The functions have a `requires` each: their caller has found the literal.
-ghost use Rattle.rules.specs.Rule.{one, many, At, Longest};
-ghost use Rattle.values.specs.QuotedBytes.{backslash, not_quote, Angled, Item, Unescapes, Copies, SegmentBytes};
+ghost use Rattle.rules.specs.Rule.{At};
+ghost use Rattle.values.specs.QuotedBytes.{backslash, Angled, Item, Unescapes, Copies, SegmentBytes};
 ghost use Rattle.text_value.specs.Parts.{Stands, Wrote, HasQuoted, WroteQuoted};
 
 use crate::bytes::encode;
@@ -9,6 +9,7 @@ use buffer::Writer;
 use lexicon::Literal;
 use space::space;
 use text::byte::stands;
+use text::run::run;
 
 // A code point by its number, and the closing angle; the place behind it.
 #[inline(always)]
@@ -62,27 +63,13 @@ fn escaped(piece: &[u8], at: usize, out: &mut Writer) -> usize
     i + 1
 }
 
-// The place of the next quote. (`iter().position` was tried: no search found what it gives over the rest of a slice.)
-fn closing(piece: &[u8], at: usize) -> usize
-    ensures { Longest piece.now (many (one not_quote)) at result }
-{
-    let mut i = at;
-    while i < piece.len() {
-        if piece[i] == b'"' {
-            return i;
-        }
-        i += 1;
-    }
-    i
-}
-
 // Characters, each of them itself, through the closing quote.
 #[inline(always)]
 fn plain(piece: &[u8], at: usize, out: &mut Writer) -> usize
     requires { Stands (Copies piece.now) at }
     ensures { Wrote (Copies piece.now) at result out.old out.new }
 {
-    let end = closing(piece, at);
+    let end = run(piece, at, |b| b != b'"');
     out.copy(&piece[at..end]);
     end + 1
 }
