@@ -1,6 +1,6 @@
 -- The number of a code point literal. Assumes nothing.
 use mathlib.Core.Path.{◌≡◌, sym, ap, ◌∙◌}
-use mathlib.Core.List.{List}
+use mathlib.Core.List.{List, foldl}
 use Prim.Native.Nat.{ℕ, ◌+◌, ◌-◌, ◌≤◌, ◌<◌, min}
 use native.Mathlib.Omega.{arith}
 use lib.ListN.{length, take, drop}
@@ -9,9 +9,10 @@ use Rattle.rules.proofs.Matches.{forward, inside}
 use Rattle.lexicon.specs.declared.Base.{Base}
 use Rattle.lexicon.specs.Bytes.{radix}
 use Rattle.lexicon.specs.Literals.{code_of_base, code_point_of}
-use Rattle.lexicon.specs.Limited.{limit}
+use Rattle.lexicon.specs.Limited.{limit, limited}
 use Rattle.lexicon.specs.Values.{value, CodeOf}
 use Rattle.lexicon.proofs.Bases.{some_base}
+use Rattle.lexicon.proofs.Limits.{limited_value}
 use Rattle.lexicon.specs.Parts.{Marked}
 use Rattle.string.specs.Parts.{number_at}
 use Rattle.lexicon.proofs.Marks.{begins, mark_long, first_digit}
@@ -35,13 +36,14 @@ module _ (piece : List ℕ) where
 
   -- ---- its value
 
-  pub code_is : {i j s r : ℕ} (b : Base) → Marked piece i b s → (s ≤ j) × (j ≤ length piece) → r ≡ min limit (value (radix b) (take (j - s) (drop s piece))) → CodeIs piece i j r
+  pub code_is : {i j s r : ℕ} (b : Base) → Marked piece i b s → (s ≤ j) × (j ≤ length piece) → r ≡ foldl (limited (radix b)) 0 (take (j - s) (drop s piece)) → CodeIs piece i j r
   code_is {i} {j} {s} {r} b m h e = record { is = go }
     where
       go : (v : ℕ) → CodeOf piece i j v → r ≡ min limit v
       go v c =
           let o = m.only c.base c.before (first_digit c.all_digits) in
           e
+          ∙ limited_value (radix b) 0 (take (j - s) (drop s piece))
           ∙ ap (λ (l : List ℕ). min limit (value (radix b) l)) (part_read piece s (j - s) (omega (arith, h)))
           ∙ ap (λ (y : ℕ). min limit (number_at piece b y j)) (sym o.1)
           ∙ ap (λ (x : Base). min limit (number_at piece x c.start j)) (sym o.0)

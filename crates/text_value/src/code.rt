@@ -1,15 +1,12 @@
 // The number of a code point literal. A function with a `requires` is this crate's own: its caller has found the literal.
-ghost use Rattle.std.specs.Prelude.{◌≡◌, ◌+◌, ◌<◌, min, length};
+ghost use Rattle.std.specs.Prelude.{◌+◌, ◌<◌, length};
 ghost use Rattle.rules.specs.Rule.{lit, Takes};
-ghost use Rattle.lexicon.specs.Bytes.{radix as radix_of};
 ghost use Rattle.lexicon.specs.Literals.{code_point_of};
-ghost use Rattle.lexicon.specs.Limited.{limit};
 ghost use Rattle.lexicon.specs.Parts.{Marked};
-ghost use Rattle.lexicon.specs.Values.{value};
 ghost use Rattle.text_value.specs.Parts.{CodeIs};
 
 use lexicon::Base;
-use text::digit::{base_of, digit_set, limited, radix};
+use text::digit::{base_of, counted};
 
 // The base that the mark at a place tells, and where the digits begin: without a letter behind `0c` they are decimal and begin there.
 fn mark(piece: &[u8], at: usize) -> (Base, usize)
@@ -22,19 +19,11 @@ fn mark(piece: &[u8], at: usize) -> (Base, usize)
     }
 }
 
-// The number of a row of digits, up to the limit.
-fn number(digits: &[u8], base: Base) -> u32
-    ensures { result ≡ min limit (value (radix_of base) digits.now) }
-{
-    let n = radix(digit_set(base));
-    digits.iter().fold(0, |sum, b| limited(sum, n, *b))
-}
-
 // The number of the literal from one place to the other, up to the limit.
 pub(crate) fn code(piece: &[u8], at: usize, end: usize) -> u32
     requires { Takes piece.now code_point_of at end }
     ensures { CodeIs piece.now at end result }
 {
     let (base, start) = mark(piece, at);
-    number(&piece[start..end], base)
+    counted(base, 0, &piece[start..end])
 }

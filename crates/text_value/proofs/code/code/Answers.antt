@@ -5,14 +5,14 @@ use Rattle.text_value.proofs.code.code.Goals as goal
 pub mark-base-requires : goal.mark-base-requires
 mark-base-requires c = code_begins _ c.requires
 
-pub slice_bounds-number-start : goal.slice_bounds-number-start
-slice_bounds-number-start c = (code_within _ c.mark-base.result.0 c.mark-base.ensures c.requires).0
+pub slice_bounds-counted-start : goal.slice_bounds-counted-start
+slice_bounds-counted-start c = (code_within _ c.mark-base.result.0 c.mark-base.ensures c.requires).0
 
-pub slice_bounds-number-count : goal.slice_bounds-number-count
-slice_bounds-number-count c = (code_within _ c.mark-base.result.0 c.mark-base.ensures c.requires).0
+pub slice_bounds-counted-count : goal.slice_bounds-counted-count
+slice_bounds-counted-count c = (code_within _ c.mark-base.result.0 c.mark-base.ensures c.requires).0
 
-pub slice_bounds-number-end : goal.slice_bounds-number-end
-slice_bounds-number-end c = (code_within _ c.mark-base.result.0 c.mark-base.ensures c.requires).1
+pub slice_bounds-counted-end : goal.slice_bounds-counted-end
+slice_bounds-counted-end c = (code_within _ c.mark-base.result.0 c.mark-base.ensures c.requires).1
 
 pub returns : goal.returns
-returns c = code_is _ c.mark-base.result.0 c.mark-base.ensures (code_within _ c.mark-base.result.0 c.mark-base.ensures c.requires) c.number.ensures
+returns c = code_is _ c.mark-base.result.0 c.mark-base.ensures (code_within _ c.mark-base.result.0 c.mark-base.ensures c.requires) c.counted.ensures
