@@ -1,5 +1,4 @@
 -- The laws of bytes put into a buffer.
 pub mod Puts
-pub mod Copied
 pub mod Appending
 pub mod Writing

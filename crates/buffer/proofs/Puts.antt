@@ -5,7 +5,7 @@ use Prim.Native.Nat.{ℕ, suc, ◌+◌, ◌≤◌, ◌<◌, min}
 use native.Mathlib.Decide.{dec_le}
 use native.Mathlib.Omega.{arith}
 use lib.ListN.{length, get_or, set, take, drop, length-append}
-use lib.Seq.{take-suc, take-length}
+use lib.Seq.{take-suc}
 use Rattle.rules.specs.Over.{over}
 use Rattle.rules.proofs.Over.{over_length, over_nothing, over_past, over_one, over_append, over_start}
 use Rattle.buffer.specs.Puts.{largest, Puts}

@@ -45,11 +45,9 @@ impl<'a> Writer<'a> {
     pub fn copy(&mut self, bytes: &[u8])
         ensures { Appends self.old bytes.now self.new }
     {
-        let at = self.at;
-        self.at = at.saturating_add(bytes.len());
-        if at < self.buffer.len() {
-            let n = bytes.len().min(self.buffer.len() - at);
-            self.buffer[at..at + n].copy_from_slice(&bytes[..n]);
+        // One by one: `copy_from_slice` calls functions that the archive has not (docs/DECISIONS.md, point 78).
+        for b in bytes {
+            self.put(*b);
         }
     }
 }
