@@ -19,7 +19,6 @@ use Rattle.rules.proofs.Tests.{says_no}
 use Rattle.rules.proofs.Matches.{starting, ending}
 use Rattle.lexicon.specs.Literals.{unit}
 use Rattle.lexicon.proofs.Groups.{unit_at, unit_inside}
-use Rattle.text.proofs.Runs.{same, same_equal}
 use Rattle.eight.specs.Joined.{joined, Joins}
 
 pub data Operation : Type 0 where
@@ -114,6 +113,15 @@ together_none (always k) = refl
 together_none (result o x y) = ap₂ (of o) (together_none x) (together_none y) ∙ of_zero o
 
 -- ---- comparisons
+
+abbrev same : Bool → Bool → Bool
+same true b = b
+same false b = not b
+
+same_equal : (a b : Bool) → same a b ≡ true → a ≡ b
+same_equal true b e = sym e
+same_equal false true e = e
+same_equal false false e = refl
 
 -- the two results are equal exactly for the bytes of the class
 unfoldable pub tells : Lane → Lane → Class → ℕ → Bool

@@ -1,4 +1,3 @@
 -- The laws that the proofs of the functions cite.
 pub mod Lanes
 pub mod Sums
-pub mod Runs

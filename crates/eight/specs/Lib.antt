@@ -1,3 +1,2 @@
 -- The definitions that the contracts name.
 pub mod Joined
-pub mod Runs

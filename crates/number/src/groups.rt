@@ -10,7 +10,7 @@ ghost use Rattle.number.specs.Groups.{OfDigits, Grouped};
 use crate::tally::Tally;
 use lexicon::Set;
 use space::joint::joint;
-use text::class::{classes, holds};
+use text::class::{Members, classes};
 use text::run::run;
 
 // The end of the longest row of groups and the sum over its digits.
@@ -25,7 +25,7 @@ fn units(text: &[u8], at: usize, set: Set, width: usize, classes: &[u8; 256]) ->
     requires { (1 ≤ width) × IsTable classes.now }
     ensures { Longest text.now (many (unit width (members set))) at result }
 {
-    let end = run(text, at, |b| holds(classes[b as usize], set));
+    let end = run(text, at, &Members { classes, set });
     // Bytes are whole units: a number's digits cost no division.
     if width == 1 {
         return end;
@@ -33,7 +33,9 @@ fn units(text: &[u8], at: usize, set: Set, width: usize, classes: &[u8; 256]) ->
     at + (end - at) / width * width
 }
 
-// The longest row of units from a place. The table of classes is made once, for all of them.
+// The longest row of units from a place. The table of classes is made once, for all of them. Never inlined: the table would lie in the frame
+// of each caller, on top of those that it calls.
+#[inline(never)]
 pub(crate) fn longest_row<T: Tally>(
     text: &[u8],
     at: usize,

@@ -3,7 +3,7 @@ ghost use Rattle.rules.specs.Rule.{one, ◌then◌, many, opt, Longest};
 ghost use Rattle.lexicon.specs.Front.{byte_order_mark, newline, not_newline, first_line, Front};
 
 use text::byte::stands;
-use text::run::run;
+use text::run::{Test, run};
 
 const NEWLINE: u8 = 0x0A;
 
@@ -23,11 +23,23 @@ fn mark(text: &[u8]) -> usize
     3
 }
 
+// A byte that ends no line.
+struct NotNewline;
+
+impl Test for NotNewline {
+    ghost class = { λ _. not_newline };
+
+    #[tactic(auto, unfolding(rules::specs::Class::has))]
+    fn passes(&self, b: u8) -> bool {
+        b != NEWLINE
+    }
+}
+
 // The rest of a line, through its newline or to the end of the text.
 fn rest(text: &[u8], at: usize) -> usize
     ensures { Longest text.now (many (one not_newline) then opt (one newline)) at result }
 {
-    let end = run(text, at, |b| b != NEWLINE);
+    let end = run(text, at, &NotNewline);
     if stands(text, end, NEWLINE) {
         end + 1
     } else {

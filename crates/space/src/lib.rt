@@ -4,12 +4,24 @@
 pub mod front;
 pub mod joint;
 
-ghost use Rattle.lexicon.specs.Space.{Skips};
+ghost use Rattle.rules.specs.Rule.{many, Longest};
+ghost use Rattle.lexicon.specs.Literals.{unit};
+ghost use Rattle.lexicon.specs.Space.{not_grave, Skips};
 
 use eight::no_grave;
-use eight::run::run;
 
 const GRAVE: u8 = b'`';
+
+// Where the eights of bytes at `at` end that have no grave accent among them.
+fn eights(text: &[u8], at: usize) -> usize
+    ensures { Longest text.now (many (unit 8 not_grave)) at result }
+{
+    let mut i = at;
+    while no_grave(text, i) {
+        i += 8;
+    }
+    i
+}
 
 // Where the dividing space at `at` ends: `at` itself if there is none.
 pub fn space(text: &[u8], at: usize) -> usize
@@ -30,8 +42,7 @@ pub fn space(text: &[u8], at: usize) -> usize
             }
         }
         // By eights first, since a comment may be long.
-        let eights = run(text, end + 1, |i| no_grave(text, i));
-        let mut i = eights;
+        let mut i = eights(text, end + 1);
         loop {
             // A grave accent without a partner is no space.
             if i == text.len() {

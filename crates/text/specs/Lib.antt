@@ -1,4 +1,3 @@
--- What the table of classes says, the letter of a base, and a test of bytes.
+-- What the table of classes says, and the letter of a base.
 pub mod Classes
 pub mod Letters
-pub mod Runs

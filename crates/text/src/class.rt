@@ -1,9 +1,10 @@
 // The byte sets, printed as one table of 256 classes. A byte's class is the sum of what each of its sets adds: 1 binary digit,
 // 2 octal digit, 4 decimal digit, 8 one of 0-9A-F, 16 base-64 character, 32 may begin a word, 64 may continue one, 128 dividing.
 ghost use Rattle.std.specs.Prelude.{◌≡◌};
-ghost use Rattle.lexicon.specs.Bytes.{class_of};
+ghost use Rattle.lexicon.specs.Bytes.{class_of, members};
 ghost use Rattle.text.specs.Classes.{IsTable, in_sum};
 
+use crate::run::Test;
 use lexicon::Set;
 
 // One constant array of 256 classes: a form that the project prescribes (docs/DECISIONS.md).
@@ -40,4 +41,20 @@ pub fn holds(class: u8, set: Set) -> bool
     ensures { result ≡ in_sum set class }
 {
     (class >> set as u8) % 2 == 1
+}
+
+// The bytes of a set, told by the table of classes, which is made once for a whole run.
+#[derive(Drop)]
+pub struct Members<'a> {
+    pub classes: &'a [u8; 256],
+    pub set: Set,
+    pub ghost table: { IsTable classes.now },
+}
+
+impl Test for Members<'_> {
+    ghost class = { λ m. members m.set };
+
+    fn passes(&self, b: u8) -> bool {
+        holds(self.classes[b as usize], self.set)
+    }
 }

@@ -56,7 +56,9 @@ pub fn digit(b: u8) -> u64
     ensures { result ≡ digit_of b }
 {
     match b {
-        ..=b'9' => b.saturating_sub(b'0') as u64,
+        // Most digits are these, so one test tells them.
+        b'0'..=b'9' => (b - b'0') as u64,
+        ..b'0' => 0,
         _ => (b - (b'A' - 10)) as u64,
     }
 }
@@ -66,13 +68,20 @@ pub fn digit(b: u8) -> u64
 pub fn sextet(b: u32) -> u32
     ensures { result ≡ sextet_of b }
 {
-    match b {
-        0x61.. => b - 0x61 + 26,
-        0x41.. => b - 0x41,
-        0x30.. => b - 0x30 + 52,
-        0x2B => 62,
-        _ => 63,
+    // By hand: a `match` tests the rare characters first.
+    if b >= 0x61 {
+        return b - 0x61 + 26;
     }
+    if b >= 0x41 {
+        return b - 0x41;
+    }
+    if b >= 0x30 {
+        return b - 0x30 + 52;
+    }
+    if b == 0x2B {
+        return 62;
+    }
+    63
 }
 
 // A number with one digit more, up to the limit.
@@ -81,7 +90,11 @@ pub fn limited(sum: u32, radix: u32, b: u8) -> u32
     ensures { result ≡ limited_of radix sum b }
 {
     let next = sum as u64 * radix as u64 + digit(b);
-    next.min(LIMIT as u64) as u32
+    // A branch, and no `min`: it is as good as never taken, and the next digit waits for no choice between two numbers.
+    if next < LIMIT as u64 {
+        return next as u32;
+    }
+    LIMIT
 }
 
 // The number of digits behind those of a sum, up to the limit.

@@ -15,8 +15,6 @@ use Rattle.rules.proofs.Classes.{is_just, just_is}
 use Rattle.rules.proofs.Chains.{longest}
 use Rattle.rules.proofs.Matches.{forward, longest_same}
 use Rattle.rules.proofs.Ways.{begins_none}
-use Rattle.text.specs.Runs.{TellsClass}
-use Rattle.text.proofs.Runs.{agrees, tells_class}
 use Rattle.lexicon.specs.Limited.{limit}
 use Rattle.lexicon.specs.Literals.{code_point_of}
 use Rattle.lexicon.specs.Space.{Skips}
@@ -37,12 +35,6 @@ use Rattle.buffer.specs.declared.Writer.{Writer}
 use Rattle.buffer.specs.Appends.{Appends}
 use Rattle.buffer.proofs.Appending.{appends_none, appends_same, appends_then}
 use Rattle.text_value.proofs.Copies.{part_read}
-
--- ---- the test for a quote
-
-pub tells_quote : {Answers : ℕ → Bool → Type 0} → ((b : ℕ) (o : Bool) → Answers b o → o ≡ not (eqb b 0x22)) → TellsClass Answers not_quote
-unfolding has below agrees
-tells_quote a = tells_class not_quote (λ b. not (eqb b 0x22)) refl a
 
 -- ---- letters
 

@@ -1,6 +1,6 @@
 // The characters of a quoted text, segment by segment. The functions have a `requires` each: their caller has found the literal.
 ghost use Rattle.rules.specs.Rule.{At};
-ghost use Rattle.values.specs.QuotedBytes.{backslash, Angled, Item, Unescapes, Copies, SegmentBytes};
+ghost use Rattle.values.specs.QuotedBytes.{backslash, not_quote, Angled, Item, Unescapes, Copies, SegmentBytes};
 ghost use Rattle.text_value.specs.Parts.{Stands, Wrote, HasQuoted, WroteQuoted};
 
 use crate::bytes::encode;
@@ -9,7 +9,7 @@ use buffer::Writer;
 use lexicon::Literal;
 use space::space;
 use text::byte::stands;
-use text::run::run;
+use text::run::{Test, run};
 
 // A code point by its number, and the closing angle; the place behind it.
 #[inline(always)]
@@ -63,13 +63,25 @@ fn escaped(piece: &[u8], at: usize, out: &mut Writer) -> usize
     i + 1
 }
 
+// A byte that ends no segment without escapes.
+struct NotQuote;
+
+impl Test for NotQuote {
+    ghost class = { λ _. not_quote };
+
+    #[tactic(auto, unfolding(rules::specs::Class::has))]
+    fn passes(&self, b: u8) -> bool {
+        b != b'"'
+    }
+}
+
 // Characters, each of them itself, through the closing quote.
 #[inline(always)]
 fn plain(piece: &[u8], at: usize, out: &mut Writer) -> usize
     requires { Stands (Copies piece.now) at }
     ensures { Wrote (Copies piece.now) at result out.old out.new }
 {
-    let end = run(piece, at, |b| b != b'"');
+    let end = run(piece, at, &NotQuote);
     out.copy(&piece[at..end]);
     end + 1
 }

@@ -1,6 +1,8 @@
 // UTF-8, by the Unicode Standard's table of well-formed byte sequences.
 #![tactic(auto)]
 
+ghost use Rattle.std.specs.Prelude.{[], ◌∷◌};
+ghost use Rattle.rules.specs.Class.{◌upto◌};
 ghost use Rattle.rules.specs.Rule.{◌then◌, many, Longest};
 ghost use Rattle.lexicon.specs.Found.{Finds};
 ghost use Rattle.lexicon.specs.Utf8;
@@ -9,6 +11,7 @@ ghost use Rattle.lexicon.specs.Steps.{eight, TestedAs};
 use eight::ascii;
 use lexicon::{NotUtf8, Tested};
 use text::byte::within;
+use text::run::{Test, run};
 
 // The place behind a byte from `low` to `high`, if one stands at `at`.
 fn byte(text: &[u8], at: usize, low: u8, high: u8) -> Option<usize>
@@ -60,14 +63,30 @@ pub fn sequence(text: &[u8], at: usize) -> Option<usize>
 fn eights(text: &[u8], at: usize) -> usize
     ensures { Longest text.now (many eight) at result }
 {
-    eight::run::run(text, at, |i| ascii(text, i))
+    let mut i = at;
+    while ascii(text, i) {
+        i += 8;
+    }
+    i
+}
+
+// A plain ASCII byte.
+struct Ascii;
+
+impl Test for Ascii {
+    ghost class = { λ _. 0x00 upto 0x7F ∷ [] };
+
+    #[tactic(auto, unfolding(rules::specs::Class::has))]
+    fn passes(&self, b: u8) -> bool {
+        b < 0x80
+    }
 }
 
 // Where the plain ASCII bytes at `at` end.
 fn singles(text: &[u8], at: usize) -> usize
     ensures { Longest text.now (many (Utf8.range 0x00 0x7F)) at result }
 {
-    text::run::run(text, at, |b| b < 0x80)
+    run(text, at, &Ascii)
 }
 
 // Whether the text is well-formed sequences from the front; if not, where the first bad one begins; and the steps up to there.

@@ -6,8 +6,7 @@ use native.Mathlib.Omega.{arith}
 use Rattle.rules.specs.Rule.{one, Takes, stop}
 use Rattle.rules.proofs.Matches.{forward, inside}
 use Rattle.rules.proofs.Chains.{snoc}
-use Rattle.std.proofs.Common.{rules}
-use Rattle.lexicon.specs.Space.{grave, not_grave}
+use Rattle.lexicon.specs.Space.{grave}
 use Rattle.lexicon.proofs.Spaces.{skips}
 use Rattle.lexicon.proofs.Groups.{units_run}
 use Rattle.text.proofs.Ranges.{byte_is, byte_but}
@@ -35,11 +34,8 @@ space-preserved-in-9 c = let i = c.space.end in
 pub overflow_add-end-in-space : goal.overflow_add-end-in-space
 overflow_add-end-in-space c = omega arith
 
-pub run-eights-requires : goal.run-eights-requires
-run-eights-requires c = record { callable = search rules; tells = (not_grave, record { told = λ i o h a. search rules }) }
-
 pub loop-i-init : goal.loop-i-init
-loop-i-init c = let t = (c.run-eights.ensures not_grave record { told = λ i o h a. search rules }).takes in
+loop-i-init c = let t = c.eights-i.ensures.takes in
     (refl, inside t (omega arith), units_run 8 t)
 
 pub bounds-text-i : goal.bounds-text-i

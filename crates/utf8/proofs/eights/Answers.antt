@@ -1,10 +1,30 @@
--- `utf8::eights` meets its contract: the eights that `ascii` tells. Assumes nothing.
-use Rattle.std.proofs.Common.{rules, [], ◌∷◌}
-use Rattle.rules.specs.Class.{◌upto◌}
+-- `utf8::eights` meets its contract: eights lead to `i`. Assumes nothing.
+use mathlib.Core.Path.{refl}
+use Prim.Native.Nat.{◌+◌, ◌≤◌}
+use lib.ListN.{length}
+use native.Mathlib.Omega.{arith}
+use Rattle.rules.specs.Rule.{stop}
+use Rattle.rules.proofs.Chains.{snoc, longest}
+use Rattle.rules.proofs.Tests.{refuted}
+use Rattle.lexicon.proofs.Groups.{unit_inside}
+use Rattle.lexicon.proofs.Steps.{eight_single, no_eight}
 use Rattle.utf8.proofs.eights.Goals as goal
 
-pub run-requires-clause-tells : goal.run-requires-clause-tells
-run-requires-clause-tells c = (0x00 upto 0x7F ∷ [], record { told = λ i o h a. search rules })
+pub loop-i-init : goal.loop-i-init
+loop-i-init c = stop refl
+
+pub overflow_add-i : goal.overflow_add-i
+overflow_add-i c =
+    let within : c.loop-i.i + 8 ≤ length c.args.text.now = unit_inside 7 _ (c.ascii.ensures.true_holds c.loop-i-test.true) in
+    omega (arith, within)
+
+pub loop-i-smaller : goal.loop-i-smaller
+loop-i-smaller c =
+    let within : c.loop-i.i + 8 ≤ length c.args.text.now = unit_inside 7 _ (c.ascii.ensures.true_holds c.loop-i-test.true) in
+    omega (arith, within)
+
+pub loop-i-preserved : goal.loop-i-preserved
+loop-i-preserved c = snoc c.loop-i.invariant (c.ascii.ensures.true_holds c.loop-i-test.true)
 
 pub returns : goal.returns
-returns c = c.run.ensures (0x00 upto 0x7F ∷ []) record { told = λ i o h a. search rules }
+returns c = longest (eight_single _) c.loop-i.invariant (no_eight _ (refuted c.ascii.ensures c.loop-i-test.false))

@@ -64,15 +64,12 @@ pub fn unpromised(path: &str, text: &str) -> Vec<Finding> {
             head = Some(Head {
                 line: at + 1,
                 promises: false,
-                takes_a_closure: word.contains("<F: Fn"),
             });
         }
         let Some(function) = &mut head else {
             continue;
         };
-        // What a closure does is asked of no value.
-        let of_the_closure = function.takes_a_closure && word.contains("F.");
-        if word.starts_with("requires") && !of_the_closure {
+        if word.starts_with("requires") {
             let reason = "a public function has a requires".to_string();
             findings.push(Finding::new(path, function.line, reason));
         }
@@ -92,7 +89,6 @@ pub fn unpromised(path: &str, text: &str) -> Vec<Finding> {
 struct Head {
     line: usize,
     promises: bool,
-    takes_a_closure: bool,
 }
 
 /// Crates without a row in README's table, and crates with definitions that
@@ -217,10 +213,7 @@ mod tests {
         assert_eq!(reasons("    pub fn a(self) -> u8 {\n    }\n").len(), 1);
         let closure = "pub fn a<F: Fn(u8) -> bool>(f: F)\n";
         let callable = "    requires { F.IsAlwaysCallable f }\n";
-        assert!(reasons(&format!("{closure}{callable}{promise}")).is_empty());
-        assert_eq!(
-            reasons(&format!("{closure}    requires {{ x }}\n{promise}")).len(),
-            1
-        );
+        let found = reasons(&format!("{closure}{callable}{promise}"));
+        assert_eq!(found.len(), 1);
     }
 }

@@ -1,8 +1,6 @@
 -- `number::groups::longest_row` meets its contract. Assumes nothing.
-use Prim.Native.Nat.{◌≤◌}
 use native.Mathlib.Omega.{arith}
-use lib.ListN.{length}
-use Rattle.rules.proofs.Matches.{forward, inside}
+use Rattle.rules.proofs.Matches.{forward}
 use Rattle.number.proofs.Rows.{no_units, first_units, later_units, units_end, units_within, row_unjoined, row_joined}
 use Rattle.number.proofs.groups.longest_row.Goals as goal
 
