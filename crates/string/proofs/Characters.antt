@@ -12,8 +12,7 @@ use Rattle.rules.proofs.Chains.{join, snoc, longest}
 use Rattle.rules.proofs.Classes.{apart, apart_span, includes, in_some, includes_in, in_first_lem, low_in, in_high}
 use Rattle.rules.proofs.Matches.{byte_at, byte_end, ending}
 use Rattle.rules.proofs.Ways.{never, never_takes}
-use Rattle.lexicon.specs.Literals.{unit, plain_byte, above9_f, unescaped}
-use Rattle.lexicon.proofs.Groups.{units_run}
+use Rattle.lexicon.specs.Literals.{plain_byte, above9_f, unescaped}
 use Rattle.lexicon.proofs.Spaces.{byte_single}
 use Rattle.lexicon.specs.Utf8.{range, beyond, sequence}
 use Rattle.text.proofs.Ranges.{byte_is}
@@ -78,10 +77,10 @@ module _ {text : List ℕ} where
       right (right (left (both (byte (a.0, in_first_lem 0xC3 0xDF [] (get_or text i 0) (omega (arith, n)) z) e) u)))
   of_sequence l n (right (right t)) = right (right (right t))
 
--- ---- eights of plain bytes, and those behind them
+-- ---- plain bytes, and those behind them
 
-pub runs_on : (text : List ℕ) {i j k : ℕ} → Longest text (many (unit 8 plain_byte)) i j → Longest text (many (one plain_byte)) j k → Longest text (many (one plain_byte)) i k
-runs_on text e l = longest (byte_single plain_byte) (join (units_run 8 e.takes) l.takes) (ends_run l)
+pub runs_on : (text : List ℕ) {i j k : ℕ} → Takes text (many (one plain_byte)) i j → Longest text (many (one plain_byte)) j k → Longest text (many (one plain_byte)) i k
+runs_on text u l = longest (byte_single plain_byte) (join u l.takes) (ends_run l)
   where
     ends_run : {j k : ℕ} → Longest text (many (one plain_byte)) j k → Fails text (one plain_byte) k
     ends_run l = record { none = λ t. omega (arith, l.most (snoc l.takes t), byte_end t) }

@@ -151,6 +151,9 @@ module _ (text : List ℕ) where
       most (left t) = l.most t
       most (right (both (byte a e) t)) = absurd (never_takes text backslash unescaped backslash_unescaped a l.takes)
 
+  pub no_character : {i : ℕ} → At text backslash i → Fails text unescaped i
+  no_character a = record { none = never_takes text backslash unescaped backslash_unescaped a }
+
   pub item_escape : (i : ℕ) (r : Option Literal) → Fails text unescaped i → Judges text escape (BadEscape text) i r → Judges text item (BadEscape text) i r
   item_escape i r f y = go r y
     where

@@ -1,22 +1,22 @@
 -- The first bad escape of a quoted text: the first in the first segment that has one; a walk over the segments meets it. Assumes nothing.
 use mathlib.Core.Path.{◌≡◌, refl, subst, sym, ap, ◌∙◌}
-use mathlib.Core.Bool.{Bool, true, false, ◌||◌, false≢true}
+use mathlib.Core.Bool.{Bool, true, false, ◌||◌}
 use mathlib.Core.List.{List}
 use Prim.Native.Nat.{ℕ, ◌+◌, ◌≤◌}
 use native.Mathlib.Decide.{ℕ_discrete}
 use native.Mathlib.Omega.{arith}
 use Rattle.rules.specs.Test.{Says}
 use Rattle.rules.specs.Rule.{many, lit, Takes, byte, both, stop, more, At, Longest, Fails, Among}
-use Rattle.rules.proofs.Matches.{forward, starting}
+use Rattle.rules.proofs.Matches.{forward}
 use Rattle.rules.proofs.Chains.{move, join, snoc}
 use Rattle.rules.proofs.Tests.{refuted}
-use Rattle.std.specs.Prelude.{Option, Some, None, is_some, unwrap_or}
+use Rattle.std.specs.Prelude.{Option, Some, None, is_some}
 use Rattle.std.specs.Option.{option_or}
 use Rattle.std.specs.Bool.{then_some}
 use Rattle.lexicon.specs.declared.Literal.{Literal}
 use Rattle.lexicon.specs.Found.{Judges}
 use Rattle.lexicon.specs.Space.{Skips}
-use Rattle.lexicon.specs.Literals.{segment, quoted}
+use Rattle.lexicon.specs.Literals.{segment}
 use Rattle.lexicon.specs.Bad.{BadEscape, BadSegment, BadFurther, BadQuoted, in_first, in_further, backslash_of}
 use Rattle.lexicon.proofs.Segments.{quote, further, segment_single, space_ends, further_single, bad_takes}
 use Rattle.lexicon.proofs.Places.{in_segment_lem, one_first_bad}

@@ -1,10 +1,11 @@
 -- What the answers of the parts of a Text literal say. Assumes nothing.
-use Rattle.std.specs.Prelude.{List, ℕ, ◌-◌}
-use Rattle.rules.specs.Rule.{Rule, one, ◌then◌, ◌or◌, many, plus, lit, Takes, Among}
+use Rattle.std.specs.Prelude.{◌≡◌, List, ℕ, ◌-◌, min}
+use Rattle.rules.specs.Rule.{Rule, one, ◌then◌, ◌or◌, many, plus, lit, Takes, Fails, Among}
 use Rattle.lexicon.specs.declared.Base.{Base}
 use Rattle.lexicon.specs.Bytes.{digits, radix}
 use Rattle.lexicon.specs.Literals.{code_point_of, unescaped, restricted, escape}
 use Rattle.lexicon.specs.Values.{read, value}
+use Rattle.lexicon.specs.Limited.{limit}
 use Rattle.lexicon.specs.Bad.{Scalar, BadCode, BadEscape}
 
 -- the digits of a number, one at least
@@ -38,6 +39,12 @@ module _ (text : List ℕ) where
     pub end : ℕ
     pub code : BadCode text i end
     pub behind : Takes text (lit ">") end j
+
+  -- the digits from i to j and no more, with their number, or a number that is no code point if it is beyond them all
+  pub record Counts (b : Base) (i j v : ℕ) : Type 0 where
+    pub all : Takes text (many (one (digits b))) i j
+    pub ends : Fails text (one (digits b)) j
+    pub code : v ≡ min limit (number_at b i j)
 
   -- one of the escapes in the rest of an escaped segment is bad
   pub record BadRest (i j : ℕ) : Type 0 where

@@ -13,6 +13,7 @@ ghost use Rattle.string.specs.Parts.{BadAngled};
 use crate::code_point::code_point;
 use lexicon::Literal;
 use text::byte::{stands, within};
+use text::run::Test;
 use utf8::sequence;
 
 // Where a part of a quoted text ends, and the backslash of the first bad escape in it, if there is one.
@@ -34,6 +35,17 @@ fn is_plain(b: u8) -> bool
     }
 }
 
+// Such a byte.
+struct PlainByte;
+
+impl Test for PlainByte {
+    ghost class = { λ _. Literals.plain_byte };
+
+    fn passes(&self, b: u8) -> bool {
+        is_plain(b)
+    }
+}
+
 // Whether such a byte stands at the place.
 fn plain_byte(text: &[u8], at: usize) -> bool
     ensures { Says result (Takes text.now (one Literals.plain_byte) at (at + 1)) }
@@ -50,8 +62,11 @@ fn run(text: &[u8], at: usize) -> usize
     if !plain_byte(text, at) {
         return at;
     }
-    let eights = eight::run::run(text, at, |i| eight::plain(text, i));
-    text::run::run(text, eights, |b| is_plain(b))
+    let mut i = at;
+    while eight::plain(text, i) {
+        i += 8;
+    }
+    text::run::run(text, i, &PlainByte)
 }
 
 // A character that may stand inside quotes as it is, other than a backslash.
@@ -77,6 +92,7 @@ fn angled(text: &[u8], at: usize) -> Option<Literal>
 }
 
 // A backslash, and a letter or a code point by its number.
+#[inline(always)]
 fn escape(text: &[u8], at: usize) -> Option<Literal>
     ensures { Judges text.now Literals.escape (BadEscape text.now) at result }
 {
@@ -99,13 +115,16 @@ fn escape(text: &[u8], at: usize) -> Option<Literal>
 }
 
 // A character or an escape.
+#[inline(always)]
 fn item(text: &[u8], at: usize) -> Option<Literal>
     ensures { Judges text.now Parts.item (BadEscape text.now) at result }
 {
-    match character(text, at) {
-        Some(end) => Some(Literal { end, bad: false }),
-        None => escape(text, at),
+    // An escape is told by its backslash, which is no character: few instructions for each.
+    if stands(text, at, b'\\') {
+        return escape(text, at);
     }
+    let end = character(text, at)?;
+    Some(Literal { end, bad: false })
 }
 
 // A character or a backslash.
@@ -120,6 +139,7 @@ fn restricted(text: &[u8], at: usize) -> Option<usize>
 }
 
 // Characters and backslashes up to the closing quote, which begins none of them.
+#[inline(always)]
 fn plain(text: &[u8], at: usize) -> Option<usize>
     ensures { Finds text.now Parts.plain_rest at result }
 {
@@ -135,7 +155,9 @@ fn plain(text: &[u8], at: usize) -> Option<usize>
     }
 }
 
-// Characters and escapes up to the closing quote, which begins none of them.
+// Characters and escapes up to the closing quote, which begins none of them. Always inlined, as `plain` is: a text may have a segment for
+// each three of its bytes.
+#[inline(always)]
 fn escaped(text: &[u8], at: usize) -> Option<Walk>
     ensures { RestWalked text.now at result }
 {

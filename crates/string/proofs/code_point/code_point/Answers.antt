@@ -1,7 +1,6 @@
 -- `string::code_point::code_point` meets its contract: the byte behind `0c` tells the base.
 -- Assumes nothing.
-use mathlib.Core.Path.{sym, ◌∙◌, subst}
-use Rattle.lexicon.specs.Parts.{letter}
+use mathlib.Core.Path.{sym, ◌∙◌}
 use Rattle.text.proofs.Gets.{got, not_got}
 use Rattle.string.proofs.Codes.{no_zero, no_c, no_more, mark_judged, digit_judged}
 use Rattle.string.proofs.code_point.code_point.Goals as goal

@@ -1,6 +1,6 @@
 -- `string::segment::character` meets its contract: its first byte decides, or a well-formed sequence is one.
 -- Assumes nothing.
-use mathlib.Core.Path.{refl, sym, ◌∙◌, ap}
+use mathlib.Core.Path.{refl, ◌∙◌, ap}
 use native.Mathlib.Omega.{arith}
 use Rattle.rules.specs.Class.{has}
 use Rattle.lexicon.specs.Literals.{plain_byte}

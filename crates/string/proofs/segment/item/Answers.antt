@@ -1,10 +1,15 @@
--- `string::segment::item` meets its contract: a character or else an escape.
+-- `string::segment::item` meets its contract: an escape or else a character.
 -- Assumes nothing.
-use Rattle.string.proofs.Escapes.{item_character, item_escape}
+use Rattle.std.proofs.Common.{None}
+use Rattle.rules.proofs.Tests.{there}
+use Rattle.string.proofs.Escapes.{by_none, no_character, item_character, item_escape}
 use Rattle.string.proofs.segment.item.Goals as goal
 
-pub returns-in-Some : goal.returns-in-Some
-returns-in-Some c = item_character _ _ _ c.in-Some.ensures
+pub returns-then-stands : goal.returns-then-stands
+returns-then-stands c = item_escape _ _ c.escape.result (no_character _ (there c.stands.ensures c.if-stands.true)) c.escape.ensures
 
-pub returns-in-None : goal.returns-in-None
-returns-in-None c = item_escape _ _ c.escape.result c.in-None.ensures c.escape.ensures
+pub returns-in_err-end : goal.returns-in_err-end
+returns-in_err-end c = rw c.from_residual.ensures (item_escape _ _ None c.in_err-end.ensures (by_none _ _ c.stands.ensures c.if-stands.false))
+
+pub returns : goal.returns
+returns c = item_character _ _ _ c.in_ok-end.ensures
