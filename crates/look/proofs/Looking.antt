@@ -1,5 +1,5 @@
 -- What comes next, where it is no head and no `::`. Assumes nothing.
-use mathlib.Core.Path.{◌≡◌, ap, subst, ◌∙◌}
+use mathlib.Core.Path.{◌≡◌, refl, ap, subst, ◌∙◌}
 use mathlib.Core.List.{List}
 use Prim.Native.Nat.{ℕ}
 use Rattle.lexicon.specs.declared.Head.{Head}
@@ -13,6 +13,8 @@ use Rattle.reading.proofs.Rows.{pick, no_end, no_none}
 use Rattle.std.specs.Prelude.{Result, Ok, Err}
 use mathlib.Core.Logic.{⊎_elim}
 use Rattle.look.specs.Looks.{Gets, NotNext, NoHead}
+use Rattle.look.specs.Ends.{Behind, beyond_by, further, nothing}
+use Rattle.look.specs.declared.answer.Read.{Read}
 
 module _ (text : List ℕ) (at : ℕ) where
   -- a token that is of another kind
@@ -39,3 +41,9 @@ module _ (text : List ℕ) (at : ℕ) where
       record {
         none = λ h end w. f.none w.sign (subst (λ (x : Token.Token). Comes text x.end (Next.Token w.sign)) (pick text w.comes c) w.then) w.sign_is;
       }
+
+-- what stands behind a value, if not the end, is refused
+pub not_ended : {text : List ℕ} {at : ℕ} {read : Result Read Refused} {e : Refused} (n : Next) → Comes text at n → ((q : ℕ) → n ≡ Next.End q → ⊥) → e ≡ beyond_by n → Behind text at read (Err e)
+not_ended (Next.Token t) k o w = rw w (further k)
+not_ended (Next.End q) k o w = absurd (o q refl)
+not_ended (Next.NoToken q) k o w = rw w (nothing k)

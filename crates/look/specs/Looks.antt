@@ -41,5 +41,6 @@ module _ (text : List ℕ) where
   Heads at (Headed.Other g) = Gets at g × NoHead at
 
 -- 01's refusal of a text that is not UTF-8: 3 at the first byte at which no sequence begins
-abbrev pub unformed_by : NotUtf8 → Refused
-unformed_by found = record { refusal = Refusal.NotUtf8; place = found.at }
+abbrev pub unformed_by : Result (Unit {0}) NotUtf8 → Result (Unit {0}) Refused
+unformed_by (Ok u) = Ok u
+unformed_by (Err found) = Err (record { refusal = Refusal.NotUtf8; place = found.at })

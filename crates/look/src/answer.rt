@@ -16,6 +16,7 @@ pub struct Read {
 }
 
 // The token that comes next. Where one must come, the end is in the wrong place.
+#[inline(always)]
 pub fn get(text: &[u8], at: usize) -> Result<Token, Refused>
     ensures { Gets text.now at result }
 {
@@ -32,12 +33,15 @@ pub fn get(text: &[u8], at: usize) -> Result<Token, Refused>
     }
 }
 
-// The refusal of a text that is not UTF-8.
-pub fn unformed(found: NotUtf8) -> Refused
-    ensures { result ≡ unformed_by found }
+// The refusal of a text that is not UTF-8; none of one that is.
+pub fn unformed(encoding: Result<(), NotUtf8>) -> Result<(), Refused>
+    ensures { result ≡ unformed_by encoding }
 {
-    Refused {
+    let Err(NotUtf8 { at }) = encoding else {
+        return Ok(());
+    };
+    Err(Refused {
         refusal: Refusal::NotUtf8,
-        place: found.at,
-    }
+        place: at,
+    })
 }

@@ -13,6 +13,7 @@ pub enum Headed {
     Other(Result<Token, Refused>),
 }
 
+#[inline(always)]
 pub fn head_at(text: &[u8], at: usize) -> Headed
     ensures { Heads text.now at result }
 {

@@ -11,23 +11,27 @@ use token::next::next;
 pub fn two_colons(text: &[u8], at: usize) -> Option<usize>
     ensures { ColonsNext text.now at result }
 {
-    match next(text, at) {
-        Next::Token(
-            Token {
-                kind: Kind::TwoColons,
-                end,
-                ..
-            },
-        ) => Some(end),
-        _ => None,
-    }
+    let Next::Token(
+        Token {
+            kind: Kind::TwoColons,
+            end,
+            ..
+        },
+    ) = next(text, at)
+    else {
+        return None;
+    };
+    Some(end)
 }
 
 // The Text behind `::`: where it ends.
 pub fn name(text: &[u8], at: usize) -> Result<usize, Refused>
     ensures { NameNext text.now at result }
 {
-    let t = get(text, at)?;
+    let got = get(text, at);
+    let Ok(t) = got else {
+        return Err(got.unwrap_err());
+    };
     let Kind::Text(_) = t.kind else {
         return Err(Refused {
             refusal: Refusal::WrongPlace,

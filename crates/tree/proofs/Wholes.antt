@@ -24,6 +24,7 @@ use Rattle.reading.specs.declared.Answer.{Answer}
 use Rattle.reading.specs.declared.Limits.{Limits}
 use Rattle.reading.specs.declared.Rules.{Rules}
 use Rattle.reading.specs.Sizes.{room, widest}
+use Rattle.reading.specs.declared.Refusal.{Refusal}
 use Rattle.reading.specs.Refusals.{answer_of}
 use Rattle.reading.specs.Answers.{Accepted, Answers, answer, no_level, too_long, not_utf8, faulty, no_room, accepted}
 use Rattle.reading.proofs.First.{all_or_fault}
@@ -85,13 +86,13 @@ module _ (text : List ℕ) (limits : Limits) (forms : Forms) where
       pub whole_refused : {n : Refused} → r ≡ Err n → Judged text limits forms lent left r
       whole_refused {n} i = subst (Judged text limits forms lent left) (sym i) (record { judged = value_read (Err n) i })
 
-      pub whole_read : {a : Read} (z : Result Read Refused) → r ≡ Ok a → Behind text a.end a z → Judged text limits forms lent left z
+      pub whole_read : {a : Read} (z : Result Read Refused) → r ≡ Ok a → Behind text a.end (Ok a) z → Judged text limits forms lent left z
       whole_read {a} z i b = record { judged = go z b }
         where
           v : IsValue text limits forms [] t a.end a.nodes a.shape lent left 0 0
           v = value_read (Ok a) i
 
-          go : (w : Result Read Refused) → Behind text a.end a w → JudgedAs text limits forms lent left w
+          go : (w : Result Read Refused) → Behind text a.end (Ok a) w → JudgedAs text limits forms lent left w
           go w (further {t = u} k) =
               not_here limits (level_of forms) text v.stands u k (not_wanting refl)
               (stuck (level_of forms) (class_kind u.kind) v.tree (span_of u) (λ q. v.stops u k (class_kind_lem u.kind q)))
@@ -142,9 +143,13 @@ module _ (text : List ℕ) (forms : Forms) (rules : Rules) (lent : List ℕ) (h 
 -- ---- the tests over the whole text
 
 -- what the UTF-8 test refuses, as a refusal
-pub unformed_at : {text : List ℕ} (r : Result (Unit {0}) NotUtf8) {e : Refused} → MatchResult r (λ x. ⊥) (λ f. e ≡ unformed_by f) → Encoded text r → (f : NotUtf8) × (e ≡ unformed_by f) × BadAt text f.at
-unformed_at (Ok x) m y = absurd m
-unformed_at (Err f) m y = (f, m, y)
+pub unformed_at : {text : List ℕ} (r : Result (Unit {0}) NotUtf8) {z : Result (Unit {0}) Refused} {e : Refused} → z ≡ unformed_by r → z ≡ Err e → Encoded text r →
+    (q : ℕ) × (e ≡ record { refusal = Refusal.NotUtf8; place = q }) × BadAt text q
+unformed_at {text} r {e = e} m i y = by r (subst (λ (w : Result (Unit {0}) Refused). MatchResult w (λ x. ⊥) (λ f. e ≡ f)) (sym i ∙ m) refl) y
+  where
+    by : (r : Result (Unit {0}) NotUtf8) → MatchResult (unformed_by r) (λ x. ⊥) (λ f. e ≡ f) → Encoded text r → (q : ℕ) × (e ≡ record { refusal = Refusal.NotUtf8; place = q }) × BadAt text q
+    by (Ok x) k y = absurd k
+    by (Err f) k y = (f.at, k, y)
 
 module _ (rules : Rules) (text lent : List ℕ) (number : ℕ) where
   pub read_no_level : {e : Refused} → LevelFound number (Err e) → Answers rules text lent number (answer_of e) lent

@@ -34,7 +34,7 @@ fn whole(reader: &Reader<'_>, table: &mut [u32]) -> Result<Read, Refused>
     let Ok(first) = read else {
         return read;
     };
-    ended(reader.text, first.end, first)
+    ended(reader.text, first.end, read)
 }
 
 // The text is judged and its nodes counted before the lent table is written.
@@ -48,12 +48,15 @@ fn tokens(rules: Rules, text: &[u8], forms: Forms, table: &mut [u32]) -> Result<
         forms,
     };
     let mut none = [0; 0];
-    let judged = whole(&reader, &mut none)?;
-    if judged.nodes > room(rules, table) {
-        return Ok(Answer::no_room(text.len(), judged.nodes));
+    let judged = whole(&reader, &mut none);
+    let Ok(Read { nodes, .. }) = judged else {
+        return Err(judged.unwrap_err());
+    };
+    if nodes > room(rules, table) {
+        return Ok(Answer::no_room(text.len(), nodes));
     }
     let _written = whole(&reader, table);
-    Ok(Answer::accepted(text.len(), judged.nodes))
+    Ok(Answer::accepted(text.len(), nodes))
 }
 
 // The tests in their order; a text that is refused leaves the table as it is.
@@ -61,14 +64,20 @@ fn tests(rules: Rules, number: u32, text: &[u8], table: &mut [u32]) -> Result<An
     requires { rules.text ≤ widest }
     ensures { Answers rules text.now table.old number (answered result) table.new }
 {
-    let forms = level_of(number)?;
+    let named = level_of(number);
+    let Ok(forms) = named else {
+        return Err(named.unwrap_err());
+    };
     if text.len() > rules.text {
         return Err(Refused {
             refusal: Refusal::TooLong,
             place: 0,
         });
     }
-    utf8(text).map_err(unformed)?;
+    let formed = unformed(utf8(text));
+    let Ok(()) = formed else {
+        return Err(formed.unwrap_err());
+    };
     tokens(rules, text, forms, table)
 }
 
@@ -77,7 +86,11 @@ fn reading(rules: Rules, number: u32, text: &[u8], table: &mut [u32]) -> Answer
     requires { rules.text ≤ widest }
     ensures { Answers rules text.now table.old number result table.new }
 {
-    tests(rules, number, text, table).unwrap_or_else(Answer::from)
+    let tested = tests(rules, number, text, table);
+    let Ok(answer) = tested else {
+        return Answer::from(tested.unwrap_err());
+    };
+    answer
 }
 
 // The reading of a text at a level by the rules of today: the answer, and the nodes in the lent table.
