@@ -34,8 +34,8 @@ use Rattle.lexicon.proofs.Unfit.{state_says, binary_bytes, hexadecimal_bytes}
 use Rattle.lexicon.proofs.Paddings.{unfit}
 use Rattle.number.specs.declared.padding.Padding.{Padding}
 use Rattle.number.specs.declared.padding.Padding.TheVariants.{Start}
-use Rattle.number.specs.Padding.{next_of, unfit_of}
-use Rattle.number.proofs.Sums.{code_of, code_run, unfit_is}
+use Rattle.number.specs.Padding.{code_of, next_of, unfit_of}
+use Rattle.number.proofs.Sums.{code_run}
 use Rattle.number.specs.Blob.{Marked, TailOf, digits_stand, none_stand}
 
 -- ---- the digits behind a mark
@@ -123,7 +123,7 @@ module _ (text : List ℕ) where
 
   judged : {i j : ℕ} {s : Padding} {o : Bool} {ds : List ℕ} → Behind text "0xy" 4 base64 i j ds → s ≡ foldl next_of Start ds → o ≡ unfit_of s → Says o (NoBytes text i j)
   judged {i} {j} {s} {ds = ds} x e f =
-      subst⁻¹ (λ (b : Bool). Says b (NoBytes text i j)) (f ∙ unfit_is s ∙ ap (λ (k : ℕ). eqb k unfit) (ap code_of e ∙ code_run Start ds)) (state_says x)
+      subst⁻¹ (λ (b : Bool). Says b (NoBytes text i j)) (f ∙ ap (λ (k : ℕ). eqb k unfit) (ap code_of e ∙ code_run Start ds)) (state_says x)
 
 -- ---- the marks
 

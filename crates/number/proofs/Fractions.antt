@@ -35,7 +35,7 @@ use Rattle.lexicon.proofs.Powers.{Found, no_caret, no_exponent, whole_exponent, 
 use Rattle.number.proofs.Marks.{DigitRow}
 use Rattle.number.specs.Number.{IsNumber, NoNumber}
 use Rattle.lexicon.specs.Bad.{BadFraction}
-use Rattle.number.specs.Fraction.{PointDigits, NoDigits, Pointed, Denominator, NoDenominator, Divided, ZeroRatio, Behind}
+use Rattle.number.specs.Fraction.{PointDigits, NoDigits, Pointed, Denominator, NoDenominator, Divided, ZeroRatio}
 use Rattle.number.proofs.Integers.{some_number}
 
 module _ (text : List ℕ) where

@@ -10,7 +10,7 @@ use Rattle.rules.specs.Rule.{Takes, Fails, At, opt}
 use Rattle.rules.proofs.Classes.{is_just, just_is, in_cons}
 use Rattle.rules.proofs.Matches.{forward, starting}
 use Rattle.lexicon.specs.declared.Base.{Base}
-use Rattle.lexicon.specs.declared.Base.TheVariants.{Two, Eight, Ten, Sixteen}
+use Rattle.lexicon.specs.declared.Base.TheVariants.{Ten}
 use Rattle.lexicon.specs.declared.Set.{Set}
 use Rattle.lexicon.specs.Bytes.{members, digits, digit_set_of, radix, decimal}
 use Rattle.lexicon.specs.Space.{sp, Skips}

@@ -1,37 +1,34 @@
--- How each base-64 character moves the state of their padding. Assumes nothing.
-use Rattle.std.specs.Prelude.{cond, ℕ, ◌%◌, Bool, true, false, eqb}
+-- The states of the padding of base-64 characters, each by its number in the machine that tells which characters
+-- encode bytes (lexicon/proofs/Paddings.antt). Assumes nothing.
+use Rattle.std.specs.Prelude.{◌≡◌, ℕ, zero, suc, ◌+◌, ◌<◌, ◌≤◌, List, length, get_or, Bool, eqb}
 use Rattle.rules.specs.Class.{byte_of}
-use Rattle.lexicon.specs.Parts.{sextet}
+use Rattle.lexicon.proofs.Paddings.{unfit, next_state_of}
 use Rattle.number.specs.declared.padding.Padding.{Padding}
 use Rattle.number.specs.declared.padding.Padding.TheVariants.{Start, Character, OneMore, NoMore, Unfit}
 
--- behind the first `=`, by the value of the character before it: each `=` wants two bits of it to be zero
-abbrev pub opened_of : ℕ → Padding
-opened_of v = cond (eqb (v % 16) 0) OneMore (cond (eqb (v % 4) 0) NoMore Unfit)
+abbrev pub code_of : Padding → ℕ
+code_of Start = 0
+code_of (Character b) = b + 4
+code_of OneMore = 1
+code_of NoMore = 2
+code_of Unfit = unfit
 
--- behind a `=` more
-abbrev pub padded_of : Padding → Padding
-padded_of Start = OneMore
-padded_of (Character b) = opened_of (sextet b)
-padded_of OneMore = NoMore
-padded_of NoMore = Unfit
-padded_of Unfit = Unfit
+abbrev pub state_of : ℕ → Padding
+state_of zero = Start
+state_of (suc zero) = OneMore
+state_of (suc (suc zero)) = NoMore
+state_of (suc (suc (suc zero))) = Unfit
+state_of (suc (suc (suc (suc b)))) = Character b
 
--- behind a character more that is no `=`
-abbrev pub followed_of : Padding → ℕ → Padding
-followed_of Start b = Character b
-followed_of (Character c) b = Character b
-followed_of OneMore b = Unfit
-followed_of NoMore b = Unfit
-followed_of Unfit b = Unfit
-
+-- behind a character more
 abbrev pub next_of : Padding → ℕ → Padding
-next_of s b = cond (eqb b (byte_of "=")) (padded_of s) (followed_of s b)
+next_of s b = state_of (next_state_of (code_of s) b)
 
 -- the characters so far encode no bytes
 abbrev pub unfit_of : Padding → Bool
-unfit_of Start = false
-unfit_of (Character b) = false
-unfit_of OneMore = false
-unfit_of NoMore = false
-unfit_of Unfit = true
+unfit_of s = eqb (code_of s) unfit
+
+-- the first n characters are no `=`
+pub record Unpadded (ds : List ℕ) (n : ℕ) : Type 0 where
+  pub within : n ≤ length ds
+  pub no_pad : (i : ℕ) → i < n → get_or ds i 0 ≡ byte_of "=" → ⊥

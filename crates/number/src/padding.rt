@@ -1,7 +1,8 @@
 // Padding: how `=` stands among base-64 characters, as a state that each of them moves. While no `=` has come it holds the last
 // character, whose bits the `=` leave over.
 ghost use Rattle.std.specs.Prelude.{◌≡◌};
-ghost use Rattle.number.specs.Padding.{opened_of, padded_of, next_of, unfit_of};
+ghost use Rattle.lexicon.proofs.Paddings.{next_state_of, opened as opened_of, pad as pad_of};
+ghost use Rattle.number.specs.Padding.{code_of, next_of, unfit_of, Unpadded};
 
 use crate::tally::Tally;
 use text::digit::sextet;
@@ -22,7 +23,7 @@ pub enum Padding {
 
 // Behind the first `=`, by the value of the character before it: each `=` leaves two of its bits over, and they must be zero.
 fn opened(value: u32) -> Padding
-    ensures { result ≡ opened_of value }
+    ensures { code_of result ≡ opened_of value }
 {
     if value % 16 == 0 {
         return Padding::OneMore;
@@ -36,7 +37,7 @@ fn opened(value: u32) -> Padding
 impl Padding {
     // The state behind a `=` more; at the start it is as behind a character of value 0.
     fn padded(self) -> Padding
-        ensures { result ≡ padded_of self }
+        ensures { code_of result ≡ pad_of (code_of self) }
     {
         match self {
             Padding::Start => Padding::OneMore,
@@ -48,7 +49,7 @@ impl Padding {
 
     // The state behind a character more.
     fn next(self, b: u8) -> Padding
-        ensures { result ≡ next_of self b }
+        ensures { code_of result ≡ next_state_of (code_of self) b }
     {
         if b == b'=' {
             return self.padded();
@@ -67,12 +68,28 @@ impl Padding {
     }
 }
 
+// How many characters stand before the first `=`.
+fn unpadded(digits: &[u8]) -> usize
+    ensures { Unpadded digits.now result }
+{
+    let mut n = 0;
+    while n < digits.len() {
+        if digits[n] == b'=' {
+            return n;
+        }
+        n += 1;
+    }
+    n
+}
+
 impl Tally for Padding {
     ghost more = { next_of };
 
+    // Of the characters before the first `=` the last alone counts: the others are passed over, which costs less than a state for each.
     fn with(self, digits: &[u8]) -> Padding {
+        let rest = &digits[unpadded(digits).saturating_sub(1)..];
         let mut state = self;
-        for b in digits {
+        for b in rest {
             state = state.next(*b);
         }
         state

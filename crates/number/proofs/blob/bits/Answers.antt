@@ -1,7 +1,7 @@
 -- `number::blob::bits` meets its contract. Assumes nothing.
 use native.Mathlib.Omega.{arith}
 use Rattle.number.specs.Groups.{OfDigits}
-use Rattle.number.proofs.Blobs.{mark_within, one_third, bits_binary, bits_octal, bits_hexadecimal, bits_none}
+use Rattle.number.proofs.Blobs.{one_third, bits_binary, bits_octal, bits_hexadecimal, bits_none}
 use Rattle.number.proofs.blob.bits.Goals as goal
 
 pub returns-in_err-third : goal.returns-in_err-third

@@ -1,7 +1,7 @@
 -- `number::blob::blob` meets its contract. Assumes nothing.
 use native.Mathlib.Omega.{arith}
 use Rattle.number.specs.Groups.{OfDigits}
-use Rattle.number.proofs.Blobs.{mark_within, one_third, blob_binary, blob_hexadecimal, blob_base64, blob_none}
+use Rattle.number.proofs.Blobs.{one_third, blob_binary, blob_hexadecimal, blob_base64, blob_none}
 use Rattle.number.proofs.blob.blob.Goals as goal
 
 pub returns-in_err-third : goal.returns-in_err-third

@@ -6,4 +6,4 @@ use Rattle.number.specs.Padding.{next_of}
 use Rattle.number.proofs.padding.PaddingTally.with.Given as goal
 
 abbrev pub invariant-loop-b : goal.invariant-loop-b
-invariant-loop-b l = l.state ≡ foldl next_of l.fn.self (take l.b-index l.digits)
+invariant-loop-b l = l.state ≡ foldl next_of l.fn.self (take l.b-index l.rest)
