@@ -1,2 +1,3 @@
 -- The laws of words.
 pub mod Words
+pub mod Spells

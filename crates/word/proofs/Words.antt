@@ -6,7 +6,6 @@ use Rattle.std.proofs.Common.{Option, Some, None, Bor, map, refl}
 use Rattle.std.specs.List.{AllWithin, All}
 use Rattle.std.proofs.lemmas.List.{get_or-map, length-map}
 use Rattle.std.proofs.lemmas.List.Elements.{All-map, All-from_all_within, AllWithin-more}
-use Rattle.std.specs.Option.{option_eq}
 use Rattle.std.specs.List.{slice_range}
 use Rattle.std.specs.Slice.{IsItemAt, IsGetRangeResult}
 use Rattle.std.specs.Cmp.Lexicographic.{pointwise}
@@ -18,13 +17,13 @@ use lib.Dec.{eqb}
 use mathlib.Core.List.{List, [], ◌∷◌}
 use Prim.Native.Nat.{ℕ, zero, suc, ◌+◌, ◌-◌, ◌≤◌, ◌<◌}
 use native.Mathlib.Omega.{arith}
-use borrow.Author.Tests.{eqb-true, eq-eqb}
 use lib.ListN.{length, get_or}
 use Rattle.rules.specs.Test.{Says}
-use Rattle.rules.specs.Class.{has, just, codes}
+use Rattle.rules.specs.Class.{Class, has, just, codes, ◌to◌}
 use Rattle.rules.specs.Rule.{Rule, one, many, row, lit, Takes, nothing, byte, both, At, Longest, Fails}
 use Rattle.rules.proofs.Bools.{clash}
-use Rattle.rules.proofs.Classes.{is_just, just_is}
+use Rattle.rules.proofs.Classes.{is_just, just_is, includes, in_some, low_in, in_high}
+use Rattle.rules.proofs.Ways.{opens, opens_at}
 use Rattle.rules.proofs.Matches.{starting, one_at, row_end, inside}
 use Rattle.lexicon.specs.declared.Set.TheVariants.{WordStart}
 use Rattle.text.specs.Classes.{IsTable, in_sum}
@@ -34,7 +33,6 @@ use Rattle.lexicon.specs.declared.Head.TheVariants.{Array, Set, Bag, Mix, Interv
 use Rattle.lexicon.specs.Bytes.{word_start, word_rest}
 use Rattle.lexicon.specs.Literals.{word}
 use Rattle.lexicon.specs.Token.{head_word}
-use Rattle.rules.proofs.Tests.{says_no}
 
 -- ---- words
 
@@ -128,18 +126,6 @@ module _ {text : List ℕ} {i j : ℕ} {r : Option (Bor (List ℕ))} (p : IsGetR
         holds_true = λ t. d.1 (q.0.2 ∙ is_part w q.0.1 t);
       }
 
-module _ {text : List ℕ} {i j : ℕ} where
-  pub spells_none : (w : List ℕ) → length w ≡ 0 → Says (eqb i j) (Takes text (row w) i j)
-  spells_none [] h = record { true_holds = λ e. nothing (eqb-true i j e); holds_true = λ t. eq-eqb i j (gone t) }
-    where
-      gone : Takes text (row []) i j → i ≡ j
-      gone (nothing e) = e
-  spells_none (b ∷ w) h = absurd (omega arith)
-
-  pub spells_part : (w : Bor (List ℕ)) (r : Option (Bor (List ℕ))) (o : Bool) → 0 < length w.now → IsGetRangeResult text i j r → o ≡ option_eq (λ x y. pointwise eqb x.now y.now) r (Some w) → Says o (Takes text (row w.now) i j)
-  spells_part w None o h p e = subst⁻¹ (λ (b : Bool). Says b (Takes text (row w.now) i j)) e (says_no (λ t. ⊎_elim (λ back. omega (arith, row_end w.now t)) (λ over. omega (arith, row_inside w.now h t)) p.0))
-  spells_part w (Some x) o h p e = part_says p x w.now refl e
-
 module _ {text : List ℕ} {i j : ℕ} {r : Option (Bor (List ℕ))} (p : IsGetRangeResult text i j r) where
   -- with no such part no head word stands there
   pub no_part : r ≡ None → (h : Head) → Takes text (lit (head_word h)) i j → ⊥
@@ -152,6 +138,31 @@ module _ {text : List ℕ} {i j : ℕ} {r : Option (Bor (List ℕ))} (p : IsGetR
       long h = omega arith
 
 -- ---- head words
+
+abbrev capital : Class
+capital = "A" to "Z" ∷ []
+
+head_opens : (h : Head) → opens capital (lit (head_word h)) ≡ true
+unfolding opens includes in_some
+head_opens Array = refl
+head_opens Set = refl
+head_opens Bag = refl
+head_opens Mix = refl
+head_opens IntervalSet = refl
+head_opens IntervalBag = refl
+head_opens TupleArray = refl
+head_opens Relation = refl
+head_opens TupleBag = refl
+head_opens Article = refl
+head_opens Excuse = refl
+head_opens Heading = refl
+head_opens Renaming = refl
+
+-- a head word begins with a capital letter
+pub no_capital : {text : List ℕ} {i j : ℕ} → (i < length text → 0x41 ≤ get_or text i 0 → get_or text i 0 ≤ 0x5A → ⊥) → (h : Head) → Takes text (lit (head_word h)) i j → ⊥
+no_capital {text} {i} f h t =
+    let a = opens_at text capital (lit (head_word h)) (head_opens h) t in
+    f a.0 (low_in 0x41 0x5A (get_or text i 0) a.1) (in_high 0x41 0x5A (get_or text i 0) a.1)
 
 -- each head word by its spelling, in the order of the table
 abbrev heads : List Head

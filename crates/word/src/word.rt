@@ -4,7 +4,7 @@ ghost use Rattle.lexicon.specs.Literals;
 ghost use Rattle.word.specs.Heads.{Tells};
 
 use lexicon::{Form, Head, Set};
-use text::class::{classes, holds};
+use text::class::{Members, classes, holds};
 use text::run::run;
 
 // Where the word at the place ends.
@@ -16,7 +16,11 @@ pub fn word(text: &[u8], at: usize) -> Option<usize>
     if !holds(classes[first as usize], Set::WordStart) {
         return None;
     }
-    Some(run(text, at + 1, |b| holds(classes[b as usize], Set::WordRest)))
+    let rest = Members {
+        classes: &classes,
+        set: Set::WordRest,
+    };
+    Some(run(text, at + 1, &rest))
 }
 
 // The head words, each by its spelling. A comparison looks at the length first, so the order matters little: with `Excuse` last, a
@@ -41,6 +45,10 @@ const HEADS: [(&[u8], Head); 13] = [
 pub fn form(text: &[u8], at: usize, end: usize) -> Form
     ensures { Tells text.now at end result }
 {
+    // Each head word begins with a capital letter, and most words don't: these need no look at the table.
+    let Some(b'A'..=b'Z') = text.get(at) else {
+        return Form::Word;
+    };
     let Some(word) = text.get(at..end) else {
         return Form::Word;
     };

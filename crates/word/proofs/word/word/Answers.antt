@@ -1,8 +1,4 @@
 -- `word::word::word` meets its contract: the first byte, and the run of those that go on with the word. Assumes nothing.
-use Rattle.std.proofs.Common.{rules}
-use Rattle.lexicon.specs.Bytes.{word_rest}
-use Rattle.lexicon.specs.declared.Set.TheVariants.{WordRest}
-use Rattle.text.proofs.Sets.{in_table}
 use Rattle.word.proofs.Words.{word_other, word_on}
 use Rattle.word.proofs.word.word.Goals as goal
 
@@ -11,5 +7,5 @@ returns-then-not-holds c = word_other c.args.text.now c.classes-classes.result c
 
 pub returns : goal.returns
 returns c =
-    let rest = c.run.ensures word_rest record { told = λ b o h a. in_table WordRest c.classes-classes.ensures h (search rules) } in
+    let rest = c.run.ensures in
     word_on c.args.text.now c.classes-classes.result c.args.at c.classes-classes.ensures c.in_ok-first.field-0 c.in_ok-first.ensures.lookup (λ k. (c.type_inv.text k).fits) c.holds.ensures c.if-not-holds.false rest
