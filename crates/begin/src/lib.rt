@@ -34,6 +34,7 @@ pub enum Begin {
 }
 
 // A refusal at the token t.
+#[inline(always)]
 fn refused(refusal: Refusal, t: Token) -> Result<Begin, Refused>
     ensures { result ≡ Err (refused_at refusal t) }
 {
@@ -45,6 +46,7 @@ fn refused(refusal: Refusal, t: Token) -> Result<Begin, Refused>
 
 impl Reader<'_> {
     // One bracket more, if there may be one.
+    #[inline(always)]
     fn deeper(self, t: Token, depth: usize, begun: Begin) -> Result<Begin, Refused>
         ensures { Deeper self.entry.limits depth t begun result }
     {
@@ -55,6 +57,7 @@ impl Reader<'_> {
     }
 
     // A head, if the level has it.
+    #[inline(always)]
     fn head_open(self, t: Token, depth: usize, head: Head, end: usize) -> Result<Begin, Refused>
         ensures { t.kind ≡ Kind.Symbol Sign.RoundOpen → HeadHere self.entry.text.now t.end head end → Begins self.entry.text.now self.entry.limits self.entry.forms depth t result }
     {
@@ -71,6 +74,7 @@ impl Reader<'_> {
         )
     }
 
+    #[inline(always)]
     fn round_open(self, t: Token, depth: usize) -> Result<Begin, Refused>
         ensures { t.kind ≡ Kind.Symbol Sign.RoundOpen → Begins self.entry.text.now self.entry.limits self.entry.forms depth t result }
     {
@@ -80,6 +84,7 @@ impl Reader<'_> {
         }
     }
 
+    #[inline(always)]
     fn square_open(self, t: Token, depth: usize) -> Result<Begin, Refused>
         ensures { t.kind ≡ Kind.Symbol Sign.SquareOpen → Begins self.entry.text.now self.entry.limits self.entry.forms depth t result }
     {
@@ -96,6 +101,7 @@ impl Reader<'_> {
         )
     }
 
+    #[inline(always)]
     fn curly_open(self, t: Token, depth: usize) -> Result<Begin, Refused>
         ensures { t.kind ≡ Kind.Symbol Sign.CurlyOpen → Begins self.entry.text.now self.entry.limits self.entry.forms depth t result }
     {

@@ -1,5 +1,5 @@
 -- The token that the first byte tells. Assumes nothing.
-use mathlib.Core.Path.{◌≡◌, refl, sym, subst, subst⁻¹, ◌∙◌}
+use mathlib.Core.Path.{◌≡◌, refl, sym, subst⁻¹}
 use mathlib.Core.Logic.{◌⊎◌, inl, inr, ⊎_elim}
 use mathlib.Core.Bool.{Bool, true, false, ◌||◌, false≢true}
 use mathlib.Core.List.{List, [], ◌∷◌}
@@ -7,6 +7,7 @@ use Prim.Native.Nat.{ℕ, ◌+◌, ◌≤◌, ◌<◌}
 use native.Mathlib.Nat.{le_of_lt}
 use native.Mathlib.Omega.{arith}
 use lib.ListN.{length, get_or}
+use Rattle.std.specs.Prelude.{Some}
 use Rattle.rules.specs.Test.{Says}
 use Rattle.rules.specs.Class.{Class, In, has, just, codes, ◌to◌}
 use Prim.Native.String.{String}
@@ -18,7 +19,6 @@ use Rattle.rules.proofs.Tests.{says_no}
 use Rattle.rules.proofs.Ways.{never, covers, opens, opens_at}
 use Rattle.lexicon.specs.declared.Form.{Form}
 use Rattle.lexicon.specs.declared.Form.TheVariants.{Quoted, Word, HeadWord, CodePoint}
-use Rattle.lexicon.specs.declared.Kind.{Kind}
 use Rattle.lexicon.specs.declared.Kind.TheVariants.{Ignorance, Boolean, Integer, Fraction, Bits, Blob, Text, Later, Symbol}
 use Rattle.lexicon.specs.declared.Sign.{Sign}
 use Rattle.lexicon.specs.declared.Sign.TheVariants.{ArrowRight}
@@ -31,7 +31,8 @@ use Rattle.lexicon.proofs.Tokens.{every, for_every, begins, begins_with, outreac
 use Rattle.lexicon.proofs.Unique.{integer_below}
 use Rattle.word.specs.Heads.{Tells}
 use Rattle.lexicon.specs.declared.Next.{Next}
-use Rattle.token.specs.Answers.{NoSymbol, NoneAt, TokenAt, NumberOnly, Marked, NotOpening}
+use Rattle.lexicon.specs.declared.Token as Token
+use Rattle.token.specs.Answers.{NoSymbol, NoneAt, TokenAt, StartsAt, NumberOnly, Marked, NotOpening}
 use Rattle.token.proofs.Symbols.{taken_as}
 use Rattle.token.proofs.Starts.{nothing_starts}
 
@@ -323,8 +324,9 @@ module _ (text : List ℕ) where
           (or_cases (opens opening (rule m)) (symbolic m) (for_every (λ m. opens opening (rule m) || symbolic m) literals_open m))
 
   -- a token at its first byte is the one that comes next
-  pub comes_token : {at i j : ℕ} {k : Kind} {b : Bool} → Skips text at i → i < length text → TokenAt text k i j b → Comes text at (Next.Token (record { kind = k; first = i; end = j; bad = b }))
-  comes_token s h w = (s, h, w.is, w.bad_is)
+  pub comes_token : {at i : ℕ} (t : Token.Token) → Skips text at i → i < length text → StartsAt text i (Some t) → Comes text at (Next.Token t)
+  comes_token {at} t s h (e, w) =
+      (subst⁻¹ (Skips text at) e s, subst⁻¹ (λ (x : ℕ). x < length text) e h, subst⁻¹ (λ (x : ℕ). Is text t.kind x t.end) e w.is, subst⁻¹ (λ (x : ℕ). Says t.bad (Bad text t.kind x t.end)) e w.bad_is)
 
   pub comes_none : {at i : ℕ} → Skips text at i → i < length text → NoneAt text i → Comes text at (Next.NoToken i)
   comes_none s h w = (s, h, w.none)

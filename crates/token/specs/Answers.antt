@@ -5,7 +5,7 @@ use Rattle.rules.specs.Class.{has, just, byte_of}
 use Rattle.rules.specs.Rule.{At, Takes, Fails}
 use Rattle.lexicon.specs.declared.Sign.{Sign}
 use Rattle.lexicon.specs.declared.Kind.{Kind}
-use Rattle.lexicon.specs.declared.Literal.{Literal}
+use Rattle.lexicon.specs.declared.Token as Token
 use Rattle.lexicon.specs.Symbols.{symbol}
 use Rattle.lexicon.specs.Bytes.{word_start, decimal}
 use Rattle.lexicon.specs.Literals.{ignorance, boolean, later}
@@ -30,8 +30,8 @@ pub record TokenAt (text : List ℕ) (k : Kind) (i j : ℕ) (b : Bool) : Type 0 
   pub bad_is : Says b (Bad text k i j)
 
 -- the token that starts at i, or that none does
-abbrev pub StartsAt : List ℕ → ℕ → Option (Kind × Literal) → Type 0
-StartsAt text i (Some t) = TokenAt text t.0 i t.1.end t.1.bad
+abbrev pub StartsAt : List ℕ → ℕ → Option Token.Token → Type 0
+StartsAt text i (Some t) = (t.first ≡ i) × TokenAt text t.kind i t.end t.bad
 StartsAt text i None = NoneAt text i
 
 -- no lexeme but an Integer or a Fraction stands at i

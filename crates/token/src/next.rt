@@ -9,17 +9,22 @@ ghost use Rattle.token.specs.Answers.{StartsAt, NotOpening};
 use crate::literal::{number_token, quoted_token, word_token};
 use crate::symbol::{Symbol, colons, symbol_at};
 use crate::zero::zero;
-use lexicon::{Kind, Literal, Next, Set, Token};
+use lexicon::{Kind, Next, Set, Token};
 use space::space;
 use text::class::{class, holds};
 
 // A symbol, or a number with a minus sign.
-fn punctuation(text: &[u8], at: usize) -> Option<(Kind, Literal)>
+fn punctuation(text: &[u8], at: usize) -> Option<Token>
     requires { (at < length text.now) × NotOpening text.now at }
     ensures { StartsAt text.now at result }
 {
     if let Some(Symbol { sign, end }) = symbol_at(text, at) {
-        return Some((Kind::Symbol(sign), Literal { end, bad: false }));
+        return Some(Token {
+            kind: Kind::Symbol(sign),
+            first: at,
+            end,
+            bad: false,
+        });
     }
     if text[at] == b'-' {
         return number_token(text, at);
@@ -28,7 +33,7 @@ fn punctuation(text: &[u8], at: usize) -> Option<(Kind, Literal)>
 }
 
 // The token that starts at a byte, told by that byte.
-fn starting(text: &[u8], at: usize) -> Option<(Kind, Literal)>
+fn starting(text: &[u8], at: usize) -> Option<Token>
     requires { at < length text.now }
     ensures { StartsAt text.now at result }
 {
@@ -64,12 +69,7 @@ pub fn next(text: &[u8], at: usize) -> Next
         return Next::End(text.len());
     }
     match starting(text, first) {
-        Some((kind, Literal { end, bad })) => Next::Token(Token {
-            kind,
-            first,
-            end,
-            bad,
-        }),
+        Some(t) => Next::Token(t),
         None => Next::NoToken(first),
     }
 }

@@ -7,7 +7,7 @@ ghost use Rattle.lexicon.specs.Symbols.{side};
 ghost use Rattle.lexicon.specs.Token.{a_symbol, Here};
 ghost use Rattle.token.specs.Answers.{Symboled, StartsAt};
 
-use lexicon::{Bound, Kind, Literal, Sign};
+use lexicon::{Bound, Kind, Sign, Token};
 use text::byte::stands;
 
 // A symbol and the place behind it.
@@ -84,18 +84,26 @@ pub(crate) fn symbol_at(text: &[u8], at: usize) -> Option<Symbol>
 }
 
 // The token at a run of colons: one or three begin with `:`, two are `::`, more start none.
-pub(crate) fn colons(text: &[u8], at: usize) -> Option<(Kind, Literal)>
+pub(crate) fn colons(text: &[u8], at: usize) -> Option<Token>
     requires { At text.now (just 0x3A) at }
     ensures { StartsAt text.now at result }
 {
-    let end = at + 1;
-    let colon = Some((Kind::Colon, Literal { end, bad: false }));
+    let colon = Some(Token {
+        kind: Kind::Colon,
+        first: at,
+        end: at + 1,
+        bad: false,
+    });
     if !stands(text, at + 1, b':') {
         return colon;
     }
     if !stands(text, at + 2, b':') {
-        let end = at + 2;
-        return Some((Kind::TwoColons, Literal { end, bad: false }));
+        return Some(Token {
+            kind: Kind::TwoColons,
+            first: at,
+            end: at + 2,
+            bad: false,
+        });
     }
     if !stands(text, at + 3, b':') {
         return colon;

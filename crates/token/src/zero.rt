@@ -5,7 +5,7 @@ ghost use Rattle.rules.specs.Rule.{At};
 ghost use Rattle.token.specs.Answers.{StartsAt, FixedAt, Marked};
 
 use crate::literal::number_token;
-use lexicon::{Form, Kind, Literal};
+use lexicon::{Form, Kind, Literal, Token};
 use number::blob::{bits, blob};
 use string::code_point::code_point;
 use word::spelling::spells;
@@ -35,29 +35,49 @@ fn fixed_at(text: &[u8], at: usize) -> Option<(Kind, usize)>
 }
 
 // Bits, a Blob, a code point or a number.
-fn marked(text: &[u8], at: usize) -> Option<(Kind, Literal)>
+fn marked(text: &[u8], at: usize) -> Option<Token>
     requires { At text.now (just 0x30) at × Marked text.now at }
     ensures { StartsAt text.now at result }
 {
     if let Some(end) = bits(text, at) {
-        return Some((Kind::Bits, Literal { end, bad: false }));
+        return Some(Token {
+            kind: Kind::Bits,
+            first: at,
+            end,
+            bad: false,
+        });
     }
-    if let Some(literal) = blob(text, at) {
-        return Some((Kind::Blob, literal));
+    if let Some(Literal { end, bad }) = blob(text, at) {
+        return Some(Token {
+            kind: Kind::Blob,
+            first: at,
+            end,
+            bad,
+        });
     }
-    if let Some(literal) = code_point(text, at) {
-        return Some((Kind::Text(Form::CodePoint), literal));
+    if let Some(Literal { end, bad }) = code_point(text, at) {
+        return Some(Token {
+            kind: Kind::Text(Form::CodePoint),
+            first: at,
+            end,
+            bad,
+        });
     }
     number_token(text, at)
 }
 
 // The token at a digit 0.
-pub(crate) fn zero(text: &[u8], at: usize) -> Option<(Kind, Literal)>
+pub(crate) fn zero(text: &[u8], at: usize) -> Option<Token>
     requires { At text.now (just 0x30) at }
     ensures { StartsAt text.now at result }
 {
     match fixed_at(text, at) {
-        Some((kind, end)) => Some((kind, Literal { end, bad: false })),
+        Some((kind, end)) => Some(Token {
+            kind,
+            first: at,
+            end,
+            bad: false,
+        }),
         None => marked(text, at),
     }
 }
