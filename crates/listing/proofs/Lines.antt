@@ -22,11 +22,11 @@ use Rattle.listing.specs.Written.{Listed}
 use Rattle.listing.proofs.Digits.{decimal_short}
 
 word_short : (n : ℕ) → n < 2 ^ 32 → length (decimal n) ≤ 10
-word_short n h = decimal_short 10 n (omega arith) (omega arith) (omega arith)
+word_short n h = decimal_short 9 n (omega arith)
 
 head_short : (a b m n : ℕ) → m < 2 ^ 64 → n < 2 ^ 64 → length (head_line a b m n) ≤ 45
 head_short a b m n hm hn =
-    simp length-append (omega (arith, decimal_short 20 m (omega arith) (omega arith) hm, decimal_short 20 n (omega arith) (omega arith) hn))
+    simp length-append (omega (arith, decimal_short 19 m (omega arith), decimal_short 19 n (omega arith)))
 
 -- so many words behind a node's first, each behind one space
 unfoldable pub cells : (ℕ → ℕ) → ℕ → List ℕ

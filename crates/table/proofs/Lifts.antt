@@ -3,10 +3,10 @@ use mathlib.Core.Path.{◌≡◌, refl, sym, ap, ap₂, ◌∙◌}
 use mathlib.Core.List.{List, [], ◌∷◌, ◌++◌}
 use Prim.Native.Nat.{ℕ, zero, suc, ◌+◌, ◌-◌, ◌*◌, ◌≤◌, ◌<◌}
 use native.Mathlib.Omega.{arith}
-use lib.ListN.{length, take, drop, set, get_or}
+use lib.ListN.{length, take, drop, set}
 use Rattle.std.specs.List.{copy_within}
 use Rattle.rules.specs.Over.{over}
-use Rattle.rules.proofs.Over.{over_length, over_nothing, over_append, over_swap, over_before, over_at, over_set}
+use Rattle.rules.proofs.Over.{over_length, over_nothing, over_append, over_swap, over_before, over_set}
 use Rattle.grammar.specs.Nodes.{node_words, parent_word, role_word, skip_word, word_at}
 use Rattle.table.proofs.Stores.{words_at, over_between}
 use Rattle.table.specs.Over.{capped, under, lifted, raised, Raised}
@@ -14,7 +14,7 @@ use Rattle.table.specs.Over.{capped, under, lifted, raised, Raised}
 -- a copy, and the two words that are changed in it
 pub copied : {t' : List ℕ} (t : List ℕ) (i p q : ℕ) → (i + 2) * node_words ≤ length t →
     t' ≡ copy_within t (i * node_words) (i * node_words + node_words) (i * node_words + node_words) →
-    q ≡ capped (get_or (set t' (i * node_words + node_words + parent_word) p) (i * node_words + node_words + skip_word) 0 + 1) →
+    q ≡ capped (word_at t i skip_word + 1) →
     set (set t' (i * node_words + node_words + parent_word) p) (i * node_words + node_words + skip_word) q ≡ over t ((i + 1) * node_words) (under t i p)
 copied {t'} t i p q h e g =
     let k = i * node_words + node_words in
@@ -28,10 +28,7 @@ copied {t'} t i p q h e g =
     ∙ over_between t k (k + 7) ws refl (omega (arith, h)) in
     let first : set t' (k + parent_word) p ≡ over t k vs =
     ap (λ (l : List ℕ). set l (k + parent_word) p) whole ∙ over_set t k (k + parent_word) parent_word p ws refl (omega arith) in
-    let more : q ≡ capped (word_at t i skip_word + 1) =
-    g ∙ ap (λ (l : List ℕ). capped (get_or l (k + skip_word) 0 + 1)) first
-    ∙ ap (λ (n : ℕ). capped (n + 1)) (over_at t k (k + skip_word) skip_word vs refl (omega arith) (omega (arith, h))) in
-    ap₂ (λ (l : List ℕ) (n : ℕ). set l (k + skip_word) n) first more
+    ap₂ (λ (l : List ℕ) (n : ℕ). set l (k + skip_word) n) first g
     ∙ over_set t k (k + skip_word) skip_word _ vs refl (omega arith)
     ∙ ap (λ (n : ℕ). over t n (under t i p)) (omega arith)
 

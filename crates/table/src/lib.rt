@@ -97,9 +97,10 @@ fn lift(table: &mut [u32], index: usize, parent: u32)
 {
     let at = index * NODE_WORDS;
     let to = at + NODE_WORDS;
+    let skip = next(table[at + SKIP]);
     table.copy_within(at..to, to);
     table[to + PARENT] = parent;
-    table[to + SKIP] = next(table[to + SKIP]);
+    table[to + SKIP] = skip;
 }
 
 // Moves so many nodes, the first at the index, up by one, if they fit: each other's indices are one more, and the first's parent is what

@@ -3,4 +3,4 @@ use Rattle.table.proofs.Lifts.{copied}
 use Rattle.table.proofs.lift.Goals as goal
 
 pub returns : goal.returns
-returns c = copied _ _ _ _ c.requires c.copy_within.ensures.after c.next.ensures
+returns c = copied _ _ _ _ c.requires c.copy_within.ensures.after c.next-skip.ensures
