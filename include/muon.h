@@ -71,15 +71,15 @@ extern "C" {
 
 /* The stack that a call needs at most, in bytes, whatever the input; muon_file_write, muon_file_check, muon_plain and muon_convert have
    another number.
-   Behind it: the frames of muon_read times the open brackets that there may be come to 27,568 bytes in the archive as built today, those of
-   muon_integer to 520, of muon_text to 1,072, of muon_blob and of muon_bits to 696 each, of muon_utf8 to 216 and of muon_line_column to 232;
-   the most that was measured, over the deepest texts and the longest ways through a literal, is 27,232, 520, 1,072, 696, 696, 72 and 72
+   Behind it: the frames of muon_read times the open brackets that there may be come to 26,968 bytes in the archive as built today, those of
+   muon_integer to 536, of muon_text to 752, of muon_blob to 552, of muon_bits to 456, of muon_utf8 to 216 and of muon_line_column to 232;
+   the most that was measured, over the deepest texts and the longest ways through a literal, is 26,648, 536, 752, 552, 456, 72 and 72
    (tests/stack prints them and fails if one exceeds the number here).
    No call takes memory from anywhere else. */
 #define MUON_STACK_MAX 32768
 /* The stack that muon_file_write, muon_file_check, muon_plain and muon_convert need at most, since each reads the text into a table on its
-   stack. By the frames it comes to 56,304 bytes at most; 55,936 were measured for either call of stored files, 55,984 for muon_plain and
-   55,968 for muon_convert (tests/stack, too). */
+   stack. By the frames it comes to 55,704 bytes at most; 55,352 were measured for either call of stored files, 55,400 for muon_plain and
+   55,368 for muon_convert (tests/stack, too). */
 #define MUON_FILE_STACK_MAX (MUON_STACK_MAX + 4 * MUON_TABLE_MAX)
 
 /* ---- The answer ------------------------------------------------------------------------------------------------------------- */
