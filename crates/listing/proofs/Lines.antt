@@ -78,9 +78,10 @@ module _ (t : List ℕ) where
   unfolding node_lines
   nodes_none a = a
 
-  pub nodes_more : {u v w : Writer} (n : ℕ) → Appends u (node_lines t n) v → Appends v (node_line (λ k. word_at t n k)) w →
+  pub nodes_more : {u v w : Writer} (n : ℕ) {m : ℕ} → Appends u (node_lines t n) v → Appends v (node_line (λ k. word_at t m k)) w → m ≡ n →
       Appends u (node_lines t (n + 1)) w
-  nodes_more n a b = appends_same (sym (nodes_next n)) (appends_then a b)
+  nodes_more {v = v} {w = w} n a b e =
+      appends_same (sym (nodes_next n)) (appends_then a (subst (λ (m : ℕ). Appends v (node_line (λ k. word_at t m k)) w) e b))
 
   pub nodes_short : ((k : ℕ) → get_or t k 0 < 2 ^ 32) → (n : ℕ) → length (node_lines t n) ≤ longest_line * n
   unfolding node_lines
