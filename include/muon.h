@@ -78,8 +78,8 @@ extern "C" {
    No call takes memory from anywhere else. */
 #define MUON_STACK_MAX 32768
 /* The stack that muon_file_write, muon_file_check, muon_plain and muon_convert need at most, since each reads the text into a table on its
-   stack. By the frames it comes to 55,704 bytes at most; 55,352 were measured for either call of stored files, 55,400 for muon_plain and
-   55,368 for muon_convert (tests/stack, too). */
+   stack. By the frames it comes to 55,704 bytes at most; 55,352 and 55,336 were measured for the two calls of stored files, 55,400 for
+   muon_plain and 55,368 for muon_convert (tests/stack, too). */
 #define MUON_FILE_STACK_MAX (MUON_STACK_MAX + 4 * MUON_TABLE_MAX)
 
 /* ---- The answer ------------------------------------------------------------------------------------------------------------- */
