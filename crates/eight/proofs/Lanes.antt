@@ -114,11 +114,11 @@ together_none (result o x y) = ap₂ (of o) (together_none x) (together_none y) 
 
 -- ---- comparisons
 
-abbrev same : Bool → Bool → Bool
+abbrev pub same : Bool → Bool → Bool
 same true b = b
 same false b = not b
 
-same_equal : (a b : Bool) → same a b ≡ true → a ≡ b
+pub same_equal : (a b : Bool) → same a b ≡ true → a ≡ b
 same_equal true b e = sym e
 same_equal false true e = e
 same_equal false false e = refl

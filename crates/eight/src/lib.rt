@@ -2,6 +2,10 @@
 // of each byte, since no sum of a byte reaches the next, and the answer stands in the bytes' high bits.
 #![tactic(auto)]
 
+pub mod run;
+#[cfg(test)]
+mod tests;
+
 ghost use Rattle.std.specs.Prelude.{◌+◌, ◌<◌, length, MatchOption};
 ghost use Rattle.rules.specs.Test.{Says};
 ghost use Rattle.rules.specs.Rule.{Takes};
